@@ -1,0 +1,49 @@
+-- The first fault of a list of checks, in reading order.
+use Rattle.std.specs.Prelude.{◌≡◌, ◌⊎◌, ℕ, List, [], ◌∷◌, Bool, true, false, Result, Ok, Err}
+use Rattle.gate_rule.specs.declared.pattern.Pattern.{Pattern}
+use Rattle.gate_rule.specs.Pattern.{text_of}
+use Rattle.gate_config.specs.declared.fault.ConfigFault.{ConfigFault}
+use Rattle.gate_config.specs.declared.fault.ConfigFault.TheVariants as fault
+
+-- what a document is checked for
+pub data Check : Type 0 where
+  -- a test, and the fault where it doesn't hold
+  Asks : (holds : Bool) → (fault : ConfigFault) → Check
+  -- a text that is built as a pattern, and its place
+  Builds : (text place : List ℕ) → Check
+
+-- the test holds; the text was built as a pattern
+abbrev pub Passes : Check → Type 0
+Passes (Asks holds fault) = holds ≡ true
+Passes (Builds text place) = (pattern : Pattern) × (text_of pattern ≡ text)
+
+-- This is the fault of a test that doesn't hold. Which texts `regex` refuses no definition says, so a refusal may
+-- stand at any pattern text.
+abbrev pub Fails : Check → ConfigFault → Type 0
+Fails (Asks holds fault) found = (holds ≡ false) × (found ≡ fault)
+Fails (Builds text place) found = found ≡ fault.Pattern place
+
+abbrev pub AllPass : List Check → Type 0
+AllPass [] = Unit {0}
+AllPass (check ∷ checks) = Passes check × AllPass checks
+
+-- each check before the one that fails with this fault passes
+abbrev pub IsFirstFault : List Check → ConfigFault → Type 0
+IsFirstFault [] found = ⊥
+IsFirstFault (check ∷ checks) found = Fails check found ⊎ (Passes check × IsFirstFault checks found)
+
+-- Memory may be refused at whichever point; each other fault is the first.
+abbrev pub IsFaultOf : List Check → ConfigFault → Type 0
+IsFaultOf checks fault.Memory = Unit {0}
+IsFaultOf checks fault.NotJson = IsFirstFault checks fault.NotJson
+IsFaultOf checks (fault.Shape place) = IsFirstFault checks (fault.Shape place)
+IsFaultOf checks (fault.Limit place) = IsFirstFault checks (fault.Limit place)
+IsFaultOf checks (fault.Manager place) = IsFirstFault checks (fault.Manager place)
+IsFaultOf checks (fault.Attribute place) = IsFirstFault checks (fault.Attribute place)
+IsFaultOf checks (fault.Pattern place) = IsFirstFault checks (fault.Pattern place)
+IsFaultOf checks (fault.Repeated place) = IsFirstFault checks (fault.Repeated place)
+
+-- A reader of a part with these checks: what it gives has P where all pass, else it answers their first fault.
+abbrev pub Reads : {T : Type 0} → List Check → (T → Type 0) → Result T ConfigFault → Type 0
+Reads checks P (Ok value) = AllPass checks × P value
+Reads checks P (Err found) = IsFaultOf checks found

@@ -1,0 +1,34 @@
+-- The look-ups of a configuration, by the numbers of connections, tenants and pipelines.
+use Rattle.std.specs.Prelude.{ℕ, List, [], Bool, Option, None, option_map, option_and_then, unwrap_or, is_some, slice_get}
+use Rattle.std.specs.List.{list_any}
+use Rattle.std.specs.Str.{bytes_eq}
+use Rattle.gate_rule.specs.declared.rule.Rule.{Rule}
+use Rattle.gate_config.specs.declared.config.Config.{Config}
+use Rattle.gate_config.specs.declared.config.TenantSpec.{TenantSpec}
+use Rattle.gate_config.specs.declared.config.PipelineSpec.{PipelineSpec}
+
+-- the names of the connections, by number
+abbrev pub connections_of : Config → List (List ℕ)
+connections_of config = config.connections
+
+abbrev pub tenants_of : Config → List TenantSpec
+tenants_of config = config.tenants
+
+abbrev pub pipelines_of : Config → ℕ → List PipelineSpec
+pipelines_of config t = unwrap_or (option_map (λ (tenant : TenantSpec). tenant.pipelines) (slice_get config.tenants t)) []
+
+-- the projects that the tenant lists under the connection, if it lists the connection
+abbrev pub projects_of : Config → ℕ → ℕ → Option (List (List ℕ))
+projects_of config t c = option_and_then (λ (tenant : TenantSpec). unwrap_or (slice_get tenant.sources c) None) (slice_get config.tenants t)
+
+-- the tenant lists the connection
+abbrev pub lists : Config → ℕ → ℕ → Bool
+lists config t c = is_some (projects_of config t c)
+
+-- the tenant lists the project under the connection, by the same name byte by byte
+abbrev pub belongs : Config → ℕ → ℕ → List ℕ → Bool
+belongs config t c project = list_any (λ name. bytes_eq name project) (unwrap_or (projects_of config t c) [])
+
+-- the rules by which the pipeline selects events of the connection
+abbrev pub rules_of : Config → ℕ → ℕ → ℕ → List Rule
+rules_of config t p c = unwrap_or (option_and_then (λ (pipeline : PipelineSpec). slice_get pipeline.rules c) (slice_get (pipelines_of config t) p)) []

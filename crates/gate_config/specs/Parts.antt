@@ -1,0 +1,61 @@
+-- Parts of a JSON value. Where a value is of another kind than asked for, it has no such parts.
+use Rattle.std.specs.Prelude.{ℕ, List, [], ◌∷◌, Bool, true, false, Option, Some, None, is_some, option_and_then, unwrap_or, option_map}
+use Rattle.std.specs.List.{filter_map}
+use Rattle.serde_json.specs.Data.{Data, null, boolean, number, string, array, object, Items, no_items, item, Members, no_members, member}
+use Rattle.serde_json.specs.Find.{get, as_str, as_array, as_object}
+
+abbrev pub is_object : Data → Bool
+is_object value = is_some (as_object value)
+
+abbrev pub is_list : Data → Bool
+is_list value = is_some (as_array value)
+
+abbrev pub is_text : Data → Bool
+is_text value = is_some (as_str value)
+
+-- there is a value, and it passes
+abbrev pub is_there : (Data → Bool) → Option Data → Bool
+is_there test None = false
+is_there test (Some value) = test value
+
+-- there is no value, or it passes
+abbrev pub is_fine : (Data → Bool) → Option Data → Bool
+is_fine test None = true
+is_fine test (Some value) = test value
+
+abbrev pub items_in : Items → List Data
+items_in no_items = []
+items_in (item value items) = value ∷ items_in items
+
+abbrev pub members_in : Members → List (List ℕ × Data)
+members_in no_members = []
+members_in (member key value members) = (key, value) ∷ members_in members
+
+-- the items of a list, in order
+abbrev pub items_of : Option Data → List Data
+items_of value = unwrap_or (option_map items_in (option_and_then as_array value)) []
+
+-- the members of an object, in byte order of their keys
+abbrev pub members_of : Option Data → List (List ℕ × Data)
+members_of value = unwrap_or (option_map members_in (option_and_then as_object value)) []
+
+-- null counts as absent
+abbrev pub unless_null : Data → Option Data
+unless_null null = None
+unless_null (boolean b) = Some (boolean b)
+unless_null (number n) = Some (number n)
+unless_null (string s) = Some (string s)
+unless_null (array values) = Some (array values)
+unless_null (object members) = Some (object members)
+
+-- an optional member
+abbrev pub optional : List ℕ → Data → Option Data
+optional key value = option_and_then unless_null (get key value)
+
+-- the text of a required member, once it was checked
+abbrev pub text_of_member : List ℕ → Data → List ℕ
+text_of_member key value = unwrap_or (option_and_then as_str (get key value)) []
+
+-- the texts among values
+abbrev pub texts_in : List Data → List (List ℕ)
+texts_in values = filter_map as_str values

@@ -1,0 +1,23 @@
+-- A configuration's texts: what of it a document can name.
+use Rattle.std.specs.Prelude.{◌≡◌, Some, map}
+use Rattle.serde_json.specs.Data.{Data}
+use Rattle.gate_rule.specs.declared.rule.Rule.{Rule}
+use Rattle.gate_rule.specs.Pattern.{text_of}
+use Rattle.gate_config.specs.declared.config.Config.{Config}
+use Rattle.gate_config.specs.declared.config.TenantSpec.{TenantSpec}
+use Rattle.gate_config.specs.declared.config.PipelineSpec.{PipelineSpec}
+use Rattle.gate_config.specs.Document.{RuleTexts, PipelineTexts, TenantTexts, connection_names, tenants_in}
+
+abbrev pub texts_of_rule : Rule → RuleTexts
+texts_of_rule rule = record { event = map text_of rule.event }
+
+abbrev pub texts_of_pipeline : PipelineSpec → PipelineTexts
+texts_of_pipeline pipeline = record { name = pipeline.name; manager = Some pipeline.manager; rules = map (map texts_of_rule) pipeline.rules }
+
+abbrev pub texts_of_tenant : TenantSpec → TenantTexts
+texts_of_tenant tenant = record { name = tenant.name; sources = tenant.sources; pipelines = map texts_of_pipeline tenant.pipelines }
+
+-- the configuration says what the document says
+pub record IsReadFrom (document : Data) (config : Config) : Type 0 where
+  pub connections : config.connections ≡ connection_names document
+  pub tenants : map texts_of_tenant config.tenants ≡ tenants_in document

@@ -1,0 +1,114 @@
+ghost use Rattle.std.specs.Prelude.{◌≡◌, ℕ, length, IsTrue};
+
+use gate_record::{ConnId, ManagerKind, PipelineId, Sequence, TenantId, Text};
+use gate_rule::Rule;
+
+/// A configuration. Connections are numbered in byte order of their names, tenants and pipelines in the order of the
+/// document. A number out of range has no projects, no pipelines and no rules.
+#[derive(Drop)]
+pub struct Config {
+    pub(crate) connections: Sequence<Text>,
+    pub(crate) tenants: Sequence<TenantSpec>,
+}
+
+/// A tenant of a configuration.
+#[derive(Drop)]
+pub struct TenantSpec {
+    /// The name, which no other tenant has.
+    pub name: Text,
+    /// By connection number: the projects that it lists there, or nothing where it doesn't list the connection.
+    pub(crate) sources: Sequence<Option<Sequence<Text>>>,
+    pub(crate) pipelines: Sequence<PipelineSpec>,
+}
+
+/// A pipeline of a tenant (Zuul's documentation, "Pipeline Definition").
+#[derive(Drop)]
+pub struct PipelineSpec {
+    /// The name, which no other pipeline of the tenant has.
+    pub name: Text,
+    pub manager: ManagerKind,
+    /// By connection number: the trigger rules, of which one is to be met.
+    pub(crate) rules: Sequence<Sequence<Rule>>,
+}
+
+impl Config {
+    ghost use Rattle.gate_config.specs.Lookups.{connections_of, tenants_of, pipelines_of, lists, belongs, rules_of};
+
+    /// The names of the connections, by number.
+    pub fn connections(&self) -> &[Text]
+        ensures { result.now ≡ connections_of self.now }
+    {
+        self.connections.as_slice()
+    }
+
+    /// The tenants, by number.
+    pub fn tenants(&self) -> &[TenantSpec]
+        ensures { result.now ≡ tenants_of self.now }
+    {
+        self.tenants.as_slice()
+    }
+
+    /// The pipelines of a tenant, by number.
+    pub fn pipelines(&self, tenant: TenantId) -> &[PipelineSpec]
+        ensures { result.now ≡ pipelines_of self.now tenant.0 }
+    {
+        match self.tenants.get(tenant.0 as usize) {
+            Some(tenant) => tenant.pipelines.as_slice(),
+            None => &[],
+        }
+    }
+
+    /// Whether the tenant lists the connection among its sources.
+    pub fn listed(&self, tenant: TenantId, conn: ConnId) -> bool
+        ensures { result ≡ lists self.now tenant.0 conn.0 }
+    {
+        self.projects(tenant, conn).is_some()
+    }
+
+    /// Whether the tenant lists the project under the connection. Names are compared byte by byte.
+    pub fn belongs(&self, tenant: TenantId, conn: ConnId, project: &str) -> bool
+        ensures { result ≡ belongs self.now tenant.0 conn.0 project.now }
+    {
+        match self.projects(tenant, conn) {
+            Some(projects) => contains(projects, project),
+            None => false,
+        }
+    }
+
+    /// The rules of which an event of the connection is to meet one, to be selected by the pipeline.
+    pub fn rules(&self, tenant: TenantId, pipeline: PipelineId, conn: ConnId) -> &[Rule]
+        ensures { result.now ≡ rules_of self.now tenant.0 pipeline.0 conn.0 }
+    {
+        match self.pipelines(tenant).get(pipeline.0 as usize) {
+            Some(pipeline) => match pipeline.rules.get(conn.0 as usize) {
+                Some(rules) => rules.as_slice(),
+                None => &[],
+            },
+            None => &[],
+        }
+    }
+
+    ghost use Rattle.gate_config.specs.Lookups.{projects_of};
+    ghost use Rattle.std.specs.Prelude.{option_map};
+
+    fn projects(&self, tenant: TenantId, conn: ConnId) -> Option<&[Text]>
+        ensures { option_map (λ p. p.now) result ≡ projects_of self.now tenant.0 conn.0 }
+    {
+        match self.tenants.get(tenant.0 as usize) {
+            Some(tenant) => match tenant.sources.get(conn.0 as usize) {
+                Some(Some(projects)) => Some(projects.as_slice()),
+                _ => None,
+            },
+            None => None,
+        }
+    }
+}
+
+ghost use Rattle.std.specs.List.{list_any};
+ghost use Rattle.std.specs.Str.{bytes_eq};
+
+fn contains(names: &[Text], wanted: &str) -> bool
+    ensures { result ≡ list_any (λ name. bytes_eq name wanted.now) names.now }
+{
+    names.iter().any(|name| name.as_str() == wanted)
+}

@@ -1,0 +1,19 @@
+-- The JSON value that bytes spell, and what stands in it at a path of keys.
+use Rattle.std.specs.Prelude.{List, [], ◌∷◌, ℕ, Option, Some, None, option_and_then, if◌then◌else◌}
+use Rattle.std.specs.Str.{is_utf8}
+use Rattle.serde_json.specs.Data.{Data}
+use Rattle.serde_json.specs.Read.{read}
+use Rattle.serde_json.specs.Find.{get, as_str}
+
+-- the value: the bytes are UTF-8, and the whole text is JSON that nests at most 127 levels deep
+abbrev pub json_of : List ℕ → Option Data
+json_of bytes = if is_utf8 bytes then read bytes else None
+
+-- what stands at a path; nothing where a step of it isn't an object that has the key
+abbrev pub at_path : List (List ℕ) → Data → Option Data
+at_path [] value = Some value
+at_path (key ∷ keys) value = option_and_then (at_path keys) (get key value)
+
+-- the text at a path; nothing where something else stands there
+abbrev pub text_at : List (List ℕ) → Data → Option (List ℕ)
+text_at path value = option_and_then as_str (at_path path value)

@@ -1,0 +1,22 @@
+//! Records of Gerrit's `stream-events`, and the events that they are read as.
+//!
+//! Below every other crate of the repository: it also holds the few types that all of them share.
+#![tactic(auto)]
+
+mod event;
+mod ids;
+mod memory;
+mod read;
+mod reading;
+mod record;
+mod sequence;
+mod text;
+
+pub use event::Event;
+pub use ids::{ConnId, ManagerKind, PipelineId, Stamp, TenantId};
+pub use memory::Memory;
+pub use read::read_record;
+pub use reading::{Reading, Why};
+pub use record::Record;
+pub use sequence::Sequence;
+pub use text::Text;

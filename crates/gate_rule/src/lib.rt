@@ -1,0 +1,8 @@
+//! Trigger rules of a pipeline: which events they ask for.
+#![tactic(auto)]
+
+mod pattern;
+mod rule;
+
+pub use pattern::{Pattern, PatternFault};
+pub use rule::Rule;
