@@ -6,17 +6,23 @@
 mod event;
 mod ids;
 mod memory;
+mod queue;
 mod read;
 mod reading;
 mod record;
 mod sequence;
+mod shared;
 mod text;
+mod transit;
 
 pub use event::Event;
 pub use ids::{ConnId, ManagerKind, PipelineId, Stamp, TenantId};
 pub use memory::Memory;
+pub use queue::Queue;
 pub use read::read_record;
 pub use reading::{Reading, Why};
 pub use record::Record;
 pub use sequence::Sequence;
+pub use shared::Shared;
 pub use text::Text;
+pub use transit::{ConnEntry, PipelineItem, Stamped, TenantItem};

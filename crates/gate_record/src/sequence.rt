@@ -1,7 +1,7 @@
-ghost use Rattle.std.specs.Prelude.{◌≡◌, List, length, [], slice_get};
+ghost use Rattle.std.specs.Prelude.{◌≡◌, List, length, [], ◌∷◌, ◌++◌, slice_get, MatchResult};
 ghost use Rattle.std.specs.Option.{option_copied};
 
-use std::alloc::Global;
+use std::alloc::{AllocFailed, Global};
 use std::marker::Model;
 
 /// A list of values that contracts see as that list. What room a `Vec` has reserved is no part of it.
@@ -52,6 +52,14 @@ impl<T> Sequence<T> {
         ensures { option_copied result ≡ slice_get self.now place }
     {
         self.items.as_slice().get(place)
+    }
+
+    /// Adds a value at the end. Where memory is refused the value comes back.
+    pub fn push(&mut self, value: T) -> Result<(), AllocFailed<T>>
+        ensures { MatchResult result (λ _. self.new ≡ self.old ++ value ∷ [])
+            (λ refused. (self.new ≡ self.old) × (refused.value ≡ value)) }
+    {
+        self.items.push(value)
     }
 
     /// Gives the `Vec` back, without memory.

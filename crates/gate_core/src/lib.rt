@@ -1,0 +1,24 @@
+//! The deterministic core: how a record goes from its connection to the pipelines that select it, step by step.
+#![tactic(auto)]
+
+mod answer;
+mod connection;
+mod pass;
+mod pipeline;
+mod state;
+mod step;
+mod tenant;
+
+pub use answer::Answer;
+pub use connection::Connection;
+pub use pass::{Pass, Phase, Taking};
+pub use pipeline::Pipeline;
+pub use state::State;
+pub use step::Step;
+pub use tenant::Tenant;
+
+/// How many values a queue holds.
+pub const PLACES: usize = 4096;
+
+/// How many items a tenant gathers before they are matched.
+pub const BATCH: usize = 256;

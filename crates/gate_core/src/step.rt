@@ -1,0 +1,22 @@
+use gate_record::{ConnId, PipelineId, Record, TenantId};
+
+/// One step of the core.
+#[derive(Debug, Drop)]
+pub enum Step {
+    /// The reader of a connection offers a record.
+    Offer(ConnId, Record),
+    /// The reader of a connection closes it: its end mark is put behind its records.
+    Close(ConnId),
+    /// The forwarder of a connection takes the next entry of its queue.
+    Take(ConnId),
+    /// The forwarder of a connection sends what it holds to the next tenant.
+    Send(ConnId),
+    /// The worker of a tenant gathers so many items of its queue.
+    Fetch(TenantId, u32),
+    /// The worker of a tenant matches what it gathered against the rules of the tenant's pipelines.
+    Match(TenantId),
+    /// The worker of a tenant gives the next matched item to its pipeline.
+    Give(TenantId),
+    /// The worker of a pipeline takes one value of its phase's queue, or finds that queue empty.
+    Turn(TenantId, PipelineId),
+}

@@ -1,0 +1,96 @@
+ghost use Rattle.std.specs.Prelude.{◌≡◌, ◌==◌, ◌<◌, ◌+◌, List, length, [], ◌∷◌, ◌++◌, slice_get, option_map, IfErr, OnOk, OnErr, MatchOption, MatchResult};
+ghost use Rattle.std.specs.Option.{option_copied};
+
+use std::alloc::{AllocFailed, Global};
+use std::collections::VecDeque;
+use std::marker::Model;
+
+/// A list that grows at its back and is taken from its front, both in constant time, and that contracts see as that
+/// list. What room it has reserved is no part of it.
+#[derive(Drop)]
+pub struct Queue<T> {
+    items: VecDeque<T>,
+}
+
+impl<T> Model for Queue<T> {
+    ghost Value = { List T };
+
+    ghost view = { λ q. q.items.items };
+}
+
+impl<T> Queue<T> {
+    /// The queue with nothing in it. It takes no memory.
+    pub fn new(alloc: Global) -> Queue<T>
+        ensures { result ≡ [] }
+    {
+        Queue {
+            items: VecDeque::new(alloc),
+        }
+    }
+
+    /// How many values wait.
+    pub fn len(&self) -> usize
+        ensures { result ≡ length self.now }
+    {
+        self.items.len()
+    }
+
+    /// Whether nothing waits.
+    pub fn is_empty(&self) -> bool
+        ensures { result ≡ (length self.now == 0) }
+    {
+        self.items.is_empty()
+    }
+
+    /// The value at a place, from 0 at the front.
+    pub fn get(&self, place: usize) -> Option<&T>
+        ensures { option_copied result ≡ slice_get self.now place }
+    {
+        self.items.get(place)
+    }
+
+    /// Adds a value at the back. Where memory is refused the value comes back.
+    pub fn push(&mut self, value: T) -> Result<(), AllocFailed<T>>
+        ensures { MatchResult result (λ _. self.new ≡ self.old ++ value ∷ [])
+            (λ refused. (self.new ≡ self.old) × (refused.value ≡ value)) }
+    {
+        self.items.push_back(value)
+    }
+
+    /// Takes the value at the front.
+    pub fn pop(&mut self) -> Option<T>
+        ensures { MatchOption result ((self.old ≡ []) × (self.new ≡ []))
+            (λ value. self.old ≡ value ∷ self.new) }
+    {
+        self.items.pop_front()
+    }
+
+    /// Takes everything out.
+    pub fn clear(&mut self)
+    where
+        T: Drop,
+        ensures { self.new ≡ [] }
+    {
+        self.items.clear();
+    }
+
+    /// Moves the value at the front to the back of another queue, if there is one. Where memory is refused both stay
+    /// as they are.
+    pub fn move_first_to(&mut self, other: &mut Queue<T>) -> Result<(), AllocFailed<()>>
+        ensures ok { OnOk result (MovesFirst self.old other.old self.new other.new) }
+        ensures err { OnErr result ((self.new ≡ self.old) × (other.new ≡ other.old)) }
+    {
+        let Some(value) = self.items.pop_front() else {
+            return Ok(());
+        };
+        match other.items.push_back(value) {
+            Ok(()) => Ok(()),
+            Err(refused) => {
+                self.items.push_front_reserved(refused.value);
+                Err(AllocFailed { value: () })
+            }
+        }
+    }
+}
+
+ghost use Rattle.gate_record.specs.Queues.{MovesFirst};
