@@ -1,1 +1,9 @@
+pub mod Ends
+pub mod ConnSteps
+pub mod Flow
+pub mod Holds
+pub mod Law
 pub mod Maps
+pub mod Moved
+pub mod Pushes
+pub mod TenantSteps

@@ -5,17 +5,21 @@ mod answer;
 mod connection;
 mod pass;
 mod pipeline;
+mod report;
 mod state;
 mod step;
 mod tenant;
+mod world;
 
 pub use answer::Answer;
 pub use connection::Connection;
 pub use pass::{Pass, Phase, Taking};
 pub use pipeline::Pipeline;
+pub use report::{ConnectionReport, EndCause, PipelineReport, RunReport};
 pub use state::State;
 pub use step::Step;
 pub use tenant::Tenant;
+pub use world::World;
 
 /// How many values a queue holds.
 pub const PLACES: usize = 4096;

@@ -1,0 +1,85 @@
+-- What one step more does to what a history says.
+use Rattle.std.proofs.Common.{◌≡◌, ◌∙◌, sym, ap, refl, ℕ, ◌+◌, List, [], ◌∷◌, ◌++◌, Bool, true, false, cond, Option, Some, None, append-nil, add-zero}
+use Rattle.std.specs.Prelude.{◌&&◌, ◌||◌, ◌==◌, count_by, if◌then◌else◌}
+use Rattle.std.specs.List.{list_any}
+use Rattle.std.specs.Option.{option_to_list}
+use Rattle.std.proofs.lemmas.List.Folds.{list_any-append}
+use Rattle.std.proofs.lemmas.List.Sums.{sum_by-append}
+use Rattle.gate_record.specs.declared.ids.Stamp.{Stamp}
+use Rattle.gate_record.specs.declared.record.Record.{Record}
+use Rattle.gate_core.specs.declared.answer.Answer.{Answer}
+use Rattle.gate_core.specs.declared.answer.Answer.TheVariants.{Accepted, Closed, Full, Moved, Idle, Turned, Passed}
+use Rattle.gate_core.specs.declared.step.Step.{Step}
+use Rattle.gate_core.specs.History.{History, accepted, accepted_in, done, processed_in, finished, closed, is_put, is_taking, is_turn, is_close, is_take, is_offer, is_moved, is_accepted, offered_to, processed}
+use Rattle.gate_core.proofs.Maps.{filter_map_push}
+
+pub accepted_push : (c : ℕ) (h : History) (e : Step × Answer) → accepted c (h ++ e ∷ []) ≡ accepted c h ++ option_to_list (accepted_in c e)
+accepted_push c h e = filter_map_push (accepted_in c) h e
+
+pub done_push : (t p : ℕ) (h : History) (e : Step × Answer) → done t p (h ++ e ∷ []) ≡ done t p h ++ option_to_list (processed_in t p e)
+done_push t p h e = filter_map_push (processed_in t p) h e
+
+pub finished_push : (t p : ℕ) (h : History) (e : Step × Answer) → finished t p (h ++ e ∷ []) ≡ finished t p h || ((is_turn t p e.0 && is_moved e.1) || false)
+finished_push t p h e = list_any-append (λ (event : Step × Answer). is_turn t p event.0 && is_moved event.1) h (e ∷ [])
+
+pub closed_push : (c : ℕ) (h : History) (e : Step × Answer) → closed c (h ++ e ∷ []) ≡ closed c h || ((is_close c e.0 && is_moved e.1) || false)
+closed_push c h e = list_any-append (λ (event : Step × Answer). is_close c event.0 && is_moved event.1) h (e ∷ [])
+
+pub count_push : (test : Step × Answer → Bool) (h : History) (e : Step × Answer) → count_by test (h ++ e ∷ []) ≡ count_by test h + count_by test (e ∷ [])
+count_push test h e = sum_by-append (λ (x : Step × Answer). cond (test x) 1 0) h (e ∷ [])
+
+-- ---- a step that changes nothing of what was accepted, processed, finished or closed
+
+pub record Same (h h' : History) : Type 0 where
+  pub accepts : (c : ℕ) → accepted c h' ≡ accepted c h
+  pub does : (t p : ℕ) → done t p h' ≡ done t p h
+  pub finishes : (t p : ℕ) → finished t p h' ≡ finished t p h
+  pub closes : (c : ℕ) → closed c h' ≡ closed c h
+
+pub and_false : (b : Bool) → (b && false) ≡ false
+and_false true = refl
+and_false false = refl
+
+pub or_false : (b : Bool) → (b || false) ≡ b
+or_false true = refl
+or_false false = refl
+
+pub cond_none : {A : Type 0} (b : Bool) → ◌≡◌ {A = Option A} (cond b None None) None
+cond_none true = refl
+cond_none false = refl
+
+pub same_after : (h : History) (e : Step × Answer) → ((c : ℕ) → accepted_in c e ≡ None) → ((t p : ℕ) → processed_in t p e ≡ None) →
+    ((t p : ℕ) → (is_turn t p e.0 && is_moved e.1) ≡ false) → ((c : ℕ) → (is_close c e.0 && is_moved e.1) ≡ false) → Same h (h ++ e ∷ [])
+same_after h e a d f k = record {
+  accepts = λ c. accepted_push c h e ∙ ap (λ o. accepted c h ++ option_to_list o) (a c) ∙ append-nil _;
+  does = λ t p. done_push t p h e ∙ ap (λ o. done t p h ++ option_to_list o) (d t p) ∙ append-nil _;
+  finishes = λ t p. finished_push t p h e ∙ ap (λ b. finished t p h || (b || false)) (f t p) ∙ or_false _;
+  closes = λ c. closed_push c h e ∙ ap (λ b. closed c h || (b || false)) (k c) ∙ or_false _;
+}
+
+-- an answer that says that nothing was put, taken, processed or ended
+pub record IsQuiet (answer : Answer) : Type 0 where
+  pub not_accepted : is_accepted answer ≡ false
+  pub not_moved : is_moved answer ≡ false
+  pub not_processed : processed answer ≡ None
+
+pub same_quiet : (h : History) (step : Step) (answer : Answer) → IsQuiet answer → Same h (h ++ (step, answer) ∷ [])
+same_quiet h step answer q = same_after h (step, answer)
+    (λ c. ap (λ b. cond b (offered_to c step) None) q.not_accepted)
+    (λ t p. ap (λ o. cond (is_turn t p step) o None) q.not_processed ∙ cond_none (is_turn t p step))
+    (λ t p. ap (λ b. is_turn t p step && b) q.not_moved ∙ and_false (is_turn t p step))
+    (λ c. ap (λ b. is_close c step && b) q.not_moved ∙ and_false (is_close c step))
+
+-- what a quiet answer adds to the counts
+pub puts_quiet : (c : ℕ) (h : History) (step : Step) (answer : Answer) → IsQuiet answer → count_by (is_put c) (h ++ (step, answer) ∷ []) ≡ count_by (is_put c) h
+puts_quiet c h step answer q =
+    let none : is_put c (step, answer) ≡ false =
+    ap (λ b. (is_offer c step && b) || (is_close c step && is_moved answer)) q.not_accepted
+    ∙ ap (λ b. (is_offer c step && false) || (is_close c step && b)) q.not_moved
+    ∙ ap (λ b. b || (is_close c step && false)) (and_false (is_offer c step)) ∙ and_false (is_close c step) in
+    count_push (is_put c) h (step, answer) ∙ ap (λ b. count_by (is_put c) h + (0 + cond b 1 0)) none ∙ add-zero _
+
+pub takes_quiet : (c : ℕ) (h : History) (step : Step) (answer : Answer) → IsQuiet answer → count_by (is_taking c) (h ++ (step, answer) ∷ []) ≡ count_by (is_taking c) h
+takes_quiet c h step answer q =
+    let none : is_taking c (step, answer) ≡ false = ap (λ b. is_take c step && b) q.not_moved ∙ and_false (is_take c step) in
+    count_push (is_taking c) h (step, answer) ∙ ap (λ b. count_by (is_taking c) h + (0 + cond b 1 0)) none ∙ add-zero _

@@ -1,0 +1,54 @@
+-- What a world reports.
+use Rattle.std.specs.Prelude.{ℕ, List, [], ◌∷◌, Bool, true, false, length, Option, Some, None, map, if◌then◌else◌}
+use Rattle.std.specs.List.{enumerate_from}
+use Rattle.gate_config.specs.declared.config.Config.{Config}
+use Rattle.gate_config.specs.declared.config.TenantSpec.{TenantSpec}
+use Rattle.gate_config.specs.declared.config.PipelineSpec.{PipelineSpec}
+use Rattle.gate_config.specs.Lookups.{connections_of, tenants_of, pipelines_of}
+use Rattle.gate_core.specs.declared.connection.Connection.{Connection}
+use Rattle.gate_core.specs.declared.pipeline.Pipeline.{Pipeline}
+use Rattle.gate_core.specs.declared.report.ConnectionReport.{ConnectionReport}
+use Rattle.gate_core.specs.declared.report.EndCause.{EndCause}
+use Rattle.gate_core.specs.declared.report.EndCause.TheVariants.{Unclosed, Ended}
+use Rattle.gate_core.specs.declared.report.PipelineReport.{PipelineReport}
+use Rattle.gate_core.specs.declared.report.RunReport.{RunReport}
+use Rattle.gate_core.specs.declared.state.State.{State}
+use Rattle.gate_core.specs.declared.tenant.Tenant.{Tenant}
+use Rattle.gate_core.specs.History.{History, accepted, done, finished, closed}
+
+abbrev pub cause_of : Bool → EndCause
+cause_of closing = if closing then Ended else Unclosed
+
+-- ---- the report of a history
+
+-- how many records connection c accepted, and whether it was closed
+abbrev pub connection_after : History → ℕ → ConnectionReport
+connection_after history c = record { accepted = length (accepted c history); cause = cause_of (closed c history) }
+
+-- what pipeline p of tenant t has processed, and whether it met its end mark
+abbrev pub pipeline_after : History → ℕ → ℕ → PipelineReport
+pipeline_after history t p = record { done = done t p history; finished = finished t p history }
+
+-- a line for each connection, and for each tenant one for each of its pipelines
+abbrev pub report_after : Config → History → RunReport
+report_after config history = record {
+  connections = map (λ (entry : ℕ × List ℕ). connection_after history entry.0) (enumerate_from 0 (connections_of config));
+  pipelines = map (λ (tenant : ℕ × TenantSpec). map (λ (pipeline : ℕ × PipelineSpec). pipeline_after history tenant.0 pipeline.0) (enumerate_from 0 (pipelines_of config tenant.0))) (enumerate_from 0 (tenants_of config));
+}
+
+-- ---- the report of a state
+
+abbrev pub connections_in : Option Connection → List ConnectionReport
+connections_in None = []
+connections_in (Some conn) = record { accepted = conn.accepted; cause = cause_of conn.closed } ∷ []
+
+abbrev pub pipelines_in : Option Pipeline → List PipelineReport
+pipelines_in None = []
+pipelines_in (Some pipeline) = record { done = pipeline.done; finished = pipeline.finished } ∷ []
+
+abbrev pub tenants_in : Option Tenant → List (List PipelineReport)
+tenants_in None = []
+tenants_in (Some tenant) = pipelines_in tenant.pipeline ∷ []
+
+abbrev pub report_in : State → RunReport
+report_in state = record { connections = connections_in state.connection; pipelines = tenants_in state.tenant }
