@@ -6,4 +6,7 @@ pub mod Law
 pub mod Maps
 pub mod Moved
 pub mod Pushes
+pub mod Runs
+pub mod Shapes
 pub mod TenantSteps
+pub mod Told

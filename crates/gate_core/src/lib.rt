@@ -9,6 +9,7 @@ mod report;
 mod state;
 mod step;
 mod tenant;
+mod transcript;
 mod world;
 
 pub use answer::Answer;
@@ -19,6 +20,7 @@ pub use report::{ConnectionReport, EndCause, PipelineReport, RunReport};
 pub use state::State;
 pub use step::Step;
 pub use tenant::Tenant;
+pub use transcript::{Transcript, play, run};
 pub use world::World;
 
 /// How many values a queue holds.

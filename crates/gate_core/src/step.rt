@@ -1,4 +1,7 @@
-use gate_record::{ConnId, PipelineId, Record, TenantId};
+ghost use Rattle.std.specs.Prelude.{◌≡◌, IfOk};
+
+use gate_record::{ConnId, Memory, PipelineId, Record, TenantId};
+use std::alloc::Global;
 
 /// One step of the core.
 #[derive(Debug, Drop)]
@@ -19,4 +22,22 @@ pub enum Step {
     Give(TenantId),
     /// The worker of a pipeline takes one value of its phase's queue, or finds that queue empty.
     Turn(TenantId, PipelineId),
+}
+
+impl Step {
+    /// A copy of the step, with its record. `Memory` where the record finds no room.
+    pub fn copy(&self, alloc: Global) -> Result<Step, Memory>
+        ensures { IfOk result (λ copy. copy ≡ self.now) }
+    {
+        match self {
+            Step::Offer(conn, line) => Ok(Step::Offer(*conn, line.copy(alloc)?)),
+            Step::Close(conn) => Ok(Step::Close(*conn)),
+            Step::Take(conn) => Ok(Step::Take(*conn)),
+            Step::Send(conn) => Ok(Step::Send(*conn)),
+            Step::Fetch(tenant, count) => Ok(Step::Fetch(*tenant, *count)),
+            Step::Match(tenant) => Ok(Step::Match(*tenant)),
+            Step::Give(tenant) => Ok(Step::Give(*tenant)),
+            Step::Turn(tenant, pipeline) => Ok(Step::Turn(*tenant, *pipeline)),
+        }
+    }
 }

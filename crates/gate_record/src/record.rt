@@ -1,4 +1,8 @@
+ghost use Rattle.std.specs.Prelude.{◌≡◌, IfOk};
+
+use crate::memory::Memory;
 use crate::sequence::Sequence;
+use std::alloc::Global;
 
 /// One record of a stream: what stands on one line.
 #[derive(Debug, Drop)]
@@ -7,4 +11,16 @@ pub enum Record {
     Line(Sequence<u8>),
     /// A line of more bytes than that, without its content.
     Oversize,
+}
+
+impl Record {
+    /// A copy of the record. `Memory` where its bytes find no room.
+    pub fn copy(&self, alloc: Global) -> Result<Record, Memory>
+        ensures { IfOk result (λ copy. copy ≡ self.now) }
+    {
+        match self {
+            Record::Line(bytes) => Ok(Record::Line(Sequence::new(bytes.as_slice().to_vec(alloc)?))),
+            Record::Oversize => Ok(Record::Oversize),
+        }
+    }
 }

@@ -1,0 +1,68 @@
+ghost use Rattle.std.specs.Prelude.{◌≡◌, ◌++◌, ◌<◌, ◌^◌, IfOk, [], length, take};
+ghost use Rattle.std.specs.List.{zip};
+ghost use Rattle.gate_core.specs.Moves.{answers_to, after_all, start};
+ghost use Rattle.gate_core.specs.Promises.{Delivers, AnswersRightly};
+ghost use Rattle.gate_core.specs.Reports.{report_in, report_after};
+ghost use Rattle.gate_core.specs.Small.{IsSmall};
+
+use crate::answer::Answer;
+use crate::step::Step;
+use crate::world::World;
+use gate_config::Config;
+use gate_record::{Memory, Queue, Sequence};
+use std::alloc::Global;
+
+/// The answers to a list of steps, and the world that they leave.
+#[derive(Drop)]
+pub struct Transcript<'c> {
+    pub answers: Sequence<Answer>,
+    pub world: World<'c>,
+}
+
+ghost use Rattle.gate_core.specs.Worlds.{state_of, config_of};
+
+/// Takes steps in order, from the world in which nothing was offered yet. `Memory` where it is refused at any step.
+pub fn run<'c>(alloc: Global, config: &'c Config, steps: &[Step]) -> Result<Transcript<'c>, Memory>
+    requires { IsSmall config.now }
+
+    // The answers are those of the steps one after another, and the world is what they leave.
+    ensures answers { IfOk result (λ t. t.answers ≡ answers_to config.entry.now (start config.entry.now) steps.now) }
+    ensures left { IfOk result (λ t. state_of t.world ≡ after_all config.entry.now (start config.entry.now) steps.now) }
+    ensures config { IfOk result (λ t. config_of t.world ≡ config.entry.now) }
+
+    // What was processed is what was wanted, in order, and all of it where the end mark was met.
+    ensures delivers { IfOk result (λ t. Delivers config.entry.now (zip steps.now t.answers)) }
+    ensures rightly { IfOk result (λ t. AnswersRightly config.entry.now [] (zip steps.now t.answers)) }
+    ensures report { IfOk result (λ t. report_in (state_of t.world) ≡ report_after config.entry.now (zip steps.now t.answers)) }
+{
+    let mut queue = Queue::new(alloc);
+    for step in steps {
+        queue.push(step.copy(alloc)?)?;
+    }
+    play(alloc, config, queue)
+}
+
+/// The same for steps that are handed over, without a copy.
+pub fn play<'c>(
+    alloc: Global,
+    config: &'c Config,
+    steps: Queue<Step>,
+) -> Result<Transcript<'c>, Memory>
+    requires { IsSmall config.now }
+    ensures answers { IfOk result (λ t. t.answers ≡ answers_to config.entry.now (start config.entry.now) steps) }
+    ensures left { IfOk result (λ t. state_of t.world ≡ after_all config.entry.now (start config.entry.now) steps) }
+    ensures config { IfOk result (λ t. config_of t.world ≡ config.entry.now) }
+    ensures delivers { IfOk result (λ t. Delivers config.entry.now (zip steps t.answers)) }
+    ensures rightly { IfOk result (λ t. AnswersRightly config.entry.now [] (zip steps t.answers)) }
+    ensures report { IfOk result (λ t. report_in (state_of t.world) ≡ report_after config.entry.now (zip steps t.answers)) }
+{
+    let mut steps = steps;
+    let _total = steps.len();
+    let mut world = World::new(alloc, config)?;
+    let mut answers = Sequence::empty(alloc);
+    while let Some(step) = steps.pop() {
+        let answer = world.step(step)?;
+        answers.push(answer)?;
+    }
+    Ok(Transcript { answers, world })
+}
