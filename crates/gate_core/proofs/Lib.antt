@@ -7,6 +7,7 @@ pub mod Maps
 pub mod Moved
 pub mod Pushes
 pub mod Runs
+pub mod Scripts
 pub mod Shapes
 pub mod TenantSteps
 pub mod Told

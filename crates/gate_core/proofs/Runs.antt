@@ -30,10 +30,10 @@ one_more config answers s s' step answer left left' all total el e runs =
     let shorter : length left ≡ suc (length left') = ap length el in
     record {
       told =
-        append_assoc answers (answer ∷ []) (answers_to config s' left')
-        ∙ ap (λ (x : Answer). answers ++ x ∷ answers_to config s' left') said
-        ∙ ap (λ (x : State). answers ++ (after config s step).1 ∷ answers_to config x left') state
-        ∙ ap (λ (x : List Step). answers ++ answers_to config s x) (sym el) ∙ runs.told;
+          append_assoc answers (answer ∷ []) (answers_to config s' left')
+          ∙ ap (λ (x : Answer). answers ++ x ∷ answers_to config s' left') said
+          ∙ ap (λ (x : State). answers ++ (after config s step).1 ∷ answers_to config x left') state
+          ∙ ap (λ (x : List Step). answers ++ answers_to config s x) (sym el) ∙ runs.told;
       reached = ap (λ (x : State). after_all config x left') state ∙ ap (after_all config s) (sym el) ∙ runs.reached;
       few = omega (arith, grows, few, shorter);
     }

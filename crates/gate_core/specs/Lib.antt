@@ -1,12 +1,14 @@
 pub mod Answers
 pub mod Connections
 pub mod Delivery
+pub mod Faults
 pub mod History
 pub mod Moves
 pub mod Passes
 pub mod Pipelines
 pub mod Promises
 pub mod Reports
+pub mod Script
 pub mod Small
 pub mod Worlds
 pub mod Tenants

@@ -9,12 +9,12 @@ use Rattle.gate_core.proofs.transcript.play.Goals as goal
 pub loop-step-preserved : goal.loop-step-preserved
 loop-step-preserved c = record {
   runs =
-    let config = c.args.config.now in
-    let s = state_of c.loop-step.world in
-    let s' = state_of c.step.new.self in
-    let moved : (s', c.in_ok-answer.answer) ≡ after config s c.in-Some.step =
-        subst (λ (k : Config). (s', c.in_ok-answer.answer) ≡ after k s c.in-Some.step) c.loop-step.invariant.same c.in_ok-answer.ensures.moves in
-    rw c.in_ok-push.ensures (one_more config c.loop-step.answers s s' c.in-Some.step c.in_ok-answer.answer c.loop-step.steps c.pop.new.self c.args.steps c.len-total.result c.in-Some.ensures moved c.loop-step.invariant.runs);
+      let config = c.args.config.now in
+      let s = state_of c.loop-step.world in
+      let s' = state_of c.step.new.self in
+      let moved : (s', c.in_ok-answer.answer) ≡ after config s c.in-Some.step =
+      subst (λ (k : Config). (s', c.in_ok-answer.answer) ≡ after k s c.in-Some.step) c.loop-step.invariant.same c.in_ok-answer.ensures.moves in
+      rw c.in_ok-push.ensures (one_more config c.loop-step.answers s s' c.in-Some.step c.in_ok-answer.answer c.loop-step.steps c.pop.new.self c.args.steps c.len-total.result c.in-Some.ensures moved c.loop-step.invariant.runs);
   same = c.in_ok-answer.ensures.config ∙ c.loop-step.invariant.same;
 }
 
