@@ -1,0 +1,150 @@
+ghost use Rattle.std.specs.Prelude.{◌≡◌, ◌∷◌, [], IfOk, Some, map, option_map, string_bytes};
+ghost use Rattle.serde_json.specs.Find.{get};
+ghost use Rattle.serde_json.specs.View.{view};
+ghost use Rattle.gate_config.specs.Faults.{Asks, Reads, Tests};
+ghost use Rattle.gate_config.specs.Parts.{is_object, is_list, is_text, is_there, is_fine, items_of, keys_of, unless_null, optional, optional_in, text_of_member};
+ghost use Rattle.gate_config.specs.Places.{below};
+ghost use Rattle.gate_config.specs.declared.fault.ConfigFault.TheVariants.{Shape};
+
+use crate::fault::ConfigFault;
+use crate::places::member_place;
+use gate_record::{Memory, Text};
+use serde_json::Value;
+use std::alloc::Global;
+
+// The value, if it isn't null.
+fn present(value: &Value) -> Option<&Value>
+    ensures { option_map (λ v. view v.now) result ≡ unless_null (view value.now) }
+{
+    match value {
+        Value::Null => None,
+        _ => Some(value),
+    }
+}
+
+// An optional member.
+pub(crate) fn member<'v>(value: &'v Value, key: &str) -> Option<&'v Value>
+    ensures { option_map (λ v. view v.now) result ≡ optional key.now (view value.now) }
+{
+    match value.get(key) {
+        Some(found) => present(found),
+        None => None,
+    }
+}
+
+// An optional member of what may be absent.
+pub(crate) fn member_of<'v>(value: Option<&'v Value>, key: &str) -> Option<&'v Value>
+    ensures { option_map (λ v. view v.now) result
+        ≡ optional_in key.now (option_map (λ v. view v.now) value.entry) }
+{
+    match value {
+        Some(value) => member(value, key),
+        None => None,
+    }
+}
+
+// The items of a list; none of another value.
+pub(crate) fn items(value: Option<&Value>) -> &[Value]
+    ensures { map view result.now ≡ items_of (option_map (λ v. view v.now) value.entry) }
+{
+    match value {
+        Some(Value::Array(items)) => items.as_slice(),
+        _ => &[],
+    }
+}
+
+// The keys of an object, in byte order; none of another value.
+pub(crate) fn keys(alloc: Global, value: Option<&Value>) -> Result<Vec<&String>, Memory>
+    ensures { IfOk result (λ keys. map (λ k. string_bytes k.now) keys.items
+        ≡ keys_of (option_map (λ v. view v.now) value.entry)) }
+{
+    match value {
+        Some(Value::Object(members)) => Ok(members.keys().collect(alloc)?),
+        _ => Ok(Vec::new(alloc)),
+    }
+}
+
+// `Shape` at the place where the value is no object.
+pub(crate) fn check_object(alloc: Global, place: &str, value: &Value) -> Result<(), ConfigFault>
+    ensures { Tests (Asks (is_object (view value.now)) (Shape place.now) ∷ []) result }
+{
+    if value.is_object() {
+        return Ok(());
+    }
+    Err(ConfigFault::Shape(Text::copy(alloc, place)?))
+}
+
+// `Shape` at the place where there is a value that is no object.
+pub(crate) fn check_optional_object(alloc: Global, place: &str, value: Option<&Value>) -> Result<(), ConfigFault>
+    ensures { Tests (Asks (is_fine is_object (option_map (λ v. view v.now) value.entry)) (Shape place.now) ∷ [])
+        result }
+{
+    match value {
+        Some(value) => check_object(alloc, place, value),
+        None => Ok(()),
+    }
+}
+
+// The items of an optional list. `Shape` at the place where there is a value that is no list.
+pub(crate) fn optional_list<'v>(
+    alloc: Global,
+    place: &str,
+    value: Option<&'v Value>,
+) -> Result<&'v [Value], ConfigFault>
+    ensures { Reads (Asks (is_fine is_list (option_map (λ v. view v.now) value.entry)) (Shape place.now) ∷ [])
+        (λ items. map view items.now ≡ items_of (option_map (λ v. view v.now) value.entry)) result }
+{
+    match value {
+        None => Ok(&[]),
+        Some(Value::Array(items)) => Ok(items.as_slice()),
+        Some(_) => Err(ConfigFault::Shape(Text::copy(alloc, place)?)),
+    }
+}
+
+// The text of a required member. `Shape` at its place where it is missing or no text.
+pub(crate) fn required_text<'v>(
+    alloc: Global,
+    place: &str,
+    value: &'v Value,
+    key: &str,
+) -> Result<&'v str, ConfigFault>
+    ensures { Reads (Asks (is_there is_text (get key.now (view value.now))) (Shape (below place.now key.now)) ∷ [])
+        (λ text. text.now ≡ text_of_member key.now (view value.now)) result }
+{
+    match value.get(key).and_then(Value::as_str) {
+        Some(text) => Ok(text),
+        None => Err(ConfigFault::Shape(member_place(alloc, place, key)?)),
+    }
+}
+
+// The items of a required list. `Shape` at its place where it is missing or no list.
+pub(crate) fn required_list<'v>(
+    alloc: Global,
+    place: &str,
+    value: &'v Value,
+    key: &str,
+) -> Result<&'v [Value], ConfigFault>
+    ensures { Reads (Asks (is_there is_list (get key.now (view value.now))) (Shape (below place.now key.now)) ∷ [])
+        (λ items. map view items.now ≡ items_of (get key.now (view value.now))) result }
+{
+    match value.get(key) {
+        Some(Value::Array(items)) => Ok(items.as_slice()),
+        _ => Err(ConfigFault::Shape(member_place(alloc, place, key)?)),
+    }
+}
+
+// A required object. `Shape` at its place where it is missing or no object.
+pub(crate) fn required_object<'v>(
+    alloc: Global,
+    place: &str,
+    value: &'v Value,
+    key: &str,
+) -> Result<&'v Value, ConfigFault>
+    ensures { Reads (Asks (is_there is_object (get key.now (view value.now))) (Shape (below place.now key.now)) ∷ [])
+        (λ found. Some (view found.now) ≡ get key.now (view value.now)) result }
+{
+    match value.get(key) {
+        Some(found) if found.is_object() => Ok(found),
+        _ => Err(ConfigFault::Shape(member_place(alloc, place, key)?)),
+    }
+}
