@@ -1,15 +1,16 @@
-ghost use Rattle.std.specs.Prelude.{◌≡◌, ◌∷◌, [], IfOk, Some, map, option_map, string_bytes};
-ghost use Rattle.serde_json.specs.Find.{get};
-ghost use Rattle.serde_json.specs.View.{view};
+ghost use Rattle.std.specs.Prelude.{◌≡◌, ◌∷◌, [], IfOk, Some, map, option_map};
+ghost use Rattle.serde_json.specs.Find.{get, as_array};
+ghost use Rattle.serde_json.specs.View.{view, members_view};
+ghost use Rattle.gate_config.specs.Entry.{key_view};
 ghost use Rattle.gate_config.specs.Faults.{Asks, Reads, Tests};
-ghost use Rattle.gate_config.specs.Parts.{is_object, is_list, is_text, is_there, is_fine, items_of, keys_of, unless_null, optional, optional_in, text_of_member};
+ghost use Rattle.gate_config.specs.Parts.{is_object, is_list, is_text, is_there, is_fine, items_in, keys_in, items_of, keys_of, unless_null, optional, optional_in, text_of_member};
 ghost use Rattle.gate_config.specs.Places.{below};
 ghost use Rattle.gate_config.specs.declared.fault.ConfigFault.TheVariants.{Shape};
 
 use crate::fault::ConfigFault;
 use crate::places::member_place;
 use gate_record::{Memory, Text};
-use serde_json::Value;
+use serde_json::{Map, Value};
 use std::alloc::Global;
 
 // The value, if it isn't null.
@@ -43,25 +44,45 @@ pub(crate) fn member_of<'v>(value: Option<&'v Value>, key: &str) -> Option<&'v V
     }
 }
 
+// The items, if the value is a list.
+#[tactic(auto, using(crate::proofs::Views::items_of_view))]
+fn list(value: &Value) -> Option<&[Value]>
+    ensures { option_map (λ items. map view items.now) result ≡ option_map items_in (as_array (view value.now)) }
+{
+    match value.as_array() {
+        Some(items) => Some(items.as_slice()),
+        None => None,
+    }
+}
+
 // The items of a list; none of another value.
 pub(crate) fn items(value: Option<&Value>) -> &[Value]
     ensures { map view result.now ≡ items_of (option_map (λ v. view v.now) value.entry) }
 {
     match value {
-        Some(Value::Array(items)) => items.as_slice(),
-        _ => &[],
+        Some(value) => list(value).unwrap_or(&[]),
+        None => &[],
     }
 }
 
 // The keys of an object, in byte order; none of another value.
 pub(crate) fn keys(alloc: Global, value: Option<&Value>) -> Result<Vec<&String>, Memory>
-    ensures { IfOk result (λ keys. map (λ k. string_bytes k.now) keys.items
+    ensures { IfOk result (λ keys. map key_view keys.items
         ≡ keys_of (option_map (λ v. view v.now) value.entry)) }
 {
     match value {
-        Some(Value::Object(members)) => Ok(members.keys().collect(alloc)?),
-        _ => Ok(Vec::new(alloc)),
+        Some(value) => match value.as_object() {
+            Some(members) => keys_of_members(alloc, members),
+            None => Ok(Vec::new(alloc)),
+        },
+        None => Ok(Vec::new(alloc)),
     }
+}
+
+fn keys_of_members(alloc: Global, members: &Map<String, Value>) -> Result<Vec<&String>, Memory>
+    ensures { IfOk result (λ keys. map key_view keys.items ≡ keys_in (members_view members.now.entries)) }
+{
+    Ok(members.keys().collect(alloc)?)
 }
 
 // `Shape` at the place where the value is no object.
@@ -95,9 +116,11 @@ pub(crate) fn optional_list<'v>(
         (λ items. map view items.now ≡ items_of (option_map (λ v. view v.now) value.entry)) result }
 {
     match value {
+        Some(value) => match list(value) {
+            Some(items) => Ok(items),
+            None => Err(ConfigFault::Shape(Text::copy(alloc, place)?)),
+        },
         None => Ok(&[]),
-        Some(Value::Array(items)) => Ok(items.as_slice()),
-        Some(_) => Err(ConfigFault::Shape(Text::copy(alloc, place)?)),
     }
 }
 
@@ -127,9 +150,9 @@ pub(crate) fn required_list<'v>(
     ensures { Reads (Asks (is_there is_list (get key.now (view value.now))) (Shape (below place.now key.now)) ∷ [])
         (λ items. map view items.now ≡ items_of (get key.now (view value.now))) result }
 {
-    match value.get(key) {
-        Some(Value::Array(items)) => Ok(items.as_slice()),
-        _ => Err(ConfigFault::Shape(member_place(alloc, place, key)?)),
+    match value.get(key).and_then(list) {
+        Some(items) => Ok(items),
+        None => Err(ConfigFault::Shape(member_place(alloc, place, key)?)),
     }
 }
 

@@ -1,0 +1,4 @@
+pub mod Attributes
+pub mod Each
+pub mod Faults
+pub mod Views
