@@ -1,7 +1,7 @@
 -- Loops over the items of a list, each with its checks.
-use Rattle.std.proofs.Common.{◌≡◌, ◌∙◌, ◌+◌, ◌<◌, ◌≤◌, ℕ, List, [], ◌∷◌, ◌++◌, map, length, get_or, take, drop, refl, sym, ap, subst, arith, append_assoc, add-zero, zero-add, add_assoc, one-add, add-one, add-suc}
-use Rattle.std.specs.List.{flat_map, enumerate_from}
-use Rattle.std.proofs.lemmas.List.{append-nil, map-append, take_more, take_all, take-append-drop, length-map, length-take-le}
+use Rattle.std.proofs.Common.{◌≡◌, ◌∙◌, ◌+◌, ◌<◌, ◌≤◌, ℕ, List, [], ◌∷◌, ◌++◌, map, length, get_or, take, drop, refl, sym, ap, Option, Some, None, subst, arith, append_assoc, add-zero, zero-add, add_assoc, suc}
+use Rattle.std.specs.List.{flat_map, filter_map, enumerate_from}
+use Rattle.std.proofs.lemmas.List.{append-nil, map-append, map-id, take_more, take_all, take-append-drop, length-map, length-take-le}
 use Rattle.gate_config.specs.declared.fault.ConfigFault.{ConfigFault}
 use Rattle.gate_config.specs.Checks.{each}
 use Rattle.gate_config.specs.Faults.{Check, HasPassed, HasFault}
@@ -96,3 +96,24 @@ module _ {X A T B : Type 0} {checks : ℕ → A → List Check} {v : X → A} {t
 
   pub read_all : {i : ℕ} {out : List T} → length items ≤ i → ReadSoFar checks v texts gives items i out → map texts out ≡ map gives (map v items)
   read_all {i} h r = r.says ∙ ap (λ xs. map gives (map v xs)) (take_all i items h)
+
+-- the same over items that are seen as they are
+module _ {A : Type 0} {checks : A → List Check} {items : List A} where
+  pub plain_fault : {i : ℕ} (x : A) {found : ConfigFault} → i < length items → x ≡ get_or items i x → TestedSoFar (λ _. checks) (λ y. y) items i → HasFault (checks x) found → HasFault (flat_map checks items) found
+  plain_fault x {found} h e t f = subst (λ xs. HasFault (flat_map checks xs) found) (map-id items) (flat_fault x h e t f)
+
+  pub plain_all : {i : ℕ} → length items ≤ i → TestedSoFar (λ _. checks) (λ y. y) items i → HasPassed (flat_map checks items)
+  plain_all h t = subst (λ xs. HasPassed (flat_map checks xs)) (map-id items) (flat_all h t)
+
+pub plain_read : {A T B : Type 0} {checks : A → List Check} {texts : T → B} {gives : A → B} {items : List A} {i : ℕ} {out : List T} → length items ≤ i → ReadSoFar (λ _. checks) (λ y. y) texts gives items i out → map texts out ≡ map gives items
+plain_read {gives} {items} h r = read_all h r ∙ ap (map gives) (map-id items)
+
+-- each value gives something
+pub filter_map_all : {A B T : Type 0} (texts : T → B) (gives : A → Option B) (out : List T) (values : List A) → map (λ y. Some (texts y)) out ≡ map gives values → map texts out ≡ filter_map gives values
+filter_map_all texts gives [] [] e = refl
+filter_map_all texts gives [] (x ∷ xs) e = cc
+filter_map_all texts gives (y ∷ ys) [] e = cc
+filter_map_all texts gives (y ∷ ys) (x ∷ xs) e =
+    let first : Some (texts y) ≡ gives x = cc in
+    let rest : map (λ z. Some (texts z)) ys ≡ map gives xs = cc in
+    rw (← first) (ap (λ zs. texts y ∷ zs) (filter_map_all texts gives ys xs rest))

@@ -51,6 +51,14 @@ pub passed_more : {x : Check} {xs : List Check} → HasPassed (x ∷ []) → Has
 passed_more p q = passed_both p q
 
 -- what the exit of a `?` answers
-pub exit : {T : Type 0} {checks : List Check} {P : T → Type 0} {found : ConfigFault} (r : Result T ConfigFault) → IsErrAnd r (λ answer. answer ≡ found) → HasFault checks found → Reads checks P r
-exit (Ok x) e h = absurd e
-exit {T} {checks} (Err answer) e h = subst (λ f. HasFault checks f) (sym e) h
+pub exit : {T : Type 0} {checks : List Check} (P : T → Type 0) {found : ConfigFault} (r : Result T ConfigFault) → IsErrAnd r (λ answer. answer ≡ found) → HasFault checks found → Reads checks P r
+exit P (Ok x) e h = absurd e
+exit {T} {checks} P (Err answer) e h = subst (λ f. HasFault checks f) (sym e) h
+
+-- what a last call answers, behind checks that passed
+pub after : {T : Type 0} {xs : List Check} (ys : List Check) (P : T → Type 0) (r : Result T ConfigFault) → HasPassed xs → Reads ys P r → Reads (xs ++ ys) P r
+after ys P (Ok value) p h = (passed_both p h.0, h.1)
+after ys P (Err found) p h = fault_rest p h
+
+pub after_one : {T : Type 0} {x : Check} (ys : List Check) (P : T → Type 0) (r : Result T ConfigFault) → HasPassed (x ∷ []) → Reads ys P r → Reads (x ∷ ys) P r
+after_one ys P r p h = after ys P r p h

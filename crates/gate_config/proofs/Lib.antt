@@ -1,4 +1,5 @@
 pub mod Attributes
 pub mod Each
 pub mod Faults
+pub mod Picked
 pub mod Views

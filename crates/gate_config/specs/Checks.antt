@@ -28,13 +28,16 @@ list_checks place source key =
     Asks (is_fine is_list (optional_in key source)) (Shape (below place key))
     ∷ each (project_checks (below place key)) (items_of (optional_in key source))
 
--- a connection among the sources, by its key: an object or null
+-- what a tenant lists at a connection: an object or null, with project lists
+abbrev pub listing_checks : List ℕ → Option Data → List Check
+listing_checks here source =
+    Asks (is_fine is_object source) (Shape here)
+    ∷ (list_checks here source (codes "config-projects") ++ list_checks here source (codes "untrusted-projects"))
+
+-- a connection among the sources, by its key
 abbrev pub source_checks : List ℕ → Option Data → ℕ → List ℕ → List Check
 source_checks place sources position key =
-    Asks (nat_lt position MAX_CONNECTIONS) (Limit (below place key))
-    ∷ Asks (is_fine is_object (optional_in key sources)) (Shape (below place key))
-    ∷ (list_checks (below place key) (optional_in key sources) (codes "config-projects")
-    ++ list_checks (below place key) (optional_in key sources) (codes "untrusted-projects"))
+    Asks (nat_lt position MAX_CONNECTIONS) (Limit (below place key)) ∷ listing_checks (below place key) (optional_in key sources)
 
 -- the connections that a tenant lists, in byte order
 abbrev pub sources_checks : List ℕ → Data → List Check

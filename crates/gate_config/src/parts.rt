@@ -46,7 +46,7 @@ pub(crate) fn member_of<'v>(value: Option<&'v Value>, key: &str) -> Option<&'v V
 
 // The items, if the value is a list.
 #[tactic(auto, using(crate::proofs::Views::items_of_view))]
-fn list(value: &Value) -> Option<&[Value]>
+pub(crate) fn list(value: &Value) -> Option<&[Value]>
     ensures { option_map (λ items. map view items.now) result ≡ option_map items_in (as_array (view value.now)) }
 {
     match value.as_array() {

@@ -9,6 +9,7 @@ ghost use Rattle.gate_config.specs.Parts.{texts_in};
 
 use crate::fault::ConfigFault;
 use crate::limits::MAX_ENTRIES;
+use crate::parts::list;
 use crate::places::item_place;
 use gate_record::{Sequence, Text};
 use gate_rule::{Pattern, PatternFault};
@@ -26,8 +27,8 @@ pub(crate) fn read_patterns(
 {
     match value {
         None => Ok(Sequence::empty(alloc)),
-        Some(value) => match value.as_array() {
-            Some(items) => read_entries(alloc, place, items.as_slice()),
+        Some(value) => match list(value) {
+            Some(items) => read_entries(alloc, place, items),
             None => read_one(alloc, place, value),
         },
     }

@@ -13,7 +13,7 @@ ghost use Rattle.gate_config.specs.declared.fault.ConfigFault.TheVariants.{Shape
 
 use crate::fault::ConfigFault;
 use crate::limits::MAX_RULES;
-use crate::parts::{check_object, check_optional_object, keys, member, member_of, optional_list};
+use crate::parts::{check_object, check_optional_object, keys, list, member, member_of, optional_list};
 use crate::patterns::read_patterns;
 use crate::places::{item_place, member_place};
 use gate_record::{Sequence, Text};
@@ -78,11 +78,18 @@ fn read_rules(alloc: Global, place: &str, items: &[Value]) -> Result<Sequence<Ru
 {
     let mut rules = Vec::new(alloc);
     for (position, item) in items.iter().enumerate() {
-        let here = item_place(alloc, place, position)?;
-        let rule = read_rule(alloc, here.as_str(), item)?;
+        let rule = read_item(alloc, place, position, item)?;
         rules.push(rule)?;
     }
     Ok(Sequence::new(rules))
+}
+
+// The rule at this position of a list.
+fn read_item(alloc: Global, place: &str, position: usize, item: &Value) -> Result<Rule, ConfigFault>
+    ensures { Reads (rule_checks place.now position (view item.now)) (λ rule. texts_of_rule rule ≡ rule_texts (view item.now)) result }
+{
+    let here = item_place(alloc, place, position)?;
+    read_rule(alloc, here.as_str(), item)
 }
 
 // A rule: an object of attributes, of which `event` is required.
@@ -142,7 +149,7 @@ fn is_listed(value: Option<&Value>) -> bool
 {
     match value {
         None => false,
-        Some(value) => match value.as_array() {
+        Some(value) => match list(value) {
             Some(items) => !items.is_empty(),
             None => true,
         },

@@ -1,7 +1,7 @@
 ghost use Rattle.std.specs.Prelude.{◌≡◌, ◌∷◌, [], map, option_map, is_none, codes};
 ghost use Rattle.std.specs.List.{flat_map};
 ghost use Rattle.serde_json.specs.View.{view};
-ghost use Rattle.gate_config.specs.Checks.{each, tenant_checks, tenant_checks_at, sources_checks, source_checks, list_checks, project_checks};
+ghost use Rattle.gate_config.specs.Checks.{each, tenant_checks, tenant_checks_at, sources_checks, source_checks, listing_checks, list_checks, project_checks};
 ghost use Rattle.gate_config.specs.Entry.{entry_view, key_view};
 ghost use Rattle.gate_config.specs.Faults.{Asks, Tests};
 ghost use Rattle.gate_config.specs.Parts.{optional};
@@ -21,10 +21,16 @@ pub(crate) fn check_tenants(alloc: Global, entries: &[Entry<'_>]) -> Result<(), 
     ensures { Tests (flat_map tenant_checks (map entry_view entries.now)) result }
 {
     for entry in entries {
-        let here = item_place(alloc, "tenants", entry.position)?;
-        check_tenant(alloc, here.as_str(), entry.value)?;
+        check_entry(alloc, entry)?;
     }
     Ok(())
+}
+
+fn check_entry(alloc: Global, entry: &Entry<'_>) -> Result<(), ConfigFault>
+    ensures { Tests (tenant_checks (entry_view entry.now)) result }
+{
+    let here = item_place(alloc, "tenants", entry.position)?;
+    check_tenant(alloc, here.as_str(), entry.value)
 }
 
 // A tenant: an object with a name, and its sources.
@@ -73,7 +79,7 @@ fn check_each_source(
     Ok(())
 }
 
-// What stands at a connection: an object or null, with project lists.
+// A connection among the sources. `Limit` at its key where it is one too many.
 fn check_source(
     alloc: Global,
     place: &str,
@@ -87,10 +93,16 @@ fn check_source(
     if position >= MAX_CONNECTIONS {
         return Err(ConfigFault::Limit(here));
     }
-    let source = member_of(sources, key);
-    check_optional_object(alloc, here.as_str(), source)?;
-    check_projects(alloc, here.as_str(), source, "config-projects")?;
-    check_projects(alloc, here.as_str(), source, "untrusted-projects")
+    check_listing(alloc, here.as_str(), member_of(sources, key))
+}
+
+// What a tenant lists at a connection: an object or null, with project lists.
+fn check_listing(alloc: Global, here: &str, source: Option<&Value>) -> Result<(), ConfigFault>
+    ensures { Tests (listing_checks here.now (option_map (λ v. view v.now) source.entry)) result }
+{
+    check_optional_object(alloc, here, source)?;
+    check_projects(alloc, here, source, "config-projects")?;
+    check_projects(alloc, here, source, "untrusted-projects")
 }
 
 // A list of projects.
