@@ -32,6 +32,6 @@ no_keys (key ∷ keys) i h e = absurd (omega arith)
 pub attributes_all : {here : List ℕ} {rule : Data} {keys : List (Bor (String Global))} {i : ℕ} {event : List Pattern} → length keys ≤ i → map key_view keys ≡ keys_of (Some rule) → AttributesSoFar here rule keys i event → map text_of event ≡ pattern_texts (optional (codes "event") rule)
 attributes_all {rule} {keys} {i} {event} h e s =
     elim s.says [
-      inl none ↦ ap (map text_of) none.1 ∙ ap pattern_texts (sym (no_member (codes "event") rule (sym e ∙ no_keys keys i h none.0)))
-    | inr read ↦ read
+      | inl none ↦ ap (map text_of) none.1 ∙ ap pattern_texts (sym (no_member (codes "event") rule (sym e ∙ no_keys keys i h none.0)))
+      | inr read ↦ read
     ]

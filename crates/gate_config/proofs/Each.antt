@@ -58,15 +58,15 @@ module _ {X A : Type 0} {checks : ℕ → A → List Check} {v : X → A} {items
   pub tested_more : {i : ℕ} (x : X) → i < length items → x ≡ get_or items i x → TestedSoFar checks v items i → HasPassed (checks i (v x)) → TestedSoFar checks v items (i + 1)
   tested_more {i} x h e t p = record {
     passed = subst HasPassed
-      (sym (ap (each checks) (map_more v items i x h e) ∙ one_more checks (map v (take i items)) (v x) i (count v items i h)))
-      (passed_both t.passed p);
+        (sym (ap (each checks) (map_more v items i x h e) ∙ one_more checks (map v (take i items)) (v x) i (count v items i h)))
+        (passed_both t.passed p);
   }
 
   pub tested_fault : {i : ℕ} (x : X) {found : ConfigFault} → i < length items → x ≡ get_or items i x → TestedSoFar checks v items i → HasFault (checks i (v x)) found → HasFault (each checks (map v items)) found
   tested_fault {i} x {found} h e t f =
-    let front = map v (take i items) in
-    let rest = map v (drop (i + 1) items) in
-    subst (λ cs. HasFault cs found)
+      let front = map v (take i items) in
+      let rest = map v (drop (i + 1) items) in
+      subst (λ cs. HasFault cs found)
       (sym (ap (each checks) (split v items i x h e) ∙ each-append checks (front ++ v x ∷ []) rest
       ∙ ap (λ cs. cs ++ each_from checks (length (front ++ v x ∷ [])) rest) (one_more checks front (v x) i (count v items i h))))
       (fault_front (each_from checks (length (front ++ v x ∷ [])) rest) (fault_rest t.passed f))
@@ -89,9 +89,9 @@ module _ {X A T B : Type 0} {checks : ℕ → A → List Check} {v : X → A} {t
   read_more {i} {out} x y h e r p s = record {
     tested = tested_more x h e r.tested p;
     says =
-      map-append texts out (y ∷ []) ∙ ap (λ front. front ++ texts y ∷ []) r.says
-      ∙ ap (λ z. map gives (map v (take i items)) ++ z ∷ []) s
-      ∙ sym (ap (map gives) (map_more v items i x h e) ∙ map-append gives (map v (take i items)) (v x ∷ []));
+        map-append texts out (y ∷ []) ∙ ap (λ front. front ++ texts y ∷ []) r.says
+        ∙ ap (λ z. map gives (map v (take i items)) ++ z ∷ []) s
+        ∙ sym (ap (map gives) (map_more v items i x h e) ∙ map-append gives (map v (take i items)) (v x ∷ []));
   }
 
   pub read_all : {i : ℕ} {out : List T} → length items ≤ i → ReadSoFar checks v texts gives items i out → map texts out ≡ map gives (map v items)

@@ -14,7 +14,6 @@ mod read;
 mod rules;
 mod sources;
 mod tenants;
-
 #[cfg(test)]
 mod tests;
 

@@ -96,7 +96,11 @@ pub(crate) fn check_object(alloc: Global, place: &str, value: &Value) -> Result<
 }
 
 // `Shape` at the place where there is a value that is no object.
-pub(crate) fn check_optional_object(alloc: Global, place: &str, value: Option<&Value>) -> Result<(), ConfigFault>
+pub(crate) fn check_optional_object(
+    alloc: Global,
+    place: &str,
+    value: Option<&Value>,
+) -> Result<(), ConfigFault>
     ensures { Tests (Asks (is_fine is_object (option_map (λ v. view v.now) value.entry)) (Shape place.now) ∷ [])
         result }
 {

@@ -44,7 +44,11 @@ fn read_one(alloc: Global, place: &str, value: &Value) -> Result<Sequence<Patter
     Ok(Sequence::new(patterns))
 }
 
-fn read_entries(alloc: Global, place: &str, items: &[Value]) -> Result<Sequence<Pattern>, ConfigFault>
+fn read_entries(
+    alloc: Global,
+    place: &str,
+    items: &[Value],
+) -> Result<Sequence<Pattern>, ConfigFault>
     ensures { Reads (each (entry_checks place.now) (map view items.now))
         (λ patterns. map text_of patterns ≡ texts_in (map view items.now)) result }
 {
@@ -57,7 +61,12 @@ fn read_entries(alloc: Global, place: &str, items: &[Value]) -> Result<Sequence<
 }
 
 // An entry of a list of patterns.
-fn read_entry(alloc: Global, place: &str, position: usize, item: &Value) -> Result<Pattern, ConfigFault>
+fn read_entry(
+    alloc: Global,
+    place: &str,
+    position: usize,
+    item: &Value,
+) -> Result<Pattern, ConfigFault>
     ensures { Reads (entry_checks place.now position (view item.now)) (λ pattern. Some (text_of pattern) ≡ as_str (view item.now)) result }
 {
     if position >= MAX_ENTRIES {

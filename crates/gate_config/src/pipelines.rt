@@ -128,7 +128,14 @@ fn read_entry(
 {
     let item = item_place(alloc, place, entry.position)?;
     let here = member_place(alloc, item.as_str(), "pipeline")?;
-    read_pipeline(alloc, connections, item.as_str(), here.as_str(), rank, entry.value)
+    read_pipeline(
+        alloc,
+        connections,
+        item.as_str(),
+        here.as_str(),
+        rank,
+        entry.value,
+    )
 }
 
 // The pipeline of this rank, which stands in an item.

@@ -50,7 +50,7 @@ fn read_document(alloc: Global, document: &Value) -> Result<Config, ConfigFault>
 fn read_entries(alloc: Global, config: &Value, entries: &[Entry<'_>]) -> Result<Config, ConfigFault>
     ensures { Reads (entries_checks (Some (view config.now)) (map entry_view entries.now))
         (λ read. (read.connections ≡ names_in (map entry_view entries.now))
-            × (map texts_of_tenant read.tenants ≡ map (tenant_texts (Some (view config.now)) (names_in (map entry_view entries.now))) (map entry_view entries.now))) result }
+        × (map texts_of_tenant read.tenants ≡ map (tenant_texts (Some (view config.now)) (names_in (map entry_view entries.now))) (map entry_view entries.now))) result }
 {
     if entries.len() > MAX_TENANTS {
         return Err(ConfigFault::Limit(Text::copy(alloc, "tenants")?));
@@ -58,5 +58,8 @@ fn read_entries(alloc: Global, config: &Value, entries: &[Entry<'_>]) -> Result<
     check_tenants(alloc, entries)?;
     let connections = connection_names(alloc, entries)?;
     let tenants = read_tenants(alloc, config, connections.as_slice(), entries)?;
-    Ok(Config { connections, tenants })
+    Ok(Config {
+        connections,
+        tenants,
+    })
 }

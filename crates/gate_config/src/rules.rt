@@ -13,7 +13,9 @@ ghost use Rattle.gate_config.specs.declared.fault.ConfigFault.TheVariants.{Shape
 
 use crate::fault::ConfigFault;
 use crate::limits::MAX_RULES;
-use crate::parts::{check_object, check_optional_object, keys, list, member, member_of, optional_list};
+use crate::parts::{
+    check_object, check_optional_object, keys, list, member, member_of, optional_list,
+};
 use crate::patterns::read_patterns;
 use crate::places::{item_place, member_place};
 use gate_record::{Sequence, Text};
@@ -122,7 +124,12 @@ fn read_attributes(
 }
 
 // The attribute of a rule at this key. `Attribute` at a key other than `event`.
-fn read_attribute(alloc: Global, here: &str, rule: &Value, key: &str) -> Result<Sequence<Pattern>, ConfigFault>
+fn read_attribute(
+    alloc: Global,
+    here: &str,
+    rule: &Value,
+    key: &str,
+) -> Result<Sequence<Pattern>, ConfigFault>
     ensures { Reads (attribute_checks here.now (view rule.now) key.now)
         (λ event. map text_of event ≡ pattern_texts (optional (codes "event") (view rule.now))) result }
 {

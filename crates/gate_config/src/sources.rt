@@ -12,7 +12,10 @@ use serde_json::Value;
 use std::alloc::Global;
 
 // The names of the connections, by number.
-pub(crate) fn connection_names(alloc: Global, entries: &[Entry<'_>]) -> Result<Sequence<Text>, Memory>
+pub(crate) fn connection_names(
+    alloc: Global,
+    entries: &[Entry<'_>],
+) -> Result<Sequence<Text>, Memory>
     ensures { IfOk result (λ names. names ≡ names_in (map entry_view entries.now)) }
 {
     let mut names = Vec::new(alloc);
@@ -48,7 +51,11 @@ pub(crate) fn read_sources(
 }
 
 // The projects that a tenant lists under a connection, if it lists the connection.
-fn projects_at(alloc: Global, tenant: &Value, connection: &str) -> Result<Option<Sequence<Text>>, Memory>
+fn projects_at(
+    alloc: Global,
+    tenant: &Value,
+    connection: &str,
+) -> Result<Option<Sequence<Text>>, Memory>
     ensures { IfOk result (λ projects. projects ≡ projects_under (view tenant.now) connection.now) }
 {
     match source_at(tenant, connection) {
@@ -71,8 +78,16 @@ fn projects_of_source(alloc: Global, source: &Value) -> Result<Sequence<Text>, M
     ensures { IfOk result (λ projects. projects ≡ projects_in (view source.now)) }
 {
     let mut projects = Vec::new(alloc);
-    push_texts(alloc, &mut projects, items(member(source, "config-projects")))?;
-    push_texts(alloc, &mut projects, items(member(source, "untrusted-projects")))?;
+    push_texts(
+        alloc,
+        &mut projects,
+        items(member(source, "config-projects")),
+    )?;
+    push_texts(
+        alloc,
+        &mut projects,
+        items(member(source, "untrusted-projects")),
+    )?;
     Ok(Sequence::new(projects))
 }
 

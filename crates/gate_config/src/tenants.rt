@@ -10,7 +10,9 @@ ghost use Rattle.gate_config.specs.declared.fault.ConfigFault.TheVariants.{Shape
 use crate::document::Entry;
 use crate::fault::ConfigFault;
 use crate::limits::MAX_CONNECTIONS;
-use crate::parts::{check_object, check_optional_object, keys, member, member_of, optional_list, required_text};
+use crate::parts::{
+    check_object, check_optional_object, keys, member, member_of, optional_list, required_text,
+};
 use crate::places::{item_place, member_place};
 use gate_record::Text;
 use serde_json::Value;
@@ -106,7 +108,12 @@ fn check_listing(alloc: Global, here: &str, source: Option<&Value>) -> Result<()
 }
 
 // A list of projects.
-fn check_projects(alloc: Global, place: &str, source: Option<&Value>, key: &str) -> Result<(), ConfigFault>
+fn check_projects(
+    alloc: Global,
+    place: &str,
+    source: Option<&Value>,
+    key: &str,
+) -> Result<(), ConfigFault>
     ensures { Tests (list_checks place.now (option_map (λ v. view v.now) source.entry) key.now) result }
 {
     let here = member_place(alloc, place, key)?;
@@ -124,7 +131,12 @@ fn check_each_project(alloc: Global, place: &str, projects: &[Value]) -> Result<
 }
 
 // `Shape` at a project that is no text.
-fn check_project(alloc: Global, place: &str, position: usize, project: &Value) -> Result<(), ConfigFault>
+fn check_project(
+    alloc: Global,
+    place: &str,
+    position: usize,
+    project: &Value,
+) -> Result<(), ConfigFault>
     ensures { Tests (project_checks place.now position (view project.now)) result }
 {
     if project.is_string() {

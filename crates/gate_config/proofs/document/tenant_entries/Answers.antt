@@ -8,14 +8,14 @@ use Rattle.gate_config.proofs.document.tenant_entries.Goals as goal
 pub loop-position-preserved : goal.loop-position-preserved
 loop-position-preserved c =
     elim c.if-not-is_no_tenant.branch [
-      then-not-is_no_tenant+in_ok-push w ↦
-        rw (w.entries-is, w.in_ok-push.ensures.items)
-        (picked_some tenant_at c.args.items.now c.loop-position.position c.index-items-position.result c.loop-position.entries.items _
-        c.loop-position-test.true c.index-items-position.is c.loop-position.invariant refl
-        (tenant_kept (view c.index-items-position.result) (sym c.is_no_tenant.ensures ∙ w.if-not-is_no_tenant.true)))
-    | else-not-is_no_tenant w ↦
-        rw w.entries-is
-        (picked_none tenant_at c.args.items.now c.loop-position.position c.index-items-position.result c.loop-position.entries.items
-        c.loop-position-test.true c.index-items-position.is c.loop-position.invariant
-        (tenant_ignored (view c.index-items-position.result) (sym c.is_no_tenant.ensures ∙ w.if-not-is_no_tenant.false)))
+      | then-not-is_no_tenant+in_ok-push w ↦
+          rw (w.entries-is, w.in_ok-push.ensures.items)
+          (picked_some tenant_at c.args.items.now c.loop-position.position c.index-items-position.result c.loop-position.entries.items _
+          c.loop-position-test.true c.index-items-position.is c.loop-position.invariant refl
+          (tenant_kept (view c.index-items-position.result) (sym c.is_no_tenant.ensures ∙ w.if-not-is_no_tenant.true)))
+      | else-not-is_no_tenant w ↦
+          rw w.entries-is
+          (picked_none tenant_at c.args.items.now c.loop-position.position c.index-items-position.result c.loop-position.entries.items
+          c.loop-position-test.true c.index-items-position.is c.loop-position.invariant
+          (tenant_ignored (view c.index-items-position.result) (sym c.is_no_tenant.ensures ∙ w.if-not-is_no_tenant.false)))
     ]

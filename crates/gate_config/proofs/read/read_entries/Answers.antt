@@ -15,7 +15,8 @@ returns-in_err-tenants c =
     (fault_rest c.in_ok-check_tenants.ensures.0 (rw (c.as_slice.ensures, c.in_ok-connections.ensures) at c.in_err-tenants.ensures)))
 
 pub returns : goal.returns
-returns c =
-    (passed_more (few entry_view c.args.entries.now _ _ c.if-entries-gt-MAX_TENANTS.false)
-     (passed_both c.in_ok-check_tenants.ensures.0 (rw (c.as_slice.ensures, c.in_ok-connections.ensures) at c.in_ok-tenants.ensures.0)),
-     (c.in_ok-connections.ensures, rw (c.as_slice.ensures, c.in_ok-connections.ensures) at c.in_ok-tenants.ensures.1))
+returns c = (
+  passed_more (few entry_view c.args.entries.now _ _ c.if-entries-gt-MAX_TENANTS.false)
+      (passed_both c.in_ok-check_tenants.ensures.0 (rw (c.as_slice.ensures, c.in_ok-connections.ensures) at c.in_ok-tenants.ensures.0)),
+  (c.in_ok-connections.ensures, rw (c.as_slice.ensures, c.in_ok-connections.ensures) at c.in_ok-tenants.ensures.1),
+)

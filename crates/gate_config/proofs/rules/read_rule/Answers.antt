@@ -19,6 +19,7 @@ returns-in_err-check_listed c =
 
 pub returns : goal.returns
 returns c =
-    let keys : map key_view c.as_slice.result.now ≡ keys_of (Some (view c.args.rule.now)) = ap (map key_view) c.as_slice.ensures.value ∙ c.in_ok-keys.ensures in
-    (passed_more c.in_ok-check_object.ensures.0 (passed_both (rw keys at c.in_ok-event.ensures.0) c.in_ok-check_listed.ensures.0),
-     ap (λ event. record { event = event }) c.in_ok-event.ensures.1)
+    let keys : map key_view c.as_slice.result.now ≡ keys_of (Some (view c.args.rule.now)) = ap (map key_view) c.as_slice.ensures.value ∙ c.in_ok-keys.ensures in (
+      passed_more c.in_ok-check_object.ensures.0 (passed_both (rw keys at c.in_ok-event.ensures.0) c.in_ok-check_listed.ensures.0),
+      ap (λ event. record { event = event }) c.in_ok-event.ensures.1,
+    )

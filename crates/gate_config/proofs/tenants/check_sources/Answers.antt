@@ -12,7 +12,7 @@ use Rattle.gate_config.proofs.tenants.check_sources.Goals as goal
 pub returns : goal.returns
 returns c =
     let keys : map key_view c.as_slice.result.now ≡ sources_of (view c.args.tenant.now) =
-      ap (map key_view) c.as_slice.ensures.value ∙ c.in_ok-keys.ensures ∙ ap keys_of c.member-sources.ensures in
+    ap (map key_view) c.as_slice.ensures.value ∙ c.in_ok-keys.ensures ∙ ap keys_of c.member-sources.ensures in
     let place = below c.args.here.now (codes "source") in
     after_one _ _ c.check_each_source.result
     (rw (c.member-sources.ensures, c.as_str.ensures, c.in_ok-place.ensures) at c.in_ok-check_optional_object.ensures.0)
