@@ -1,5 +1,5 @@
 -- The loop over the attributes of a rule.
-use Rattle.std.proofs.Common.{◌≡◌, ◌∙◌, ◌⊎◌, ◌≤◌, ℕ, List, [], ◌∷◌, Option, Some, None, map, length, codes, refl, sym, ap, inl, inr, arith, Bor, String, Global}
+use Rattle.std.proofs.Common.{◌≡◌, ◌∙◌, ◌⊎◌, ◌≤◌, ℕ, List, [], ◌∷◌, Some, None, map, length, codes, refl, sym, ap, inl, inr, arith, Bor, String, Global}
 use Rattle.serde_json.specs.Data.{Data, null, boolean, number, string, array, object, no_members, member}
 use Rattle.gate_rule.specs.declared.pattern.Pattern.{Pattern}
 use Rattle.gate_rule.specs.Pattern.{text_of}

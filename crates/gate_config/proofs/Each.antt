@@ -1,5 +1,5 @@
 -- Loops over the items of a list, each with its checks.
-use Rattle.std.proofs.Common.{◌≡◌, ◌∙◌, ◌+◌, ◌<◌, ◌≤◌, ℕ, List, [], ◌∷◌, ◌++◌, map, length, get_or, take, drop, nat_le, rules, refl, sym, ap, Option, Some, None, subst, arith, append_assoc, add-zero, zero-add, add_assoc, suc}
+use Rattle.std.proofs.Common.{◌≡◌, ◌∙◌, ◌+◌, ◌<◌, ◌≤◌, ℕ, List, [], ◌∷◌, ◌++◌, map, length, get_or, take, drop, nat_le, rules, refl, sym, ap, Option, Some, subst, arith, append_assoc, add-zero, zero-add, suc}
 use Rattle.std.specs.List.{flat_map, filter_map, enumerate_from}
 use Rattle.std.proofs.lemmas.List.{append-nil, map-append, map-id, take_more, take_all, take-append-drop, length-map, length-take-le}
 use Rattle.gate_config.specs.declared.fault.ConfigFault.{ConfigFault}

@@ -1,9 +1,9 @@
 -- The first fault of lists of checks that are joined.
-use Rattle.std.proofs.Common.{◌≡◌, ◌⊎◌, ◌++◌, List, [], ◌∷◌, Result, Ok, Err, inl, inr, refl, sym, subst}
+use Rattle.std.proofs.Common.{◌≡◌, ◌++◌, List, [], ◌∷◌, Result, Ok, Err, inl, inr, sym, subst}
 use Rattle.std.specs.Result.{IsErrAnd}
 use Rattle.gate_config.specs.declared.fault.ConfigFault.{ConfigFault}
 use Rattle.gate_config.specs.declared.fault.ConfigFault.TheVariants as fault
-use Rattle.gate_config.specs.Faults.{Check, Passes, Fails, AllPass, IsFirstFault, IsFaultOf, HasPassed, HasFault, Reads}
+use Rattle.gate_config.specs.Faults.{Check, AllPass, IsFirstFault, IsFaultOf, HasPassed, HasFault, Reads}
 
 -- IsFaultOf is a map of IsFirstFault
 over_faults : (xs ys : List Check) → ((found : ConfigFault) → IsFirstFault xs found → IsFirstFault ys found) → (found : ConfigFault) → IsFaultOf xs found → IsFaultOf ys found

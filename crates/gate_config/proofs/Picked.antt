@@ -1,5 +1,5 @@
 -- Loops that pick some of the items of a list.
-use Rattle.std.proofs.Common.{◌≡◌, ◌∙◌, ◌+◌, ◌<◌, ℕ, suc, List, [], ◌∷◌, ◌++◌, Bool, true, false, cond, Option, Some, None, map, length, get_or, take, refl, sym, ap, arith, append_assoc, add-zero, zero-add, option_map, option_to_list}
+use Rattle.std.proofs.Common.{◌≡◌, ◌∙◌, ◌+◌, ◌<◌, ℕ, List, [], ◌∷◌, ◌++◌, true, false, cond, Option, Some, None, map, length, get_or, take, refl, sym, ap, arith, append_assoc, add-zero, zero-add, option_map, option_to_list}
 use Rattle.std.specs.List.{filter_map, cons_option, enumerate_from}
 use Rattle.std.proofs.lemmas.List.{append-nil, map-append}
 use Rattle.serde_json.specs.Data.{Data}

@@ -1,7 +1,7 @@
 -- A JSON value's items and keys, as lists.
-use Rattle.std.proofs.Common.{◌≡◌, ◌∙◌, ℕ, List, [], ◌∷◌, map, refl, sym, ap, Bor, String, Global, string_bytes}
+use Rattle.std.proofs.Common.{◌≡◌, ◌∙◌, List, [], ◌∷◌, map, refl, ap, Bor, String, Global, string_bytes}
 use Rattle.serde_json.specs.Data.{Data}
-use Rattle.serde_json.specs.View.{view, items_view, members_view, items_of, members_of}
+use Rattle.serde_json.specs.View.{view, items_view, members_view, items_of}
 use Rattle.serde_json.specs.declared.value.Value.{Value}
 use Rattle.gate_config.specs.Entry.{key_view}
 use Rattle.gate_config.specs.Parts.{items_in, keys_in}

@@ -21,7 +21,13 @@ use serde_json::Value;
 use serde_json::error::Category;
 use std::alloc::Global;
 
-/// Reads a configuration from the bytes of a document.
+/// Reads a configuration from the bytes of a document: a JSON object with `tenants`, a list, and `config`, an object
+/// from the name of a tenant to the list of its items (Zuul's documentation, "Tenant Configuration" and "Pipeline
+/// Definition", in this project's profile).
+///
+/// A fault is the first in reading order: the document, each tenant with its connections in byte order, then each
+/// tenant's items, and among these the pipelines with their rules. `Memory` comes where memory was refused, at
+/// whichever point.
 pub fn read_config(alloc: Global, bytes: &[u8]) -> Result<Config, ConfigFault>
     ensures read { IfOk result (λ config. (d : Data) × (json_of bytes.now ≡ Some d) × IsReadFrom d config) }
     ensures passed { OnOk result (AllPass (checks_of bytes.now)) }

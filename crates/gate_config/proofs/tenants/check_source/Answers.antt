@@ -1,4 +1,4 @@
-use Rattle.std.proofs.Common.{◌≡◌, ◌∙◌, option_map, subst, rules}
+use Rattle.std.proofs.Common.{◌∙◌, option_map, subst, rules}
 use Rattle.serde_json.specs.View.{view}
 use Rattle.gate_config.specs.Checks.{listing_checks}
 use Rattle.gate_config.specs.Faults.{Tests}
