@@ -1,12 +1,16 @@
 -- What a document says, once it was checked.
-use Rattle.std.specs.Prelude.{ℕ, List, [], ◌∷◌, ◌++◌, Bool, ◌&&◌, not, Option, Some, None, is_none, option_map, option_and_then, filter, map, codes, if◌then◌else◌}
+use Rattle.std.specs.Prelude.{ℕ, List, [], ◌++◌, Bool, ◌&&◌, Option, Some, None, is_none, option_map, option_and_then, option_to_list, map, codes, if◌then◌else◌}
 use Rattle.std.specs.List.{filter_map, flat_map, enumerate_from}
 use Rattle.std.specs.Str.{bytes_eq}
-use Rattle.serde_json.specs.Data.{Data, null, boolean, number, string, array, object}
-use Rattle.serde_json.specs.Find.{get}
+use Rattle.serde_json.specs.Data.{Data, Items}
+use Rattle.serde_json.specs.Find.{get, as_str, as_array}
 use Rattle.gate_record.specs.declared.ids.ManagerKind.{ManagerKind}
 use Rattle.gate_record.specs.declared.ids.ManagerKind.TheVariants.{Independent, Dependent}
-use Rattle.gate_config.specs.Parts.{is_object, items_of, members_of, optional, text_of_member, texts_in, items_in}
+use Rattle.gate_config.specs.Parts.{is_object, items_of, keys_of, optional, optional_in, text_of_member, texts_in, items_in}
+
+-- what is picked of the values, each with the position of the value that it was picked of
+abbrev pub picked : (Data → Option Data) → List Data → List (ℕ × Data)
+picked pick values = filter_map (λ (entry : ℕ × Data). option_map (λ found. (entry.0, found)) (pick entry.1)) (enumerate_from 0 values)
 
 -- ---- tenants
 
@@ -14,20 +18,26 @@ use Rattle.gate_config.specs.Parts.{is_object, items_of, members_of, optional, t
 abbrev pub is_ignored : Data → Bool
 is_ignored entry = is_object entry && (is_none (optional (codes "tenant") entry) && is_none (get (codes "name") entry))
 
+abbrev pub tenant_at : Data → Option Data
+tenant_at entry = if is_ignored entry then None else Some entry
+
 -- the entries of `tenants` that aren't ignored, with their positions
 abbrev pub tenant_entries : Data → List (ℕ × Data)
-tenant_entries document = filter (λ (entry : ℕ × Data). not (is_ignored entry.1)) (enumerate_from 0 (items_of (get (codes "tenants") document)))
+tenant_entries document = picked tenant_at (items_of (get (codes "tenants") document))
 
 abbrev pub name_of : Data → List ℕ
 name_of value = text_of_member (codes "name") value
 
--- the connections that a tenant lists, by name, with what stands there
-abbrev pub sources_of : Data → List (List ℕ × Data)
-sources_of tenant = members_of (optional (codes "source") tenant)
+-- the names of the connections that a tenant lists
+abbrev pub sources_of : Data → List (List ℕ)
+sources_of tenant = keys_of (optional (codes "source") tenant)
 
 -- the names of the connections, by number
+abbrev pub names_in : List (ℕ × Data) → List (List ℕ)
+names_in entries = flat_map (λ (entry : ℕ × Data). sources_of entry.1) entries
+
 abbrev pub connection_names : Data → List (List ℕ)
-connection_names document = flat_map (λ (entry : ℕ × Data). map (λ (source : List ℕ × Data). source.0) (sources_of entry.1)) (tenant_entries document)
+connection_names document = names_in (tenant_entries document)
 
 -- the projects that are listed under a connection
 abbrev pub projects_in : Data → List (List ℕ)
@@ -42,12 +52,12 @@ projects_under tenant connection =
 -- ---- pipelines
 
 -- the items of a tenant's list in `config`
-abbrev pub config_items : Data → List ℕ → List Data
-config_items document tenant = items_of (option_and_then (optional tenant) (get (codes "config") document))
+abbrev pub config_items : Option Data → List ℕ → List Data
+config_items config tenant = items_of (optional_in tenant config)
 
 -- the pipelines among items, with the positions of these
 abbrev pub pipeline_items : List Data → List (ℕ × Data)
-pipeline_items items = filter_map (λ (entry : ℕ × Data). option_map (λ pipeline. (entry.0, pipeline)) (optional (codes "pipeline") entry.1)) (enumerate_from 0 items)
+pipeline_items items = picked (optional (codes "pipeline")) items
 
 -- the manager that a text names
 abbrev pub manager_named : List ℕ → Option ManagerKind
@@ -55,26 +65,25 @@ manager_named text =
     if bytes_eq text (codes "independent") then Some Independent
     else (if bytes_eq text (codes "dependent") then Some Dependent else None)
 
+abbrev pub texts_of_patterns : Option Items → Data → List (List ℕ)
+texts_of_patterns (Some items) value = texts_in (items_in items)
+texts_of_patterns None value = option_to_list (as_str value)
+
 -- the texts of a pattern attribute: one text, or those of a list
 abbrev pub pattern_texts : Option Data → List (List ℕ)
 pattern_texts None = []
-pattern_texts (Some (string text)) = text ∷ []
-pattern_texts (Some (array values)) = texts_in (items_in values)
-pattern_texts (Some (object ms)) = []
-pattern_texts (Some null) = []
-pattern_texts (Some (boolean b)) = []
-pattern_texts (Some (number n)) = []
+pattern_texts (Some value) = texts_of_patterns (as_array value) value
 
 -- the texts of a rule's patterns, by attribute
 pub record RuleTexts : Type 0 where
   pub event : List (List ℕ)
 
 abbrev pub rule_texts : Data → RuleTexts
-rule_texts rule = record { event = pattern_texts (get (codes "event") rule) }
+rule_texts rule = record { event = pattern_texts (optional (codes "event") rule) }
 
--- the rules of a pipeline for the connection of this name
-abbrev pub rules_under : Data → List ℕ → List RuleTexts
-rules_under pipeline connection = map rule_texts (items_of (option_and_then (optional connection) (optional (codes "trigger") pipeline)))
+-- the rules of a trigger for the connection of this name
+abbrev pub rules_under : Option Data → List ℕ → List RuleTexts
+rules_under trigger connection = map rule_texts (items_of (optional_in connection trigger))
 
 -- a pipeline as the document has it, with its rules by connection number
 pub record PipelineTexts : Type 0 where
@@ -82,11 +91,11 @@ pub record PipelineTexts : Type 0 where
   pub manager : Option ManagerKind
   pub rules : List (List RuleTexts)
 
-abbrev pub pipeline_texts : List (List ℕ) → Data → PipelineTexts
-pipeline_texts connections pipeline = record {
-  name = name_of pipeline;
-  manager = manager_named (text_of_member (codes "manager") pipeline);
-  rules = map (rules_under pipeline) connections;
+abbrev pub pipeline_texts : List (List ℕ) → ℕ × Data → PipelineTexts
+pipeline_texts connections entry = record {
+  name = name_of entry.1;
+  manager = manager_named (text_of_member (codes "manager") entry.1);
+  rules = map (rules_under (optional (codes "trigger") entry.1)) connections;
 }
 
 -- a tenant as the document has it, with its sources by connection number
@@ -95,13 +104,13 @@ pub record TenantTexts : Type 0 where
   pub sources : List (Option (List (List ℕ)))
   pub pipelines : List PipelineTexts
 
-abbrev pub tenant_texts : Data → List (List ℕ) → Data → TenantTexts
-tenant_texts document connections tenant = record {
-  name = name_of tenant;
-  sources = map (projects_under tenant) connections;
-  pipelines = map (λ (entry : ℕ × Data). pipeline_texts connections entry.1) (pipeline_items (config_items document (name_of tenant)));
+abbrev pub tenant_texts : Option Data → List (List ℕ) → ℕ × Data → TenantTexts
+tenant_texts config connections entry = record {
+  name = name_of entry.1;
+  sources = map (projects_under entry.1) connections;
+  pipelines = map (pipeline_texts connections) (pipeline_items (config_items config (name_of entry.1)));
 }
 
 -- the tenants, by number
 abbrev pub tenants_in : Data → List TenantTexts
-tenants_in document = map (λ (entry : ℕ × Data). tenant_texts document (connection_names document) entry.1) (tenant_entries document)
+tenants_in document = map (tenant_texts (get (codes "config") document) (connection_names document)) (tenant_entries document)

@@ -1,5 +1,6 @@
 pub mod Checks
 pub mod Document
+pub mod Entry
 pub mod Faults
 pub mod Lookups
 pub mod Parts

@@ -27,17 +27,17 @@ abbrev pub items_in : Items → List Data
 items_in no_items = []
 items_in (item value items) = value ∷ items_in items
 
-abbrev pub members_in : Members → List (List ℕ × Data)
-members_in no_members = []
-members_in (member key value members) = (key, value) ∷ members_in members
+abbrev pub keys_in : Members → List (List ℕ)
+keys_in no_members = []
+keys_in (member key value members) = key ∷ keys_in members
 
 -- the items of a list, in order
 abbrev pub items_of : Option Data → List Data
 items_of value = unwrap_or (option_map items_in (option_and_then as_array value)) []
 
--- the members of an object, in byte order of their keys
-abbrev pub members_of : Option Data → List (List ℕ × Data)
-members_of value = unwrap_or (option_map members_in (option_and_then as_object value)) []
+-- the keys of an object, in byte order
+abbrev pub keys_of : Option Data → List (List ℕ)
+keys_of value = unwrap_or (option_map keys_in (option_and_then as_object value)) []
 
 -- null counts as absent
 abbrev pub unless_null : Data → Option Data
@@ -51,6 +51,10 @@ unless_null (object members) = Some (object members)
 -- an optional member
 abbrev pub optional : List ℕ → Data → Option Data
 optional key value = option_and_then unless_null (get key value)
+
+-- an optional member of what may be absent
+abbrev pub optional_in : List ℕ → Option Data → Option Data
+optional_in key value = option_and_then (optional key) value
 
 -- the text of a required member, once it was checked
 abbrev pub text_of_member : List ℕ → Data → List ℕ

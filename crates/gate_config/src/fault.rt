@@ -1,4 +1,8 @@
-use gate_record::Text;
+ghost use Rattle.std.specs.Prelude.{◌≡◌};
+ghost use Rattle.gate_config.specs.declared.fault.ConfigFault.TheVariants.{Memory as Refused};
+
+use gate_record::{Memory, Text};
+use std::alloc::{AllocError, AllocFailed};
 
 /// Why a document is no configuration: the first fault in reading order. A place is the path of keys joined by `.`,
 /// with list positions as `[n]` from 0; the whole document is the empty text.
@@ -20,4 +24,28 @@ pub enum ConfigFault {
     Pattern(Text),
     /// A name that stands already.
     Repeated(Text),
+}
+
+impl From<Memory> for ConfigFault {
+    ghost from_gives = { λ _ fault. fault ≡ Refused };
+
+    fn from(_refused: Memory) -> ConfigFault {
+        ConfigFault::Memory
+    }
+}
+
+impl From<AllocError> for ConfigFault {
+    ghost from_gives = { λ _ fault. fault ≡ Refused };
+
+    fn from(_refused: AllocError) -> ConfigFault {
+        ConfigFault::Memory
+    }
+}
+
+impl<T: Drop> From<AllocFailed<T>> for ConfigFault {
+    ghost from_gives = { λ _ fault. fault ≡ Refused };
+
+    fn from(_refused: AllocFailed<T>) -> ConfigFault {
+        ConfigFault::Memory
+    }
 }

@@ -1,0 +1,6 @@
+pub mod Attributes
+pub mod Each
+pub mod Faults
+pub mod Outcome
+pub mod Picked
+pub mod Views

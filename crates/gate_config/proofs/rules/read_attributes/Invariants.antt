@@ -1,0 +1,6 @@
+use Rattle.serde_json.specs.View.{view}
+use Rattle.gate_config.proofs.Attributes.{AttributesSoFar}
+use Rattle.gate_config.proofs.rules.read_attributes.Given as goal
+
+abbrev pub invariant-loop-key : goal.invariant-loop-key
+invariant-loop-key l = AttributesSoFar l.here (view l.rule) l.keys l.key-index l.event

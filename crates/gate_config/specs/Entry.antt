@@ -1,0 +1,13 @@
+-- A value and the position of the item that it was found at; a key.
+use Rattle.std.specs.Prelude.{ℕ, List, String, string_bytes}
+use Rattle.std.specs.Borrow.{Bor}
+use Rattle.std.specs.declared.alloc.Global.{Global}
+use Rattle.serde_json.specs.Data.{Data}
+use Rattle.serde_json.specs.View.{view}
+use Rattle.gate_config.specs.declared.document.Entry.{Entry}
+
+abbrev pub entry_view : Entry → ℕ × Data
+entry_view entry = (entry.position, view entry.value.now)
+
+abbrev pub key_view : Bor (String Global) → List ℕ
+key_view key = string_bytes key.now

@@ -1,0 +1,50 @@
+ghost use Rattle.std.specs.Prelude.{◌≡◌, ℕ, IfOk, map};
+ghost use Rattle.serde_json.specs.Data.{Data};
+ghost use Rattle.serde_json.specs.View.{view};
+ghost use Rattle.gate_config.specs.Entry.{entry_view};
+ghost use Rattle.gate_config.specs.Document.{is_ignored, tenant_at, pipeline_items, picked};
+
+use crate::parts::member;
+use gate_record::Memory;
+use serde_json::Value;
+use std::alloc::Global;
+
+// A value, with the position of the item that it was found at.
+#[derive(Clone, Copy)]
+pub(crate) struct Entry<'v> {
+    pub(crate) position: usize,
+    pub(crate) value: &'v Value,
+}
+
+// The tenants among the items of `tenants`.
+pub(crate) fn tenant_entries(alloc: Global, items: &[Value]) -> Result<Vec<Entry<'_>>, Memory>
+    ensures { IfOk result (λ entries. map entry_view entries.items ≡ picked tenant_at (map view items.now)) }
+{
+    let mut entries = Vec::new(alloc);
+    for (position, value) in items.iter().enumerate() {
+        if !is_no_tenant(value) {
+            entries.push(Entry { position, value })?;
+        }
+    }
+    Ok(entries)
+}
+
+// An object that has neither `tenant` nor `name` is ignored.
+fn is_no_tenant(entry: &Value) -> bool
+    ensures { result ≡ is_ignored (view entry.now) }
+{
+    entry.is_object() && member(entry, "tenant").is_none() && entry.get("name").is_none()
+}
+
+// The pipelines among the items of a tenant's list in `config`.
+pub(crate) fn pipeline_entries(alloc: Global, items: &[Value]) -> Result<Vec<Entry<'_>>, Memory>
+    ensures { IfOk result (λ entries. map entry_view entries.items ≡ pipeline_items (map view items.now)) }
+{
+    let mut entries = Vec::new(alloc);
+    for (position, item) in items.iter().enumerate() {
+        if let Some(value) = member(item, "pipeline") {
+            entries.push(Entry { position, value })?;
+        }
+    }
+    Ok(entries)
+}

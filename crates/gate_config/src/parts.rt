@@ -1,0 +1,177 @@
+ghost use Rattle.std.specs.Prelude.{◌≡◌, ◌∷◌, [], IfOk, Some, map, option_map};
+ghost use Rattle.serde_json.specs.Find.{get, as_array};
+ghost use Rattle.serde_json.specs.View.{view, members_view};
+ghost use Rattle.gate_config.specs.Entry.{key_view};
+ghost use Rattle.gate_config.specs.Faults.{Asks, Reads, Tests};
+ghost use Rattle.gate_config.specs.Parts.{is_object, is_list, is_text, is_there, is_fine, items_in, keys_in, items_of, keys_of, unless_null, optional, optional_in, text_of_member};
+ghost use Rattle.gate_config.specs.Places.{below};
+ghost use Rattle.gate_config.specs.declared.fault.ConfigFault.TheVariants.{Shape};
+
+use crate::fault::ConfigFault;
+use crate::places::member_place;
+use gate_record::{Memory, Text};
+use serde_json::{Map, Value};
+use std::alloc::Global;
+
+// The value, if it isn't null.
+fn present(value: &Value) -> Option<&Value>
+    ensures { option_map (λ v. view v.now) result ≡ unless_null (view value.now) }
+{
+    match value {
+        Value::Null => None,
+        _ => Some(value),
+    }
+}
+
+// An optional member.
+pub(crate) fn member<'v>(value: &'v Value, key: &str) -> Option<&'v Value>
+    ensures { option_map (λ v. view v.now) result ≡ optional key.now (view value.now) }
+{
+    match value.get(key) {
+        Some(found) => present(found),
+        None => None,
+    }
+}
+
+// An optional member of what may be absent.
+pub(crate) fn member_of<'v>(value: Option<&'v Value>, key: &str) -> Option<&'v Value>
+    ensures { option_map (λ v. view v.now) result
+        ≡ optional_in key.now (option_map (λ v. view v.now) value.entry) }
+{
+    match value {
+        Some(value) => member(value, key),
+        None => None,
+    }
+}
+
+// The items, if the value is a list.
+#[tactic(auto, using(crate::proofs::Views::items_of_view))]
+pub(crate) fn list(value: &Value) -> Option<&[Value]>
+    ensures { option_map (λ items. map view items.now) result ≡ option_map items_in (as_array (view value.now)) }
+{
+    match value.as_array() {
+        Some(items) => Some(items.as_slice()),
+        None => None,
+    }
+}
+
+// The items of a list; none of another value.
+pub(crate) fn items(value: Option<&Value>) -> &[Value]
+    ensures { map view result.now ≡ items_of (option_map (λ v. view v.now) value.entry) }
+{
+    match value {
+        Some(value) => list(value).unwrap_or(&[]),
+        None => &[],
+    }
+}
+
+// The keys of an object, in byte order; none of another value.
+pub(crate) fn keys(alloc: Global, value: Option<&Value>) -> Result<Vec<&String>, Memory>
+    ensures { IfOk result (λ keys. map key_view keys.items
+        ≡ keys_of (option_map (λ v. view v.now) value.entry)) }
+{
+    match value {
+        Some(value) => match value.as_object() {
+            Some(members) => keys_of_members(alloc, members),
+            None => Ok(Vec::new(alloc)),
+        },
+        None => Ok(Vec::new(alloc)),
+    }
+}
+
+fn keys_of_members(alloc: Global, members: &Map<String, Value>) -> Result<Vec<&String>, Memory>
+    ensures { IfOk result (λ keys. map key_view keys.items ≡ keys_in (members_view members.now.entries)) }
+{
+    Ok(members.keys().collect(alloc)?)
+}
+
+// `Shape` at the place where the value is no object.
+pub(crate) fn check_object(alloc: Global, place: &str, value: &Value) -> Result<(), ConfigFault>
+    ensures { Tests (Asks (is_object (view value.now)) (Shape place.now) ∷ []) result }
+{
+    if value.is_object() {
+        return Ok(());
+    }
+    Err(ConfigFault::Shape(Text::copy(alloc, place)?))
+}
+
+// `Shape` at the place where there is a value that is no object.
+pub(crate) fn check_optional_object(
+    alloc: Global,
+    place: &str,
+    value: Option<&Value>,
+) -> Result<(), ConfigFault>
+    ensures { Tests (Asks (is_fine is_object (option_map (λ v. view v.now) value.entry)) (Shape place.now) ∷ [])
+        result }
+{
+    match value {
+        Some(value) => check_object(alloc, place, value),
+        None => Ok(()),
+    }
+}
+
+// The items of an optional list. `Shape` at the place where there is a value that is no list.
+pub(crate) fn optional_list<'v>(
+    alloc: Global,
+    place: &str,
+    value: Option<&'v Value>,
+) -> Result<&'v [Value], ConfigFault>
+    ensures { Reads (Asks (is_fine is_list (option_map (λ v. view v.now) value.entry)) (Shape place.now) ∷ [])
+        (λ items. map view items.now ≡ items_of (option_map (λ v. view v.now) value.entry)) result }
+{
+    match value {
+        Some(value) => match list(value) {
+            Some(items) => Ok(items),
+            None => Err(ConfigFault::Shape(Text::copy(alloc, place)?)),
+        },
+        None => Ok(&[]),
+    }
+}
+
+// The text of a required member. `Shape` at its place where it is missing or no text.
+pub(crate) fn required_text<'v>(
+    alloc: Global,
+    place: &str,
+    value: &'v Value,
+    key: &str,
+) -> Result<&'v str, ConfigFault>
+    ensures { Reads (Asks (is_there is_text (get key.now (view value.now))) (Shape (below place.now key.now)) ∷ [])
+        (λ text. text.now ≡ text_of_member key.now (view value.now)) result }
+{
+    match value.get(key).and_then(Value::as_str) {
+        Some(text) => Ok(text),
+        None => Err(ConfigFault::Shape(member_place(alloc, place, key)?)),
+    }
+}
+
+// The items of a required list. `Shape` at its place where it is missing or no list.
+pub(crate) fn required_list<'v>(
+    alloc: Global,
+    place: &str,
+    value: &'v Value,
+    key: &str,
+) -> Result<&'v [Value], ConfigFault>
+    ensures { Reads (Asks (is_there is_list (get key.now (view value.now))) (Shape (below place.now key.now)) ∷ [])
+        (λ items. map view items.now ≡ items_of (get key.now (view value.now))) result }
+{
+    match value.get(key).and_then(list) {
+        Some(items) => Ok(items),
+        None => Err(ConfigFault::Shape(member_place(alloc, place, key)?)),
+    }
+}
+
+// A required object. `Shape` at its place where it is missing or no object.
+pub(crate) fn required_object<'v>(
+    alloc: Global,
+    place: &str,
+    value: &'v Value,
+    key: &str,
+) -> Result<&'v Value, ConfigFault>
+    ensures { Reads (Asks (is_there is_object (get key.now (view value.now))) (Shape (below place.now key.now)) ∷ [])
+        (λ found. Some (view found.now) ≡ get key.now (view value.now)) result }
+{
+    match value.get(key) {
+        Some(found) if found.is_object() => Ok(found),
+        _ => Err(ConfigFault::Shape(member_place(alloc, place, key)?)),
+    }
+}

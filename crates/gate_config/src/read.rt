@@ -1,0 +1,71 @@
+ghost use Rattle.std.specs.Prelude.{◌≡◌, Some, IfOk, IfErr, OnOk, map};
+ghost use Rattle.serde_json.specs.Data.{Data};
+ghost use Rattle.serde_json.specs.View.{view};
+ghost use Rattle.gate_record.specs.Json.{json_of};
+ghost use Rattle.gate_config.specs.Checks.{checks_of, document_checks, entries_checks};
+ghost use Rattle.gate_config.specs.Document.{names_in, tenant_texts};
+ghost use Rattle.gate_config.specs.Entry.{entry_view};
+ghost use Rattle.gate_config.specs.Faults.{AllPass, IsFaultOf, Reads};
+ghost use Rattle.gate_config.specs.Texts.{IsReadFrom, texts_of_tenant};
+
+use crate::config::Config;
+use crate::document::{Entry, tenant_entries};
+use crate::fault::ConfigFault;
+use crate::limits::MAX_TENANTS;
+use crate::parts::{check_object, required_list, required_object};
+use crate::pipelines::read_tenants;
+use crate::sources::connection_names;
+use crate::tenants::check_tenants;
+use gate_record::Text;
+use serde_json::Value;
+use serde_json::error::Category;
+use std::alloc::Global;
+
+/// Reads a configuration from the bytes of a document: a JSON object with `tenants`, a list, and `config`, an object
+/// from the name of a tenant to the list of its items (Zuul's documentation, "Tenant Configuration" and "Pipeline
+/// Definition", in this project's profile).
+///
+/// A fault is the first in reading order: the document, each tenant with its connections in byte order, then each
+/// tenant's items, and among these the pipelines with their rules. `Memory` comes where memory was refused, at
+/// whichever point.
+pub fn read_config(alloc: Global, bytes: &[u8]) -> Result<Config, ConfigFault>
+    ensures read { IfOk result (λ config. (d : Data) × (json_of bytes.now ≡ Some d) × IsReadFrom d config) }
+    ensures passed { OnOk result (AllPass (checks_of bytes.now)) }
+    ensures fault { IfErr result (λ fault. IsFaultOf (checks_of bytes.now) fault) }
+{
+    match Value::from_slice(alloc, bytes) {
+        Ok(document) => read_document(alloc, &document),
+        Err(error) => match error.classify() {
+            Category::Memory => Err(ConfigFault::Memory),
+            _ => Err(ConfigFault::NotJson),
+        },
+    }
+}
+
+fn read_document(alloc: Global, document: &Value) -> Result<Config, ConfigFault>
+    ensures { Reads (document_checks (view document.now)) (IsReadFrom (view document.now)) result }
+{
+    check_object(alloc, "", document)?;
+    let items = required_list(alloc, "", document, "tenants")?;
+    let config = required_object(alloc, "", document, "config")?;
+    let entries = tenant_entries(alloc, items)?;
+    read_entries(alloc, config, entries.as_slice())
+}
+
+// All tenants, and then their lists in `config`.
+fn read_entries(alloc: Global, config: &Value, entries: &[Entry<'_>]) -> Result<Config, ConfigFault>
+    ensures { Reads (entries_checks (Some (view config.now)) (map entry_view entries.now))
+        (λ read. (read.connections ≡ names_in (map entry_view entries.now))
+        × (map texts_of_tenant read.tenants ≡ map (tenant_texts (Some (view config.now)) (names_in (map entry_view entries.now))) (map entry_view entries.now))) result }
+{
+    if entries.len() > MAX_TENANTS {
+        return Err(ConfigFault::Limit(Text::copy(alloc, "tenants")?));
+    }
+    check_tenants(alloc, entries)?;
+    let connections = connection_names(alloc, entries)?;
+    let tenants = read_tenants(alloc, config, connections.as_slice(), entries)?;
+    Ok(Config {
+        connections,
+        tenants,
+    })
+}

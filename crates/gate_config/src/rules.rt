@@ -1,0 +1,164 @@
+ghost use Rattle.std.specs.Prelude.{◌≡◌, ◌∷◌, [], Some, map, option_map, codes};
+ghost use Rattle.std.specs.List.{flat_map};
+ghost use Rattle.serde_json.specs.View.{view};
+ghost use Rattle.gate_rule.specs.Pattern.{text_of};
+ghost use Rattle.gate_config.specs.Checks.{each, trigger_checks, connection_checks, rule_checks, rule_checks_at, attribute_checks, is_asking};
+ghost use Rattle.gate_config.specs.Document.{rule_texts, rules_under, pattern_texts};
+ghost use Rattle.gate_config.specs.Entry.{key_view};
+ghost use Rattle.gate_config.specs.Faults.{Asks, Reads, Tests};
+ghost use Rattle.gate_config.specs.Parts.{is_there, keys_of, optional};
+ghost use Rattle.gate_config.specs.Places.{below};
+ghost use Rattle.gate_config.specs.Texts.{texts_of_rule};
+ghost use Rattle.gate_config.specs.declared.fault.ConfigFault.TheVariants.{Shape};
+
+use crate::fault::ConfigFault;
+use crate::limits::MAX_RULES;
+use crate::parts::{
+    check_object, check_optional_object, keys, list, member, member_of, optional_list,
+};
+use crate::patterns::read_patterns;
+use crate::places::{item_place, member_place};
+use gate_record::{Sequence, Text};
+use gate_rule::{Pattern, Rule};
+use serde_json::Value;
+use std::alloc::Global;
+
+// The trigger of a pipeline: its rules by connection number.
+pub(crate) fn read_trigger(
+    alloc: Global,
+    connections: &[Text],
+    here: &str,
+    pipeline: &Value,
+) -> Result<Sequence<Sequence<Rule>>, ConfigFault>
+    ensures { Reads (trigger_checks connections.now here.now (view pipeline.now))
+        (λ rules. map (map texts_of_rule) rules ≡ map (rules_under (optional (codes "trigger") (view pipeline.now))) connections.now) result }
+{
+    let place = member_place(alloc, here, "trigger")?;
+    let trigger = member(pipeline, "trigger");
+    check_optional_object(alloc, place.as_str(), trigger)?;
+    read_connections(alloc, connections, place.as_str(), trigger)
+}
+
+fn read_connections(
+    alloc: Global,
+    connections: &[Text],
+    place: &str,
+    trigger: Option<&Value>,
+) -> Result<Sequence<Sequence<Rule>>, ConfigFault>
+    ensures { Reads (flat_map (connection_checks place.now (option_map (λ v. view v.now) trigger.entry)) connections.now)
+        (λ rules. map (map texts_of_rule) rules ≡ map (rules_under (option_map (λ v. view v.now) trigger.entry)) connections.now) result }
+{
+    let mut rules = Vec::new(alloc);
+    for connection in connections {
+        let read = read_connection(alloc, place, trigger, connection.as_str())?;
+        rules.push(read)?;
+    }
+    Ok(Sequence::new(rules))
+}
+
+// The rules for one connection.
+fn read_connection(
+    alloc: Global,
+    place: &str,
+    trigger: Option<&Value>,
+    connection: &str,
+) -> Result<Sequence<Rule>, ConfigFault>
+    ensures { Reads (connection_checks place.now (option_map (λ v. view v.now) trigger.entry) connection.now)
+        (λ rules. map texts_of_rule rules ≡ rules_under (option_map (λ v. view v.now) trigger.entry) connection.now) result }
+{
+    let here = member_place(alloc, place, connection)?;
+    let items = optional_list(alloc, here.as_str(), member_of(trigger, connection))?;
+    if items.len() > MAX_RULES {
+        return Err(ConfigFault::Limit(here));
+    }
+    read_rules(alloc, here.as_str(), items)
+}
+
+fn read_rules(alloc: Global, place: &str, items: &[Value]) -> Result<Sequence<Rule>, ConfigFault>
+    ensures { Reads (each (rule_checks place.now) (map view items.now))
+        (λ rules. map texts_of_rule rules ≡ map rule_texts (map view items.now)) result }
+{
+    let mut rules = Vec::new(alloc);
+    for (position, item) in items.iter().enumerate() {
+        let rule = read_item(alloc, place, position, item)?;
+        rules.push(rule)?;
+    }
+    Ok(Sequence::new(rules))
+}
+
+// The rule at this position of a list.
+fn read_item(alloc: Global, place: &str, position: usize, item: &Value) -> Result<Rule, ConfigFault>
+    ensures { Reads (rule_checks place.now position (view item.now)) (λ rule. texts_of_rule rule ≡ rule_texts (view item.now)) result }
+{
+    let here = item_place(alloc, place, position)?;
+    read_rule(alloc, here.as_str(), item)
+}
+
+// A rule: an object of attributes, of which `event` is required.
+fn read_rule(alloc: Global, here: &str, rule: &Value) -> Result<Rule, ConfigFault>
+    ensures { Reads (rule_checks_at here.now (view rule.now)) (λ read. texts_of_rule read ≡ rule_texts (view rule.now)) result }
+{
+    check_object(alloc, here, rule)?;
+    let keys = keys(alloc, Some(rule))?;
+    let event = read_attributes(alloc, here, rule, keys.as_slice())?;
+    check_listed(alloc, here, rule)?;
+    Ok(Rule { event })
+}
+
+// The patterns of `event`, with the other attributes tested in byte order.
+fn read_attributes(
+    alloc: Global,
+    here: &str,
+    rule: &Value,
+    keys: &[&String],
+) -> Result<Sequence<Pattern>, ConfigFault>
+    requires { map key_view keys.now ≡ keys_of (Some (view rule.now)) }
+    ensures { Reads (flat_map (attribute_checks here.now (view rule.now)) (map key_view keys.now))
+        (λ event. map text_of event ≡ pattern_texts (optional (codes "event") (view rule.now))) result }
+{
+    let mut event = Sequence::empty(alloc);
+    for key in keys {
+        event = read_attribute(alloc, here, rule, key.as_str())?;
+    }
+    Ok(event)
+}
+
+// The attribute of a rule at this key. `Attribute` at a key other than `event`.
+fn read_attribute(
+    alloc: Global,
+    here: &str,
+    rule: &Value,
+    key: &str,
+) -> Result<Sequence<Pattern>, ConfigFault>
+    ensures { Reads (attribute_checks here.now (view rule.now) key.now)
+        (λ event. map text_of event ≡ pattern_texts (optional (codes "event") (view rule.now))) result }
+{
+    let place = member_place(alloc, here, key)?;
+    if key == "event" {
+        read_patterns(alloc, place.as_str(), member(rule, "event"))
+    } else {
+        Err(ConfigFault::Attribute(place))
+    }
+}
+
+// `Shape` at an `event` that is missing, null or an empty list.
+fn check_listed(alloc: Global, here: &str, rule: &Value) -> Result<(), ConfigFault>
+    ensures { Tests (Asks (is_there is_asking (optional (codes "event") (view rule.now))) (Shape (below here.now (codes "event"))) ∷ []) result }
+{
+    if is_listed(member(rule, "event")) {
+        return Ok(());
+    }
+    Err(ConfigFault::Shape(member_place(alloc, here, "event")?))
+}
+
+fn is_listed(value: Option<&Value>) -> bool
+    ensures { result ≡ is_there is_asking (option_map (λ v. view v.now) value.entry) }
+{
+    match value {
+        None => false,
+        Some(value) => match list(value) {
+            Some(items) => !items.is_empty(),
+            None => true,
+        },
+    }
+}
