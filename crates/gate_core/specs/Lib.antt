@@ -4,6 +4,7 @@ pub mod Delivery
 pub mod Faults
 pub mod History
 pub mod Moves
+pub mod Output
 pub mod Passes
 pub mod Pipelines
 pub mod Promises

@@ -3,6 +3,7 @@
 
 mod answer;
 mod connection;
+mod output;
 mod pass;
 mod pipeline;
 mod report;
@@ -15,6 +16,7 @@ mod world;
 
 pub use answer::Answer;
 pub use connection::Connection;
+pub use output::push_answers;
 pub use pass::{Pass, Phase, Taking};
 pub use pipeline::Pipeline;
 pub use report::{ConnectionReport, EndCause, PipelineReport, RunReport};

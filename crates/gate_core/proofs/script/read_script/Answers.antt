@@ -7,9 +7,9 @@ use Rattle.gate_core.proofs.script.read_script.Goals as goal
 pub loop-rest-preserved : goal.loop-rest-preserved
 loop-rest-preserved c = record {
   read =
-    c.loop-rest.invariant.read
-    ∙ ap (λ (ls : List (List ℕ)). followed_by c.loop-rest.steps (steps_from (c.loop-rest.before + 1) ls)) c.first_line.ensures.lines
-    ∙ line_added (line_steps c.first_line.result.0.now) c.loop-rest.steps c.add_line.new.steps (c.loop-rest.before + 1) c.in_ok-add_line.field-0 (steps_from (c.loop-rest.before + 1 + 1) (lines c.first_line.result.1.now)) c.in_ok-add_line.ensures;
+      c.loop-rest.invariant.read
+      ∙ ap (λ (ls : List (List ℕ)). followed_by c.loop-rest.steps (steps_from (c.loop-rest.before + 1) ls)) c.first_line.ensures.lines
+      ∙ line_added (line_steps c.first_line.result.0.now) c.loop-rest.steps c.add_line.new.steps (c.loop-rest.before + 1) c.in_ok-add_line.field-0 (steps_from (c.loop-rest.before + 1 + 1) (lines c.first_line.result.1.now)) c.in_ok-add_line.ensures;
   few = omega (arith, c.first_line.ensures.shorter, c.loop-rest.invariant.few);
 }
 

@@ -10,5 +10,5 @@ returns-in-None c = digit_refused c.args.digits.now c.loop-digit.digit-index (2 
 pub returns : goal.returns
 returns c =
     let whole : c.loop-digit.value ≡ value_of c.args.digits.now =
-        c.loop-digit.invariant.so_far ∙ ap value_of (take_all c.loop-digit.digit-index c.args.digits.now c.loop-digit-test.false) in
+    c.loop-digit.invariant.so_far ∙ ap value_of (take_all c.loop-digit.digit-index c.args.digits.now c.loop-digit-test.false) in
     ap Some whole ∙ fits (value_of c.args.digits.now) (2 ^ 32) (subst (λ (n : ℕ). n < 2 ^ 32) whole c.loop-digit.invariant.small)

@@ -1,0 +1,95 @@
+-- What is printed: the answers and the report.
+use Rattle.std.specs.Prelude.{ℕ, ◌+◌, ◌^◌, ◌<◌, List, [], ◌∷◌, ◌++◌, Bool, length, codes, decimal, flat_map, if◌then◌else◌}
+use Rattle.serde_json.specs.Data.{string}
+use Rattle.serde_json.specs.Written.{compact_text}
+use Rattle.gate_record.specs.declared.ids.Stamp.{Stamp}
+use Rattle.gate_config.specs.declared.config.Config.{Config}
+use Rattle.gate_config.specs.declared.config.PipelineSpec.{PipelineSpec}
+use Rattle.gate_config.specs.declared.config.TenantSpec.{TenantSpec}
+use Rattle.gate_config.specs.Lookups.{connections_of, tenants_of, lists}
+use Rattle.gate_core.specs.declared.answer.Answer.{Answer}
+use Rattle.gate_core.specs.declared.answer.Answer.TheVariants as answer
+use Rattle.gate_core.specs.declared.report.ConnectionReport.{ConnectionReport}
+use Rattle.gate_core.specs.declared.report.EndCause.{EndCause}
+use Rattle.gate_core.specs.declared.report.EndCause.TheVariants as cause
+use Rattle.gate_core.specs.declared.report.PipelineReport.{PipelineReport}
+use Rattle.gate_core.specs.declared.report.RunReport.{RunReport}
+use Rattle.gate_core.specs.History.{numbers_from}
+
+-- a name as compact JSON text
+abbrev pub name_text : List ℕ → List ℕ
+name_text name = compact_text (string name)
+
+-- ---- answers, each on a line
+
+abbrev pub answer_line : Answer → List ℕ
+answer_line (answer.Accepted n) = codes "accepted " ++ decimal n ++ codes "\n"
+answer_line answer.Closed = codes "closed\n"
+answer_line answer.Full = codes "full\n"
+answer_line answer.Moved = codes "moved\n"
+answer_line answer.Idle = codes "idle\n"
+answer_line (answer.Turned stamp) = codes "turned trigger " ++ decimal stamp.conn.0 ++ codes " " ++ decimal stamp.number ++ codes " applied\n"
+answer_line answer.Passed = codes "passed\n"
+
+abbrev pub answer_lines : List Answer → List ℕ
+answer_lines answers = flat_map answer_line answers
+
+-- ---- the report
+
+abbrev pub cause_word : EndCause → List ℕ
+cause_word cause.Unclosed = codes "open"
+cause_word cause.Ended = codes "ended"
+cause_word cause.Stopped = codes "stopped"
+cause_word cause.Failed = codes "failed"
+cause_word cause.Memory = codes "memory"
+
+abbrev pub connection_line : List ℕ → ConnectionReport → List ℕ
+connection_line name report = codes "connection " ++ name_text name ++ codes " accepted " ++ decimal report.accepted ++ codes " " ++ cause_word report.cause ++ codes "\n"
+
+-- a line for each connection, by number
+abbrev pub connection_lines : List (List ℕ) → List ConnectionReport → List ℕ
+connection_lines [] reports = []
+connection_lines (name ∷ names) [] = []
+connection_lines (name ∷ names) (report ∷ reports) = connection_line name report ++ connection_lines names reports
+
+abbrev pub state_word : Bool → List ℕ
+state_word finished = if finished then codes "finished" else codes "running"
+
+abbrev pub number_text : ℕ → List ℕ
+number_text n = codes " " ++ decimal n
+
+-- the numbers of the events that were processed of a connection
+abbrev pub done_line : List ℕ → List ℕ → List ℕ → List ℕ → List ℕ
+done_line tenant pipeline connection numbers =
+    codes "done " ++ name_text tenant ++ codes " " ++ name_text pipeline ++ codes " " ++ name_text connection ++ flat_map number_text numbers ++ codes "\n"
+
+-- a line for each connection that tenant t lists, of those that are numbered from c
+abbrev pub done_lines : Config → ℕ → ℕ → List (List ℕ) → List ℕ → List ℕ → List Stamp → List ℕ
+done_lines config t c [] tenant pipeline stamps = []
+done_lines config t c (name ∷ names) tenant pipeline stamps =
+    (if lists config t c then done_line tenant pipeline name (numbers_from c stamps) else []) ++ done_lines config t (c + 1) names tenant pipeline stamps
+
+abbrev pub pipeline_line : List ℕ → List ℕ → Bool → List ℕ
+pipeline_line tenant pipeline finished = codes "pipeline " ++ name_text tenant ++ codes " " ++ name_text pipeline ++ codes " " ++ state_word finished ++ codes "\n"
+
+-- the lines of a tenant's pipelines
+abbrev pub pipeline_lines : Config → ℕ → List ℕ → List PipelineSpec → List PipelineReport → List ℕ
+pipeline_lines config t tenant [] reports = []
+pipeline_lines config t tenant (spec ∷ specs) [] = []
+pipeline_lines config t tenant (spec ∷ specs) (report ∷ reports) =
+    pipeline_line tenant spec.name report.finished ++ done_lines config t 0 (connections_of config) tenant spec.name report.done ++ pipeline_lines config t tenant specs reports
+
+-- the lines of tenants that are numbered from t
+abbrev pub tenant_lines : Config → ℕ → List TenantSpec → List (List PipelineReport) → List ℕ
+tenant_lines config t [] reports = []
+tenant_lines config t (tenant ∷ tenants) [] = []
+tenant_lines config t (tenant ∷ tenants) (report ∷ reports) = pipeline_lines config t tenant.name tenant.pipelines report ++ tenant_lines config (t + 1) tenants reports
+
+-- a report, as text
+abbrev pub report_text : Config → RunReport → List ℕ
+report_text config report = connection_lines (connections_of config) report.connections ++ tenant_lines config 0 (tenants_of config) report.pipelines
+
+-- the numbers of connections and tenants are u32
+pub record HasNumbers (config : Config) : Type 0 where
+  pub connections : length (connections_of config) < 2 ^ 32
+  pub tenants : length (tenants_of config) < 2 ^ 32
