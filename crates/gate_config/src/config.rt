@@ -18,7 +18,8 @@ pub struct TenantSpec {
     pub name: Text,
     /// By connection number: the projects that it lists there, or nothing where it doesn't list the connection.
     pub(crate) sources: Sequence<Option<Sequence<Text>>>,
-    pub(crate) pipelines: Sequence<PipelineSpec>,
+    /// The pipelines, by number.
+    pub pipelines: Sequence<PipelineSpec>,
 }
 
 /// A pipeline of a tenant (Zuul's documentation, "Pipeline Definition").

@@ -8,6 +8,7 @@ pub mod Output
 pub mod Passes
 pub mod Pipelines
 pub mod Promises
+pub mod Replays
 pub mod Reports
 pub mod Script
 pub mod Small

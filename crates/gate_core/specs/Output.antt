@@ -22,13 +22,22 @@ name_text name = compact_text (string name)
 
 -- ---- answers, each on a line
 
+abbrev pub number_text : ℕ → List ℕ
+number_text n = codes " " ++ decimal n
+
+abbrev pub turned_start : ℕ → List ℕ
+turned_start conn = codes "turned trigger " ++ decimal conn
+
+abbrev pub turned_line : ℕ → ℕ → List ℕ
+turned_line conn number = turned_start conn ++ (number_text number ++ codes " applied\n")
+
 abbrev pub answer_line : Answer → List ℕ
 answer_line (answer.Accepted n) = codes "accepted " ++ decimal n ++ codes "\n"
 answer_line answer.Closed = codes "closed\n"
 answer_line answer.Full = codes "full\n"
 answer_line answer.Moved = codes "moved\n"
 answer_line answer.Idle = codes "idle\n"
-answer_line (answer.Turned stamp) = codes "turned trigger " ++ decimal stamp.conn.0 ++ codes " " ++ decimal stamp.number ++ codes " applied\n"
+answer_line (answer.Turned stamp) = turned_line stamp.conn.0 stamp.number
 answer_line answer.Passed = codes "passed\n"
 
 abbrev pub answer_lines : List Answer → List ℕ
@@ -55,19 +64,21 @@ connection_lines (name ∷ names) (report ∷ reports) = connection_line name re
 abbrev pub state_word : Bool → List ℕ
 state_word finished = if finished then codes "finished" else codes "running"
 
-abbrev pub number_text : ℕ → List ℕ
-number_text n = codes " " ++ decimal n
+-- the numbers of the events that were processed of connection c
+abbrev pub numbers_text : ℕ → List Stamp → List ℕ
+numbers_text c stamps = flat_map number_text (numbers_from c stamps)
 
--- the numbers of the events that were processed of a connection
-abbrev pub done_line : List ℕ → List ℕ → List ℕ → List ℕ → List ℕ
-done_line tenant pipeline connection numbers =
-    codes "done " ++ name_text tenant ++ codes " " ++ name_text pipeline ++ codes " " ++ name_text connection ++ flat_map number_text numbers ++ codes "\n"
+abbrev pub done_start : List ℕ → List ℕ → List ℕ → List ℕ
+done_start tenant pipeline connection = codes "done " ++ name_text tenant ++ codes " " ++ name_text pipeline ++ codes " " ++ name_text connection
+
+abbrev pub done_line : ℕ → List ℕ → List ℕ → List ℕ → List Stamp → List ℕ
+done_line c tenant pipeline connection stamps = done_start tenant pipeline connection ++ (numbers_text c stamps ++ codes "\n")
 
 -- a line for each connection that tenant t lists, of those that are numbered from c
 abbrev pub done_lines : Config → ℕ → ℕ → List (List ℕ) → List ℕ → List ℕ → List Stamp → List ℕ
 done_lines config t c [] tenant pipeline stamps = []
 done_lines config t c (name ∷ names) tenant pipeline stamps =
-    (if lists config t c then done_line tenant pipeline name (numbers_from c stamps) else []) ++ done_lines config t (c + 1) names tenant pipeline stamps
+    (if lists config t c then done_line c tenant pipeline name stamps else []) ++ done_lines config t (c + 1) names tenant pipeline stamps
 
 abbrev pub pipeline_line : List ℕ → List ℕ → Bool → List ℕ
 pipeline_line tenant pipeline finished = codes "pipeline " ++ name_text tenant ++ codes " " ++ name_text pipeline ++ codes " " ++ state_word finished ++ codes "\n"
@@ -77,7 +88,7 @@ abbrev pub pipeline_lines : Config → ℕ → List ℕ → List PipelineSpec �
 pipeline_lines config t tenant [] reports = []
 pipeline_lines config t tenant (spec ∷ specs) [] = []
 pipeline_lines config t tenant (spec ∷ specs) (report ∷ reports) =
-    pipeline_line tenant spec.name report.finished ++ done_lines config t 0 (connections_of config) tenant spec.name report.done ++ pipeline_lines config t tenant specs reports
+    pipeline_line tenant spec.name report.finished ++ (done_lines config t 0 (connections_of config) tenant spec.name report.done ++ pipeline_lines config t tenant specs reports)
 
 -- the lines of tenants that are numbered from t
 abbrev pub tenant_lines : Config → ℕ → List TenantSpec → List (List PipelineReport) → List ℕ

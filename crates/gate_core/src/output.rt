@@ -25,41 +25,42 @@ fn push_answer(out: &mut String, alloc: Global, answer: Answer) -> Result<(), Me
 {
     match answer {
         Answer::Accepted(number) => {
-            out.push_str("accepted ")?;
-            push_number(out, alloc, number)?;
-            out.push_str("\n")?;
+            let line = format!(in alloc; "accepted {number}\n")?;
+            out.push_str(line.as_str())?;
         }
+        Answer::Turned(stamp) => push_turned(out, alloc, stamp)?,
         Answer::Closed => out.push_str("closed\n")?,
         Answer::Full => out.push_str("full\n")?,
         Answer::Moved => out.push_str("moved\n")?,
         Answer::Idle => out.push_str("idle\n")?,
-        Answer::Turned(stamp) => {
-            out.push_str("turned trigger ")?;
-            push_number(out, alloc, u64::from(stamp.conn.0))?;
-            out.push_str(" ")?;
-            push_number(out, alloc, stamp.number)?;
-            out.push_str(" applied\n")?;
-        }
         Answer::Passed => out.push_str("passed\n")?,
     }
     Ok(())
 }
 
-fn push_number(out: &mut String, alloc: Global, number: u64) -> Result<(), Memory>
-    ensures { OnOk result (string_bytes out.new ≡ string_bytes out.old ++ decimal number) }
+ghost use Rattle.gate_core.specs.Output.{turned_start, turned_line};
+
+fn push_turned(out: &mut String, alloc: Global, stamp: Stamp) -> Result<(), Memory>
+    ensures { OnOk result (string_bytes out.new ≡ string_bytes out.old ++ turned_line stamp.conn.0 stamp.number) }
 {
-    let digits = number.to_string(alloc)?;
-    out.push_str(digits.as_str())?;
+    let start = turned_start(alloc, u64::from(stamp.conn.0))?;
+    out.push_str(start.as_str())?;
+    push_number(out, alloc, stamp.number)?;
+    out.push_str(" applied\n")?;
     Ok(())
 }
 
-// A name as compact JSON text.
-fn push_name(out: &mut String, alloc: Global, name: &str) -> Result<(), Memory>
-    ensures { OnOk result (string_bytes out.new ≡ string_bytes out.old ++ name_text name.now) }
+fn turned_start(alloc: Global, conn: u64) -> Result<String, Memory>
+    ensures { IfOk result (λ line. string_bytes line ≡ turned_start conn) }
 {
-    let text = Value::try_from_str(alloc, name)?.to_string(alloc)?;
-    out.push_str(text.as_str())?;
-    Ok(())
+    Ok(format!(in alloc; "turned trigger {conn}")?)
+}
+
+// A name as compact JSON text.
+fn name_text(alloc: Global, name: &str) -> Result<String, Memory>
+    ensures { IfOk result (λ text. string_bytes text ≡ name_text name.now) }
+{
+    Ok(Value::try_from_str(alloc, name)?.to_string(alloc)?)
 }
 
 fn push_connections(
@@ -91,14 +92,18 @@ fn push_connection(
 ) -> Result<(), Memory>
     ensures { OnOk result (string_bytes out.new ≡ string_bytes out.old ++ connection_line name.now report.now) }
 {
-    out.push_str("connection ")?;
-    push_name(out, alloc, name)?;
-    out.push_str(" accepted ")?;
-    push_number(out, alloc, report.accepted)?;
-    out.push_str(" ")?;
-    out.push_str(cause_word(report.cause))?;
-    out.push_str("\n")?;
+    let line = connection_line(alloc, name, report)?;
+    out.push_str(line.as_str())?;
     Ok(())
+}
+
+fn connection_line(alloc: Global, name: &str, report: &ConnectionReport) -> Result<String, Memory>
+    ensures { IfOk result (λ line. string_bytes line ≡ connection_line name.now report.now) }
+{
+    let name = name_text(alloc, name)?;
+    let accepted = report.accepted;
+    let cause = cause_word(report.cause);
+    Ok(format!(in alloc; "connection {name} accepted {accepted} {cause}\n")?)
 }
 
 fn cause_word(cause: EndCause) -> &'static str
@@ -111,4 +116,208 @@ fn cause_word(cause: EndCause) -> &'static str
         EndCause::Failed => "failed",
         EndCause::Memory => "memory",
     }
+}
+
+/// A report as text: a line for each connection, and for each pipeline a line and one more for each connection that
+/// its tenant lists. `Memory` where the text finds no room.
+pub fn report_text(alloc: Global, config: &Config, report: &RunReport) -> Result<String, Memory>
+    requires { HasNumbers config.now }
+    ensures { IfOk result (λ text. string_bytes text ≡ report_text config.now report.now) }
+{
+    let mut out = String::new(alloc);
+    push_report(&mut out, alloc, config, report)?;
+    Ok(out)
+}
+
+/// Adds a report to a text.
+pub fn push_report(
+    out: &mut String,
+    alloc: Global,
+    config: &Config,
+    report: &RunReport,
+) -> Result<(), Memory>
+    requires { HasNumbers config.now }
+    ensures { OnOk result (string_bytes out.new ≡ string_bytes out.old ++ report_text config.now report.now) }
+{
+    push_connections(
+        out,
+        alloc,
+        config.connections(),
+        report.connections.as_slice(),
+    )?;
+    push_tenants(out, alloc, config, report.pipelines.as_slice())
+}
+
+fn push_tenants(
+    out: &mut String,
+    alloc: Global,
+    config: &Config,
+    reports: &[Sequence<PipelineReport>],
+) -> Result<(), Memory>
+    requires { HasNumbers config.now }
+    ensures { OnOk result (string_bytes out.new ≡ string_bytes out.old ++ tenant_lines config.now 0 (tenants_of config.now) reports.now) }
+{
+    let mut tenants = config.tenants();
+    let mut reports = reports;
+    let mut number = 0;
+    while let (Some((tenant, more_tenants)), Some((report, more_reports))) = (
+        tenants.split_first(),
+        reports.split_first(),
+    ) {
+        push_pipelines(
+            out,
+            alloc,
+            config,
+            TenantId(number),
+            tenant,
+            report.as_slice(),
+        )?;
+        tenants = more_tenants;
+        reports = more_reports;
+        number += 1;
+    }
+    Ok(())
+}
+
+ghost use Rattle.gate_core.specs.Output.{done_lines, pipeline_lines};
+
+fn push_pipelines(
+    out: &mut String,
+    alloc: Global,
+    config: &Config,
+    number: TenantId,
+    tenant: &TenantSpec,
+    reports: &[PipelineReport],
+) -> Result<(), Memory>
+    requires { HasNumbers config.now }
+    ensures { OnOk result (string_bytes out.new ≡ string_bytes out.old ++ pipeline_lines config.now number.0 tenant.now.name tenant.now.pipelines reports.now) }
+{
+    let mut pipelines = tenant.pipelines.as_slice();
+    let mut reports = reports;
+    while let (Some((pipeline, more_pipelines)), Some((report, more_reports))) = (
+        pipelines.split_first(),
+        reports.split_first(),
+    ) {
+        push_pipeline(out, alloc, tenant.name.as_str(), pipeline, report)?;
+        push_done(
+            out,
+            alloc,
+            config,
+            number,
+            tenant.name.as_str(),
+            pipeline,
+            report,
+        )?;
+        pipelines = more_pipelines;
+        reports = more_reports;
+    }
+    Ok(())
+}
+
+fn push_pipeline(
+    out: &mut String,
+    alloc: Global,
+    tenant: &str,
+    pipeline: &PipelineSpec,
+    report: &PipelineReport,
+) -> Result<(), Memory>
+    ensures { OnOk result (string_bytes out.new ≡ string_bytes out.old ++ pipeline_line tenant.now pipeline.now.name report.now.finished) }
+{
+    let line = pipeline_line(alloc, tenant, pipeline.name.as_str(), report.finished)?;
+    out.push_str(line.as_str())?;
+    Ok(())
+}
+
+fn pipeline_line(
+    alloc: Global,
+    tenant: &str,
+    pipeline: &str,
+    finished: bool,
+) -> Result<String, Memory>
+    ensures { IfOk result (λ line. string_bytes line ≡ pipeline_line tenant.now pipeline.now finished) }
+{
+    let tenant = name_text(alloc, tenant)?;
+    let pipeline = name_text(alloc, pipeline)?;
+    let state = state_word(finished);
+    Ok(format!(in alloc; "pipeline {tenant} {pipeline} {state}\n")?)
+}
+
+fn state_word(finished: bool) -> &'static str
+    ensures { result.now ≡ state_word finished }
+{
+    if finished { "finished" } else { "running" }
+}
+
+// A line for each connection that the tenant lists.
+fn push_done(
+    out: &mut String,
+    alloc: Global,
+    config: &Config,
+    number: TenantId,
+    tenant: &str,
+    pipeline: &PipelineSpec,
+    report: &PipelineReport,
+) -> Result<(), Memory>
+    requires { HasNumbers config.now }
+    ensures { OnOk result (string_bytes out.new ≡ string_bytes out.old ++ done_lines config.now number.0 0 (connections_of config.now) tenant.now pipeline.now.name report.now.done) }
+{
+    let mut names = config.connections();
+    let mut conn = 0;
+    while let Some((name, more)) = names.split_first() {
+        if config.listed(number, ConnId(conn)) {
+            push_start(out, alloc, tenant, pipeline.name.as_str(), name.as_str())?;
+            push_numbers(out, alloc, ConnId(conn), report.done.as_slice())?;
+            out.push_str("\n")?;
+        }
+        names = more;
+        conn += 1;
+    }
+    Ok(())
+}
+
+ghost use Rattle.gate_core.specs.Output.{done_start, numbers_text};
+
+// What stands in a line of processed events before their numbers.
+fn push_start(
+    out: &mut String,
+    alloc: Global,
+    tenant: &str,
+    pipeline: &str,
+    conn: &str,
+) -> Result<(), Memory>
+    ensures { OnOk result (string_bytes out.new ≡ string_bytes out.old ++ done_start tenant.now pipeline.now conn.now) }
+{
+    let tenant = name_text(alloc, tenant)?;
+    let pipeline = name_text(alloc, pipeline)?;
+    let conn = name_text(alloc, conn)?;
+    let start = format!(in alloc; "done {tenant} {pipeline} {conn}")?;
+    out.push_str(start.as_str())?;
+    Ok(())
+}
+
+// The numbers of those stamps that are of the connection.
+fn push_numbers(
+    out: &mut String,
+    alloc: Global,
+    conn: ConnId,
+    stamps: &[Stamp],
+) -> Result<(), Memory>
+    ensures { OnOk result (string_bytes out.new ≡ string_bytes out.old ++ numbers_text conn.0 stamps.now) }
+{
+    let mut stamps = stamps;
+    while let Some((stamp, more)) = stamps.split_first() {
+        if stamp.conn.0 == conn.0 {
+            push_number(out, alloc, stamp.number)?;
+        }
+        stamps = more;
+    }
+    Ok(())
+}
+
+fn push_number(out: &mut String, alloc: Global, number: u64) -> Result<(), Memory>
+    ensures { OnOk result (string_bytes out.new ≡ string_bytes out.old ++ number_text number) }
+{
+    let text = format!(in alloc; " {number}")?;
+    out.push_str(text.as_str())?;
+    Ok(())
 }

@@ -3,8 +3,8 @@ use Rattle.gate_core.specs.Output.{connection_lines}
 use Rattle.gate_core.proofs.output.push_connections.Given as goal
 
 -- what is written and the lines of what is left make the whole
-abbrev pub invariant-loop-names : goal.invariant-loop-names
-invariant-loop-names l = string_bytes l.out ++ connection_lines l.names l.reports ≡ string_bytes l.fn.out ++ connection_lines l.fn.names l.fn.reports
+abbrev pub invariant-loop-name : goal.invariant-loop-name
+invariant-loop-name l = string_bytes l.out ++ connection_lines l.names l.reports ≡ string_bytes l.fn.out ++ connection_lines l.fn.names l.fn.reports
 
-abbrev pub decreases-loop-names : goal.decreases-loop-names
-decreases-loop-names l = length l.names
+abbrev pub decreases-loop-name : goal.decreases-loop-name
+decreases-loop-name l = length l.names

@@ -1,0 +1,100 @@
+ghost use Rattle.std.specs.Prelude.{◌≡◌, ◌↔◌, string_bytes, IfOk, IfErr, IsTrue};
+ghost use Rattle.gate_core.specs.Replays.{Replays, FailsReplay};
+ghost use Rattle.gate_core.specs.Small.{IsSmall};
+
+use crate::output::{push_answers, push_report};
+use crate::script::{ScriptFault, read_script};
+use crate::step::Step;
+use crate::transcript::play;
+use gate_config::{Config, ConfigFault, read_config};
+use gate_record::{Memory, Queue, TenantId, Text};
+use std::alloc::Global;
+
+/// Why nothing was replayed.
+#[derive(Debug, Drop)]
+pub enum ReplayFault {
+    /// The document is no configuration, or, as `Limit` at `tenants`, one with more than one connection, tenant or
+    /// pipeline, which no world can have for now.
+    Config(ConfigFault),
+    /// The first line of the script that is no step, counted from 1.
+    Script(usize),
+    /// Memory was refused.
+    Memory,
+}
+
+/// Reads a configuration and a script, takes the script's steps from the beginning, and gives the answers, each on a
+/// line, and then the report. A fault of the configuration comes before one of the script.
+pub fn replay(alloc: Global, document: &[u8], script: &[u8]) -> Result<String, ReplayFault>
+    ensures text { IfOk result (λ text. Replays document.now script.now (string_bytes text)) }
+    ensures fault { IfErr result (FailsReplay document.now script.now) }
+{
+    let config = match read_config(alloc, document) {
+        Ok(config) => config,
+        Err(fault) => return Err(of_config(fault)),
+    };
+    if !is_small(&config) {
+        return Err(too_large(alloc));
+    }
+    let steps = match read_script(alloc, script) {
+        Ok(steps) => steps,
+        Err(fault) => return Err(of_script(fault)),
+    };
+    match play_text(alloc, &config, steps) {
+        Ok(text) => Ok(text),
+        Err(Memory) => Err(ReplayFault::Memory),
+    }
+}
+
+ghost use Rattle.gate_core.specs.Replays.{of_config_fault, of_script_fault, Plays};
+
+// Memory is one fault, wherever it was refused.
+fn of_config(fault: ConfigFault) -> ReplayFault
+    ensures { result ≡ of_config_fault fault }
+{
+    match fault {
+        ConfigFault::Memory => ReplayFault::Memory,
+        fault => ReplayFault::Config(fault),
+    }
+}
+
+fn of_script(fault: ScriptFault) -> ReplayFault
+    ensures { result ≡ of_script_fault fault }
+{
+    match fault {
+        ScriptFault::Memory => ReplayFault::Memory,
+        ScriptFault::Script(line) => ReplayFault::Script(line),
+    }
+}
+
+ghost use Rattle.gate_core.specs.Replays.{IsTooLarge};
+
+fn too_large(alloc: Global) -> ReplayFault
+    ensures { IsTooLarge result }
+{
+    match Text::copy(alloc, "tenants") {
+        Ok(place) => ReplayFault::Config(ConfigFault::Limit(place)),
+        Err(Memory) => ReplayFault::Memory,
+    }
+}
+
+// Whether a world can have the configuration for now.
+fn is_small(config: &Config) -> bool
+    ensures { IsTrue result ↔ IsSmall config.now }
+{
+    config.connections().len() <= 1
+        && config.tenants().len() <= 1
+        && config.pipelines(TenantId(0)).len() <= 1
+}
+
+// The answers to steps, and the report of the world that they leave.
+fn play_text(alloc: Global, config: &Config, steps: Queue<Step>) -> Result<String, Memory>
+    requires { IsSmall config.now }
+    ensures { IfOk result (λ text. Plays config.now steps (string_bytes text)) }
+{
+    let transcript = play(alloc, config, steps)?;
+    let report = transcript.world.report()?;
+    let mut text = String::new(alloc);
+    push_answers(&mut text, alloc, transcript.answers.as_slice())?;
+    push_report(&mut text, alloc, config, &report)?;
+    Ok(text)
+}
