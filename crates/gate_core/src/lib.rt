@@ -16,16 +16,11 @@ mod transcript;
 mod world;
 
 pub use answer::Answer;
-pub use connection::Connection;
-pub use output::{push_answers, push_report, report_text};
-pub use pass::{Pass, Phase, Taking};
-pub use pipeline::Pipeline;
+pub use output::report_text;
 pub use replaying::{ReplayFault, replay};
 pub use report::{ConnectionReport, EndCause, PipelineReport, RunReport};
 pub use script::{ScriptFault, read_script};
-pub use state::State;
 pub use step::Step;
-pub use tenant::Tenant;
 pub use transcript::{Transcript, play, run};
 pub use world::World;
 

@@ -1,0 +1,90 @@
+use crate::fault::Fault;
+use crate::words::{Task, task_of};
+use gate_core::replay;
+use std::alloc::Global;
+use std::io::{ErrorKind, Read, Write};
+use std::rt::Files;
+use std::{fs, io};
+
+/// Does what the program's words ask for, its name first, and gives the exit status: 0, or that of the fault, whose
+/// line then stands on the second writer. What is printed goes to the first writer, and nothing does where there is a
+/// fault before it.
+pub fn run_words<X, R, O, E>(
+    rt: &X,
+    words: &[String],
+    input: &mut R,
+    output: &mut O,
+    errors: &mut E,
+) -> u8
+where
+    X: Files + AllocGlobal,
+    R: Read,
+    O: Write,
+    E: Write,
+{
+    match run_task(rt, words, input, output) {
+        Ok(()) => 0,
+        Err(fault) => {
+            let _ = writeln!(errors, "fault: {fault}");
+            fault.status()
+        }
+    }
+}
+
+fn run_task<X, R, O>(rt: &X, words: &[String], input: &mut R, output: &mut O) -> Result<(), Fault>
+where
+    X: Files + AllocGlobal,
+    R: Read,
+    O: Write,
+{
+    let alloc = rt.alloc();
+    let text = match task_of(alloc, words)? {
+        Task::Replay { config, script } => {
+            let document = file(rt, config)?;
+            let script = file(rt, script)?;
+            replay(alloc, document.as_slice(), script.as_slice())?
+        }
+        Task::Input => replay_input(alloc, input)?,
+    };
+    match write_text(output, text.as_str()) {
+        Ok(()) => Ok(()),
+        Err(_) => Err(Fault::Write),
+    }
+}
+
+fn write_text<O: Write>(output: &mut O, text: &str) -> io::Result<()> {
+    output.write_all(text.as_bytes())?;
+    output.flush()
+}
+
+// Standard input: its first line is the configuration, the rest the script.
+fn replay_input<R: Read>(alloc: Global, input: &mut R) -> Result<String, Fault> {
+    let mut bytes = Vec::new(alloc);
+    if let Err(error) = input.read_to_end(&mut bytes) {
+        return Err(reading_fault(String::from_str(alloc, "-")?, &error));
+    }
+    let (document, script) = first_line(bytes.as_slice());
+    Ok(replay(alloc, document, script)?)
+}
+
+// What stands before the first line feed, and what behind it.
+fn first_line(bytes: &[u8]) -> (&[u8], &[u8]) {
+    match bytes.iter().position(|byte| *byte == b'\n') {
+        Some(end) => (&bytes[..end], &bytes[end + 1..]),
+        None => (bytes, &[]),
+    }
+}
+
+fn file<X: Files + AllocGlobal>(rt: &X, path: String) -> Result<Vec<u8>, Fault> {
+    match fs::read(rt, path.as_str()) {
+        Ok(bytes) => Ok(bytes),
+        Err(error) => Err(reading_fault(path, &error)),
+    }
+}
+
+fn reading_fault(path: String, error: &io::Error) -> Fault {
+    match error.kind() {
+        ErrorKind::OutOfMemory => Fault::Memory,
+        _ => Fault::File(path),
+    }
+}

@@ -1,0 +1,60 @@
+use crate::fault::Fault;
+use clap::error::ErrorKind;
+use clap::{Arg, ArgAction, ArgMatches, Command, Error};
+use std::alloc::{AllocError, Global};
+
+/// What the words of the command line ask for.
+#[derive(Debug, Drop)]
+pub enum Task {
+    /// To replay a script by a configuration, each a path.
+    Replay { config: String, script: String },
+    /// The same from standard input: its first line is the configuration, the rest the script.
+    Input,
+}
+
+/// Reads the program's words, its name first. `Usage` for words that are no form that is known, `Memory` where memory
+/// is refused.
+pub fn task_of(alloc: Global, words: &[String]) -> Result<Task, Fault> {
+    let command = command(alloc)?;
+    match command.try_get_matches_from(words) {
+        Ok(matches) => task_in(alloc, &matches),
+        Err(error) => Err(fault_of(&error)),
+    }
+}
+
+fn command(alloc: Global) -> Result<Command<'static>, AllocError> {
+    let replay = Command::new(alloc, "replay")
+        .disable_help_flag(true)
+        .disable_version_flag(true)
+        .arg(path(alloc, "config"))?
+        .arg(path(alloc, "script"))?;
+    Command::new(alloc, "gate")
+        .disable_help_flag(true)
+        .disable_version_flag(true)
+        .disable_help_subcommand(true)
+        .subcommand(replay)
+}
+
+fn path(alloc: Global, name: &'static str) -> Arg<'static> {
+    Arg::new(alloc, name).required(true).action(ArgAction::Set)
+}
+
+fn task_in(alloc: Global, matches: &ArgMatches<'_>) -> Result<Task, Fault> {
+    let Some((name, words)) = matches.subcommand() else {
+        return Ok(Task::Input);
+    };
+    match (name, words.get_str("config"), words.get_str("script")) {
+        ("replay", Some(config), Some(script)) => Ok(Task::Replay {
+            config: String::from_str(alloc, config)?,
+            script: String::from_str(alloc, script)?,
+        }),
+        _ => Err(Fault::Usage),
+    }
+}
+
+fn fault_of(error: &Error) -> Fault {
+    match error.kind() {
+        ErrorKind::OutOfMemory => Fault::Memory,
+        _ => Fault::Usage,
+    }
+}
