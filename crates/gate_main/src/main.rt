@@ -8,13 +8,22 @@ mod tests;
 mod words;
 
 use std::process::ExitCode;
+use std::rt::Env;
 use std::{env, io};
 
-fn main(rt: HostRuntime) -> io::Result<ExitCode> {
-    let words: Vec<String> = env::args(&rt)?.collect(rt.alloc())?;
+fn main(rt: HostRuntime) -> ExitCode {
     let mut input = rt.stdin();
     let mut output = rt.stdout();
     let mut errors = rt.stderr();
-    let status = program::run_words(&rt, words.as_slice(), &mut input, &mut output, &mut errors);
-    Ok(ExitCode::from(status))
+    let status = match words_of(&rt) {
+        Ok(words) => {
+            program::run_words(&rt, words.as_slice(), &mut input, &mut output, &mut errors)
+        }
+        Err(error) => program::tell(&words::unread(&error), &mut errors),
+    };
+    ExitCode::from(status)
+}
+
+fn words_of(rt: &(impl Env + AllocGlobal)) -> io::Result<Vec<String>> {
+    Ok(env::args(rt)?.collect(rt.alloc())?)
 }

@@ -24,11 +24,14 @@ where
 {
     match run_task(rt, words, input, output) {
         Ok(()) => 0,
-        Err(fault) => {
-            let _ = writeln!(errors, "fault: {fault}");
-            fault.status()
-        }
+        Err(fault) => tell(&fault, errors),
     }
+}
+
+/// Writes the line of a fault, and gives its status.
+pub fn tell<E: Write>(fault: &Fault, errors: &mut E) -> u8 {
+    let _ = writeln!(errors, "fault: {fault}");
+    fault.status()
 }
 
 fn run_task<X, R, O>(rt: &X, words: &[String], input: &mut R, output: &mut O) -> Result<(), Fault>

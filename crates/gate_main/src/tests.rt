@@ -150,12 +150,8 @@ fn outcome(rt: &HostRuntime, words: &[&str], input: &str) -> Result<(u8, String,
     let mut output: Vec<u8> = Vec::new(rt.alloc());
     let mut errors: Vec<u8> = Vec::new(rt.alloc());
     let status = run_words(rt, all.as_slice(), &mut rest, &mut output, &mut errors);
-    let Ok(output) = String::from_utf8(output) else {
-        panic!(rt; "text is printed");
-    };
-    let Ok(errors) = String::from_utf8(errors) else {
-        panic!(rt; "a fault is text");
-    };
+    let output = String::from_utf8(output).ok().ok_or("text is printed")?;
+    let errors = String::from_utf8(errors).ok().ok_or("a fault is text")?;
     Ok((status, output, errors))
 }
 

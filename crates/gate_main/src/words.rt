@@ -2,6 +2,7 @@ use crate::fault::Fault;
 use clap::error::ErrorKind;
 use clap::{Arg, ArgAction, ArgMatches, Command, Error};
 use std::alloc::{AllocError, Global};
+use std::io;
 
 /// What the words of the command line ask for.
 #[derive(Debug, Drop)]
@@ -14,7 +15,7 @@ pub enum Task {
 
 /// Reads the program's words, its name first. `Usage` for words that are no form that is known, `Memory` where memory
 /// is refused.
-pub fn task_of(alloc: Global, words: &[String]) -> Result<Task, Fault> {
+pub fn task_of<'a>(alloc: Global, words: &'a [String]) -> Result<Task, Fault> {
     let command = command(alloc)?;
     match command.try_get_matches_from(words) {
         Ok(matches) => task_in(alloc, &matches),
@@ -22,7 +23,7 @@ pub fn task_of(alloc: Global, words: &[String]) -> Result<Task, Fault> {
     }
 }
 
-fn command(alloc: Global) -> Result<Command<'static>, AllocError> {
+fn command<'a>(alloc: Global) -> Result<Command<'a>, AllocError> {
     let replay = Command::new(alloc, "replay")
         .disable_help_flag(true)
         .disable_version_flag(true)
@@ -35,7 +36,7 @@ fn command(alloc: Global) -> Result<Command<'static>, AllocError> {
         .subcommand(replay)
 }
 
-fn path(alloc: Global, name: &'static str) -> Arg<'static> {
+fn path<'a>(alloc: Global, name: &'a str) -> Arg<'a> {
     Arg::new(alloc, name).required(true).action(ArgAction::Set)
 }
 
@@ -55,6 +56,14 @@ fn task_in(alloc: Global, matches: &ArgMatches<'_>) -> Result<Task, Fault> {
 fn fault_of(error: &Error) -> Fault {
     match error.kind() {
         ErrorKind::OutOfMemory => Fault::Memory,
+        _ => Fault::Usage,
+    }
+}
+
+/// The fault where the words themselves can't be read, as one that isn't UTF-8.
+pub fn unread(error: &io::Error) -> Fault {
+    match error.kind() {
+        io::ErrorKind::OutOfMemory => Fault::Memory,
         _ => Fault::Usage,
     }
 }
