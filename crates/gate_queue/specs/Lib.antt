@@ -1,0 +1,4 @@
+pub mod Tagged
+pub mod Sharing
+pub mod Seats
+pub mod Views

@@ -1,0 +1,46 @@
+-- How the seats are seen: by what their passes know.
+use Rattle.std.specs.Prelude.{◌≡◌, ℕ, List, []}
+use Rattle.crossbeam_queue.specs.Passes.{Pass, view}
+use Rattle.gate_queue.specs.declared.tagged.Tagged.{Tagged}
+use Rattle.gate_queue.specs.declared.known.Put.{Put}
+use Rattle.gate_queue.specs.declared.known.Got.{Got}
+use Rattle.gate_queue.specs.declared.known.Known.{Known}
+use Rattle.gate_queue.specs.declared.known.Known.TheVariants.{Sender, Taker, Nothing}
+use Rattle.gate_queue.specs.Seats.{QueueName, SenderSeat, TakerSeat}
+
+module _ {T : Type 0} where
+  abbrev pub nobody : Put T
+  nobody = record { sender = 0; senders = 0; put = [] }
+
+  abbrev pub no_taker : Got T
+  no_taker = record { senders = 0; made = 0; taken = []; joined = [] }
+
+  -- what a sender's seat knows
+  abbrev pub as_sender : Known T → Put T
+  as_sender (Sender v) = v
+  as_sender (Taker v) = nobody
+  as_sender Nothing = nobody
+
+  -- what the taker's seat knows
+  abbrev pub as_taker : Known T → Got T
+  as_taker (Taker v) = v
+  as_taker (Sender v) = no_taker
+  as_taker Nothing = no_taker
+
+  abbrev pub sender_seat : ℕ → Pass (Tagged T) (Known T) → SenderSeat T
+  sender_seat s p = record { queue = record { table = p.table_id; senders = (as_sender (view p)).senders }; sender = s; put = (as_sender (view p)).put }
+
+  abbrev pub taker_seat : Pass (Tagged T) (Known T) → TakerSeat T
+  taker_seat p = record { queue = record { table = p.table_id; senders = (as_taker (view p)).senders }; taken = (as_taker (view p)).taken }
+
+  -- the pass is that of the sender with this number, and no slot is out with it
+  pub record IsSenderRight (s : ℕ) (p : Pass (Tagged T) (Known T)) : Type 0 where
+    pub at_rest : p.me.1 ≡ []
+    pub known : view p ≡ Sender (as_sender (view p))
+    pub number : (as_sender (view p)).sender ≡ s
+
+  -- the pass is the taker's, each seat was given, none is joined, and no slot is out with it
+  pub record IsTakerRight (p : Pass (Tagged T) (Known T)) : Type 0 where
+    pub at_rest : p.me.1 ≡ []
+    pub known : view p ≡ Taker (as_taker (view p))
+    pub joined : (as_taker (view p)).joined ≡ []

@@ -1,0 +1,41 @@
+//! The seats of a queue.
+
+use crate::known::Right;
+use std::marker::Model;
+
+/// A sender's seat. Contracts see it as its queue, the sender's number, and the list of what was put.
+#[derive(Drop)]
+pub struct Tail<T> {
+    pub(crate) sender: usize,
+    pub(crate) right: Right<T>,
+}
+
+impl<T> Model for Tail<T> {
+    ghost use Rattle.gate_queue.specs.Seats.{SenderSeat};
+
+    ghost Value = { SenderSeat T };
+
+    ghost use Rattle.gate_queue.specs.Views.{sender_seat, IsSenderRight};
+
+    ghost view = { λ t. sender_seat t.sender t.right };
+
+    ghost invariant = { λ t. IsSenderRight t.sender t.right };
+}
+
+/// The taker's seat. Contracts see it as its queue and the list of what was taken.
+#[derive(Drop)]
+pub struct Head<T> {
+    pub(crate) right: Right<T>,
+}
+
+impl<T> Model for Head<T> {
+    ghost use Rattle.gate_queue.specs.Seats.{TakerSeat};
+
+    ghost Value = { TakerSeat T };
+
+    ghost use Rattle.gate_queue.specs.Views.{taker_seat, IsTakerRight};
+
+    ghost view = { λ h. taker_seat h.right };
+
+    ghost invariant = { λ h. IsTakerRight h.right };
+}
