@@ -1,1 +1,4 @@
-
+pub mod Values
+pub mod Views
+pub mod Keeps
+pub mod Parts
