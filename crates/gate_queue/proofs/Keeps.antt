@@ -11,7 +11,8 @@ use Rattle.gate_queue.specs.declared.known.Got.{Got}
 use Rattle.gate_queue.specs.declared.known.Known.{Known}
 use Rattle.gate_queue.specs.declared.known.Known.TheVariants.{Sender, Taker, Nothing}
 use Rattle.gate_queue.specs.Tagged.{values_of}
-use Rattle.gate_queue.specs.Sharing.{AreFrom, IsSender, IsTaker, Fits, Shares, newcomer, planned, nothing, seated, next_sender, joined, HasPut, HasTaken, CanWait, SenderAllows, TakerAllows, took}
+use Rattle.gate_queue.specs.States.{AreFrom}
+use Rattle.gate_queue.specs.Sharing.{IsSender, IsTaker, Fits, Shares, newcomer, planned, nothing, seated, next_sender, joined, HasPut, HasTaken, CanWait, SenderAllows, TakerAllows, took}
 use Rattle.gate_queue.proofs.Values.{values_of-append, values_of-same, values_of-other}
 use Rattle.gate_queue.proofs.Views.{Each, each_set, each_snoc}
 

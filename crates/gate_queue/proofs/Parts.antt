@@ -12,7 +12,8 @@ use Rattle.gate_queue.specs.declared.known.Got.{Got}
 use Rattle.gate_queue.specs.declared.known.Known.{Known}
 use Rattle.gate_queue.specs.declared.known.Known.TheVariants.{Sender, Taker, Nothing}
 use Rattle.gate_queue.specs.Tagged.{values_of}
-use Rattle.gate_queue.specs.Sharing.{AreFrom, IsSender, IsTaker, Fits, Shares, planned, nothing, seated, next_sender, joined}
+use Rattle.gate_queue.specs.States.{AreFrom}
+use Rattle.gate_queue.specs.Sharing.{IsSender, IsTaker, Fits, Shares, planned, nothing, seated, next_sender, joined}
 use Rattle.crossbeam_queue.proofs.Lists.{set_else}
 use Rattle.gate_queue.proofs.Views.{Each, each_set, each_snoc}
 

@@ -6,7 +6,7 @@ use mathlib.Core.Logic.{dite}
 use native.Mathlib.Decide.{ℕ_discrete}
 use Rattle.gate_queue.specs.declared.tagged.Tagged.{Tagged}
 use Rattle.gate_queue.specs.Tagged.{values_of}
-use Rattle.gate_queue.specs.Sharing.{AreFrom}
+use Rattle.gate_queue.specs.States.{AreFrom}
 
 module _ {T : Type 0} where
   pub values_of-append : (s : ℕ) (xs ys : List (Tagged T)) → values_of s (xs ++ ys) ≡ values_of s xs ++ values_of s ys

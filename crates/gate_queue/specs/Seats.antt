@@ -1,7 +1,6 @@
 -- What contracts see of a queue and of its seats, and when a seat is one of a queue's.
-use Rattle.std.specs.Prelude.{◌≡◌, ℕ, ◌<◌, ◌≤◌, List, [], ◌∷◌, ◌++◌, length, slice_index_or}
-use Rattle.atomic_table.specs.Seated.{TableId, table_id_coded}
-use Rattle.std.specs.Coded.{Coded, code_by, coded×, coded_ℕ, coded_list}
+use Rattle.std.specs.Prelude.{◌≡◌, ℕ, ◌<◌, List, [], ◌∷◌, ◌++◌, length, slice_index_or}
+use Rattle.atomic_table.specs.Seated.{TableId}
 use Rattle.gate_queue.specs.declared.tagged.Tagged.{Tagged}
 
 -- Which queue it is: what no other queue has, and how many senders there are
@@ -24,3 +23,28 @@ pub record SenderSeat (T : Type 0) : Type 0 where
 pub record TakerSeat (T : Type 0) : Type 0 where
   pub queue : QueueName
   pub taken : List (Tagged T)
+
+module _ {T : Type 0} where
+  -- the sender's seat is one of this queue's
+  abbrev pub IsTailOf : Shape → SenderSeat T → Type 0
+  IsTailOf queue tail = tail.queue ≡ queue.name
+
+  -- the taker's seat is that of this queue
+  abbrev pub IsHeadOf : Shape → TakerSeat T → Type 0
+  IsHeadOf queue head = head.queue ≡ queue.name
+
+  -- these are seats of this queue's senders, from sender 0 on
+  abbrev pub AreTailsOf : Shape → List (SenderSeat T) → Type 0
+  AreTailsOf queue tails = (k : ℕ) (d : SenderSeat T) → k < length tails → IsTailOf queue (slice_index_or tails k d) × ((slice_index_or tails k d).sender ≡ k)
+
+  -- these are the seats of all senders of this queue, from sender 0 on
+  abbrev pub AreAllTailsOf : Shape → List (SenderSeat T) → Type 0
+  AreAllTailsOf queue tails = (length tails ≡ queue.name.senders) × AreTailsOf queue tails
+
+  -- the seat after one more value was put
+  abbrev pub with_put : SenderSeat T → T → SenderSeat T
+  with_put tail x = record { queue = tail.queue; sender = tail.sender; put = tail.put ++ x ∷ [] }
+
+  -- the seat after one more value was taken
+  abbrev pub with_taken : TakerSeat T → Tagged T → TakerSeat T
+  with_taken head x = record { queue = head.queue; taken = head.taken ++ x ∷ [] }

@@ -1,5 +1,5 @@
 -- The rule that every queue keeps, and what each step tells the seat that makes it.
-use Rattle.std.specs.Prelude.{◌≡◌, ℕ, suc, ◌+◌, ◌<◌, ◌≤◌, List, [], ◌∷◌, ◌++◌, length, All, slice_index_or}
+use Rattle.std.specs.Prelude.{◌≡◌, ℕ, suc, ◌+◌, ◌<◌, ◌≤◌, List, [], ◌∷◌, ◌++◌, length, slice_index_or}
 use mathlib.Core.Option.{some}
 use lib.ListN.{get_elem?}
 use Rattle.gate_queue.specs.declared.tagged.Tagged.{Tagged}
@@ -8,12 +8,9 @@ use Rattle.gate_queue.specs.declared.known.Got.{Got}
 use Rattle.gate_queue.specs.declared.known.Known.{Known}
 use Rattle.gate_queue.specs.declared.known.Known.TheVariants.{Sender, Taker, Nothing}
 use Rattle.gate_queue.specs.Tagged.{values_of}
+use Rattle.gate_queue.specs.States.{AreFrom}
 
 module _ {T : Type 0} where
-  -- the values come from the first so many senders
-  abbrev pub AreFrom : ℕ → List (Tagged T) → Type 0
-  AreFrom senders xs = All (λ x. x.sender < senders) xs
-
   -- A seat of a sender knows what the values in the queue's history have of it. Seat s is held by pass p where `holder s ≡ p + 1`
   pub record IsSender (senders : ℕ) (holder : ℕ → ℕ) (all : List (Tagged T)) (pass : ℕ) (v : Put T) : Type 0 where
     pub seat : holder v.sender ≡ suc pass

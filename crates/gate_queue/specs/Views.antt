@@ -1,5 +1,5 @@
 -- How the seats are seen: by what their passes know.
-use Rattle.std.specs.Prelude.{◌≡◌, ℕ, List, []}
+use Rattle.std.specs.Prelude.{◌≡◌, ℕ, ◌<◌, List, []}
 use Rattle.crossbeam_queue.specs.Passes.{Pass, view}
 use Rattle.gate_queue.specs.declared.tagged.Tagged.{Tagged}
 use Rattle.gate_queue.specs.declared.known.Put.{Put}
@@ -38,9 +38,11 @@ module _ {T : Type 0} where
     pub at_rest : p.me.1 ≡ []
     pub known : view p ≡ Sender (as_sender (view p))
     pub number : (as_sender (view p)).sender ≡ s
+    pub within : s < (as_sender (view p)).senders
 
   -- the pass is the taker's, each seat was given, none is joined, and no slot is out with it
   pub record IsTakerRight (p : Pass (Tagged T) (Known T)) : Type 0 where
     pub at_rest : p.me.1 ≡ []
     pub known : view p ≡ Taker (as_taker (view p))
     pub joined : (as_taker (view p)).joined ≡ []
+    pub made : (as_taker (view p)).made ≡ (as_taker (view p)).senders

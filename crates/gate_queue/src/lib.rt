@@ -7,9 +7,11 @@
 
 mod fault;
 mod known;
+mod queue;
 mod seats;
 mod tagged;
 
-pub use fault::OpenFault;
+pub use fault::{Full, OpenFault, Unsettled};
+pub use queue::EventQueue;
 pub use seats::{Head, Tail};
 pub use tagged::Tagged;
