@@ -2,3 +2,4 @@ pub mod Values
 pub mod Views
 pub mod Keeps
 pub mod Parts
+pub mod Told

@@ -28,3 +28,10 @@ module _ {T : Type 0} where
   -- one more value of another sender
   pub values_of-other : (s : ℕ) (xs : List (Tagged T)) (x : Tagged T) → x.sender ≢ s → values_of s (xs ++ x ∷ []) ≡ values_of s xs
   values_of-other s xs x e = values_of-append s xs (x ∷ []) ∙ ap (λ l. values_of s xs ++ l) (one_of_other s x e) ∙ append-nil (values_of s xs)
+
+  -- in a list from one sender all values are that sender's
+  pub length-values_of-only : (xs : List (Tagged T)) → AreFrom 1 xs → length (values_of 0 xs) ≡ length xs
+  length-values_of-only [] from = refl
+  length-values_of-only (x ∷ xs) from =
+      let zero_is : x.sender ≡ 0 = (let b = from 0 x (omega arith) in omega arith) in
+      rw (eq-eqb x.sender 0 zero_is) (ap suc (length-values_of-only xs (λ k d h. from (suc k) d (omega arith))))
