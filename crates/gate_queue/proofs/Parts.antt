@@ -15,6 +15,7 @@ use Rattle.gate_queue.specs.Tagged.{values_of}
 use Rattle.gate_queue.specs.States.{AreFrom}
 use Rattle.gate_queue.specs.Sharing.{IsSender, IsTaker, Fits, Shares, planned, nothing, seated, next_sender, joined}
 use Rattle.crossbeam_queue.proofs.Lists.{set_else}
+use Rattle.gate_queue.proofs.Lists.{longer}
 use Rattle.gate_queue.proofs.Views.{Each, each_set, each_snoc}
 
 -- the holders when seat s goes to p
@@ -111,14 +112,6 @@ module _ {T : Type 0} where
   fits_join taker senders holder all taken pass other s here held j (Taker u) apart apart' f = absurd (apart (f.here ∙ sym here))
   fits_join taker senders holder all taken pass other s here held j Nothing apart apart' f = tt
 
-  -- a list of lists that is one longer
-  longer : (G : ℕ → List T → Type 0) (xs : List (List T)) (x : List T) → ((s : ℕ) → s < length xs → G s (get_or xs s [])) → G (length xs) x
-      → (s : ℕ) → s < length (xs ++ x ∷ []) → G s (get_or (xs ++ x ∷ []) s [])
-  longer G [] x old new zero h = new
-  longer G [] x old new (suc s) h = absurd (omega arith)
-  longer G (y ∷ ys) x old new zero h = old zero (omega arith)
-  longer G (y ∷ ys) x old new (suc s) h = longer (λ k. G (suc k)) ys x (λ k l. old (suc k) (omega arith)) new s (omega arith)
-
   joins_at : (pass : ℕ) (v : Got T) (other : ℕ) (w : Put T) → w.sender ≡ length v.joined → Merges Shares pass (Taker v) other (Sender w) (joined (Taker v) (Sender w)) Nothing
   joins_at pass v other w next items views h at two at' =
       let v' : Got T = record v { joined = v.joined ++ w.put ∷ [] } in
@@ -133,7 +126,7 @@ module _ {T : Type 0} where
             got = me.got;
             count = me.count;
             unmade = λ s l. let none = me.unmade s l in (given_none h.holder w.sender s none.0, none.1);
-            joined = longer (λ s l. (holder s ≡ 0) × (l ≡ values_of s h.all)) v.joined w.put
+            joined = longer [] (λ s l. (holder s ≡ 0) × (l ≡ values_of s h.all)) v.joined w.put
                 (λ s l. let none = me.joined s l in (given_none h.holder w.sender s none.0, none.1))
                 (subst (λ s. (holder s ≡ 0) × (w.put ≡ values_of s h.all)) next (given_there h.holder w.sender 0, it.put));
           } in

@@ -42,9 +42,12 @@ module _ {T : Type 0} where
     pub from : AreFrom senders all
     pub fits : (pass : ℕ) (v : Known T) → get_elem? views pass ≡ some v → Fits taker senders holder all taken pass v
 
-  -- the taker of a new queue, when so many senders are planned
+  -- the taker of a new queue, when so many senders are planned and so many of them have their seat
+  abbrev pub opening : (senders made : ℕ) → Known T
+  opening senders made = Taker (record { senders = senders; made = made; taken = []; joined = [] })
+
   abbrev pub newcomer : ℕ → Known T
-  newcomer n = Taker (record { senders = n; made = 0; taken = []; joined = [] })
+  newcomer senders = opening senders 0
 
   abbrev pub planned : Known T → Known T
   planned (Taker v) = Taker (record v { senders = v.senders + 1 })

@@ -1,5 +1,6 @@
 -- How the seats are seen: by what their passes know.
-use Rattle.std.specs.Prelude.{◌≡◌, ℕ, ◌<◌, List, []}
+use Rattle.std.specs.Prelude.{◌≡◌, ℕ, ◌<◌, List, [], length, slice_index_or}
+use Rattle.atomic_table.specs.Seated.{TableId}
 use Rattle.crossbeam_queue.specs.Passes.{Pass, view}
 use Rattle.gate_queue.specs.declared.tagged.Tagged.{Tagged}
 use Rattle.gate_queue.specs.declared.known.Put.{Put}
@@ -32,6 +33,14 @@ module _ {T : Type 0} where
 
   abbrev pub taker_seat : Pass (Tagged T) (Known T) → TakerSeat T
   taker_seat p = record { queue = record { table = p.table_id; senders = (as_taker (view p)).senders }; taken = (as_taker (view p)).taken }
+
+  -- a sender's seat in which nothing was put yet
+  abbrev pub new_seat : TableId → (senders s : ℕ) → SenderSeat T
+  new_seat table senders s = record { queue = record { table = table; senders = senders }; sender = s; put = [] }
+
+  -- new seats, from sender 0 on
+  abbrev pub AreNew : TableId → ℕ → List (SenderSeat T) → Type 0
+  AreNew table senders tails = (k : ℕ) (d : SenderSeat T) → k < length tails → slice_index_or tails k d ≡ new_seat table senders k
 
   -- the pass is that of the sender with this number, and no slot is out with it
   pub record IsSenderRight (s : ℕ) (p : Pass (Tagged T) (Known T)) : Type 0 where

@@ -7,11 +7,13 @@
 
 mod fault;
 mod known;
+mod opening;
 mod queue;
 mod seats;
 mod tagged;
 
 pub use fault::{Full, OpenFault, Unsettled};
+pub use opening::open;
 pub use queue::EventQueue;
 pub use seats::{Head, Tail};
 pub use tagged::Tagged;

@@ -4,7 +4,6 @@ use crate::known::Right;
 use std::marker::Model;
 
 /// A sender's seat. Contracts see it as its queue, the sender's number, and the list of what was put.
-#[derive(Drop)]
 pub struct Tail<T> {
     pub(crate) sender: usize,
     pub(crate) right: Right<T>,
@@ -22,8 +21,16 @@ impl<T> Model for Tail<T> {
     ghost invariant = { λ t. IsSenderRight t.sender t.right };
 }
 
+impl<T> Drop for Tail<T> {
+    fn drop(self) {
+        let Self {
+            sender: _,
+            right: _,
+        } = self;
+    }
+}
+
 /// The taker's seat. Contracts see it as its queue and the list of what was taken.
-#[derive(Drop)]
 pub struct Head<T> {
     pub(crate) right: Right<T>,
 }
@@ -38,4 +45,10 @@ impl<T> Model for Head<T> {
     ghost view = { λ h. taker_seat h.right };
 
     ghost invariant = { λ h. IsTakerRight h.right };
+}
+
+impl<T> Drop for Head<T> {
+    fn drop(self) {
+        let Self { right: _ } = self;
+    }
 }
