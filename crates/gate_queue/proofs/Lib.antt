@@ -1,4 +1,5 @@
 pub mod Values
+pub mod Counts
 pub mod Lists
 pub mod Views
 pub mod Keeps
