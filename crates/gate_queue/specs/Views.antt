@@ -1,5 +1,5 @@
 -- How the seats are seen: by what their passes know.
-use Rattle.std.specs.Prelude.{◌≡◌, ℕ, ◌<◌, List, [], length, slice_index_or}
+use Rattle.std.specs.Prelude.{◌≡◌, ℕ, ◌<◌, List, [], ◌++◌, length, slice_index_or}
 use Rattle.atomic_table.specs.Seated.{TableId}
 use Rattle.crossbeam_queue.specs.Passes.{Pass, view}
 use Rattle.gate_queue.specs.declared.tagged.Tagged.{Tagged}
@@ -33,6 +33,19 @@ module _ {T : Type 0} where
 
   abbrev pub taker_seat : Pass (Tagged T) (Known T) → TakerSeat T
   taker_seat p = record { queue = record { table = p.table_id; senders = (as_taker (view p)).senders }; taken = (as_taker (view p)).taken }
+
+  -- the taker, when seats that had put these lists are joined to it
+  abbrev pub with_joined : Got T → List (List T) → Got T
+  with_joined v lists = record { senders = v.senders; made = v.made; taken = v.taken; joined = lists }
+
+  -- the taker, when it took these too
+  abbrev pub with_more : Got T → List (Tagged T) → Got T
+  with_more v xs = record { senders = v.senders; made = v.made; taken = v.taken ++ xs; joined = v.joined }
+
+  -- seats of a queue, from sender 0 on
+  abbrev pub AreSeats : TableId → ℕ → List (SenderSeat T) → Type 0
+  AreSeats table senders tails =
+      (k : ℕ) (d : SenderSeat T) → k < length tails → ((slice_index_or tails k d).queue ≡ record { table = table; senders = senders }) × ((slice_index_or tails k d).sender ≡ k)
 
   -- a sender's seat in which nothing was put yet
   abbrev pub new_seat : TableId → (senders s : ℕ) → SenderSeat T

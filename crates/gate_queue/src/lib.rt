@@ -10,6 +10,7 @@ mod known;
 mod opening;
 mod queue;
 mod seats;
+mod settle;
 mod tagged;
 
 pub use fault::{Full, OpenFault, Unsettled};

@@ -1,4 +1,5 @@
 //! The seats of a queue.
+ghost use Rattle.std.specs.Prelude.{◌≡◌};
 
 use crate::known::Right;
 use std::marker::Model;
@@ -19,6 +20,18 @@ impl<T> Model for Tail<T> {
     ghost view = { λ t. sender_seat t.sender t.right };
 
     ghost invariant = { λ t. IsSenderRight t.sender t.right };
+}
+
+impl<T> Tail<T> {
+    ghost use Rattle.gate_queue.specs.Views.{sender_seat, IsSenderRight};
+
+    // What the seat steps with.
+    pub(crate) fn into_right(self) -> Right<T>
+        ensures { IsSenderRight self.sender result × (sender_seat self.sender result ≡ self) }
+    {
+        let Self { sender: _, right } = self;
+        right
+    }
 }
 
 impl<T> Drop for Tail<T> {
@@ -45,6 +58,18 @@ impl<T> Model for Head<T> {
     ghost view = { λ h. taker_seat h.right };
 
     ghost invariant = { λ h. IsTakerRight h.right };
+}
+
+impl<T> Head<T> {
+    ghost use Rattle.gate_queue.specs.Views.{taker_seat, IsTakerRight};
+
+    // What the seat steps with.
+    pub(crate) fn into_right(self) -> Right<T>
+        ensures { IsTakerRight result × (taker_seat result ≡ self) }
+    {
+        let Self { right } = self;
+        right
+    }
 }
 
 impl<T> Drop for Head<T> {
