@@ -5,3 +5,4 @@ pub mod Views
 pub mod Keeps
 pub mod Parts
 pub mod Told
+pub mod Settles

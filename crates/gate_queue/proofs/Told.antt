@@ -27,6 +27,10 @@ module _ {T : Type 0} where
   pub take_keeps : (pass : ℕ) (k : Known T) → k ≡ Taker (as_taker k) → Pops Shares pass k (HasTaken k) × Learns Shares pass k (CanWait k)
   take_keeps pass k is = (subst (λ (l : Known T). Pops Shares pass l (HasTaken l)) (sym is) (takes pass (as_taker k)), learns pass k)
 
+  -- the same where the pass is known to know this
+  pub take_keeps_at : (pass : ℕ) (k : Known T) (v : Got T) → k ≡ Taker v → Pops Shares pass k (HasTaken k) × Learns Shares pass k (CanWait k)
+  take_keeps_at pass k v is = (subst (λ (l : Known T). Pops Shares pass l (HasTaken l)) (sym is) (takes pass v), learns pass k)
+
   full_at : (n : ℕ) (queue : Shape) (tail : SenderSeat T) (v : Put T) → n ≡ queue.capacity → v.senders ≡ queue.name.senders → v.sender ≡ tail.sender → v.put ≡ tail.put
       → v.sender < v.senders → Held n (SenderAllows v) → MayBeFull queue tail × (queue.name.senders ≡ 1 → queue.capacity ≤ length tail.put)
   full_at n queue tail v size count number list within held =
