@@ -12,6 +12,8 @@ mod queue;
 mod seats;
 mod settle;
 mod tagged;
+#[cfg(test)]
+mod tests;
 
 pub use fault::{Full, OpenFault, Unsettled};
 pub use opening::open;
