@@ -1,3 +1,5 @@
+mod threads;
+
 use super::*;
 use std::test::Fail;
 
