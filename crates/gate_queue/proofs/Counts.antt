@@ -33,21 +33,21 @@ module _ {T : Type 0} where
   length-without s [] v vs h = absurd (let h' : [] ≡ v ∷ vs = h in (cc))
   length-without s (x ∷ xs) v vs h =
       dite (ℕ_discrete x.sender s) (λ e. ap suc (ap length (sym (without-here s x xs e))))
-          (λ ne. ap suc (length-without s xs v vs (sym (there s x xs ne) ∙ h)) ∙ ap (λ l. suc (length l)) (sym (without-there s x xs ne)))
+      (λ ne. ap suc (length-without s xs v vs (sym (there s x xs ne) ∙ h)) ∙ ap (λ l. suc (length l)) (sym (without-there s x xs ne)))
 
   values_of-without-same : (s : ℕ) (xs : List (Tagged T)) (v : T) (vs : List T) → values_of s xs ≡ v ∷ vs → values_of s (without s xs) ≡ vs
   values_of-without-same s [] v vs h = absurd (let h' : [] ≡ v ∷ vs = h in (cc))
   values_of-without-same s (x ∷ xs) v vs h =
       dite (ℕ_discrete x.sender s) (λ e. ap (values_of s) (without-here s x xs e) ∙ tail_of x.value v (values_of s xs) vs (sym (here s x xs e) ∙ h))
-          (λ ne. ap (values_of s) (without-there s x xs ne) ∙ there s x (without s xs) ne ∙ values_of-without-same s xs v vs (sym (there s x xs ne) ∙ h))
+      (λ ne. ap (values_of s) (without-there s x xs ne) ∙ there s x (without s xs) ne ∙ values_of-without-same s xs v vs (sym (there s x xs ne) ∙ h))
 
   values_of-without-other : (t s : ℕ) (xs : List (Tagged T)) → t ≢ s → values_of t (without s xs) ≡ values_of t xs
   values_of-without-other t s [] apart = refl
   values_of-without-other t s (x ∷ xs) apart =
       dite (ℕ_discrete x.sender s) (λ e. ap (values_of t) (without-here s x xs e) ∙ sym (there t x xs (λ e'. apart (sym e' ∙ e))))
-          (λ ne.
-              ap (values_of t) (without-there s x xs ne) ∙ values_of-append t (x ∷ []) (without s xs) ∙ ap (λ l. values_of t (x ∷ []) ++ l) (values_of-without-other t s xs apart)
-              ∙ sym (values_of-append t (x ∷ []) xs))
+      (λ ne.
+      ap (values_of t) (without-there s x xs ne) ∙ values_of-append t (x ∷ []) (without s xs) ∙ ap (λ l. values_of t (x ∷ []) ++ l) (values_of-without-other t s xs apart)
+      ∙ sym (values_of-append t (x ∷ []) xs))
 
   no_values : (ys : List (Tagged T)) → ((s : ℕ) → [] ≡ values_of s ys) → length ys ≡ 0
   no_values [] same = refl
@@ -59,9 +59,9 @@ module _ {T : Type 0} where
   same_length (x ∷ xs) ys same =
       let first : values_of x.sender ys ≡ x.value ∷ values_of x.sender xs = sym (same x.sender) ∙ here x.sender x xs refl in
       let rest : (s : ℕ) → values_of s xs ≡ values_of s (without x.sender ys) = λ s.
-          dite (ℕ_discrete s x.sender)
-              (λ e. subst (λ s. values_of s xs ≡ values_of s (without x.sender ys)) (sym e) (sym (values_of-without-same x.sender ys x.value (values_of x.sender xs) first)))
-              (λ ne. sym (there s x xs (λ e. ne (sym e))) ∙ same s ∙ sym (values_of-without-other s x.sender ys ne)) in
+      dite (ℕ_discrete s x.sender)
+      (λ e. subst (λ s. values_of s xs ≡ values_of s (without x.sender ys)) (sym e) (sym (values_of-without-same x.sender ys x.value (values_of x.sender xs) first)))
+      (λ ne. sym (there s x xs (λ e. ne (sym e))) ∙ same s ∙ sym (values_of-without-other s x.sender ys ne)) in
       ap suc (same_length xs (without x.sender ys) rest) ∙ sym (length-without x.sender ys x.value (values_of x.sender xs) first)
 
   -- no value comes from a sender beyond the last

@@ -58,7 +58,7 @@ module _ {T : Type 0} where
       let me = h.fits pass (Sender v) at in
       let all : List (Tagged T) = h.all ++ x ∷ [] in
       let mine : IsSender h.senders h.holder all pass w =
-          record { seat = me.seat; put = ap (λ l. l ++ x.value ∷ []) me.put ∙ sym (values_of-same v.sender h.all x is); count = me.count; within = me.within } in
+      record { seat = me.seat; put = ap (λ l. l ++ x.value ∷ []) me.put ∙ sym (values_of-same v.sender h.all x is); count = me.count; within = me.within } in
       let from_one : x.sender < h.senders = subst (λ s. s < h.senders) (sym is) me.within in (
         Sender w,
         record {
@@ -98,7 +98,7 @@ module _ {T : Type 0} where
       let taken : List (Tagged T) = h.taken ++ x ∷ [] in
       let history : h.all ≡ taken ++ items = h.history ∙ sym (append_assoc h.taken (x ∷ []) items) in
       let mine : IsTaker h.taker h.senders h.holder h.all taken pass w =
-          record { here = me.here; got = ap (λ l. l ++ x ∷ []) me.got; count = me.count; unmade = me.unmade; joined = me.joined } in (
+      record { here = me.here; got = ap (λ l. l ++ x ∷ []) me.got; count = me.count; unmade = me.unmade; joined = me.joined } in (
         Taker w,
         record {
           taker = h.taker;

@@ -21,7 +21,7 @@ pub new_one_more : {T : Type 0} (table : TableId) (senders n : ℕ) (tails after
     → after ≡ tails ++ x ∷ [] → AreNew table senders after
 new_one_more {T} table senders n tails after x old count is grown =
     subst (AreNew table senders) (sym grown)
-        (λ k d h. longer d (λ (s : ℕ) (t : SenderSeat T). t ≡ new_seat table senders s) tails x (λ s l. old s d l) (subst (λ s. x ≡ new_seat table senders s) (sym count) is) k h)
+    (λ k d h. longer d (λ (s : ℕ) (t : SenderSeat T). t ≡ new_seat table senders s) tails x (λ s l. old s d l) (subst (λ s. x ≡ new_seat table senders s) (sym count) is) k h)
 
 -- how a pass that the next sender gets is seen
 pub new_seat_is : {T : Type 0} (table : TableId) (senders s : ℕ) (p : Pass (Tagged T) (Known T)) (k : Known T) → p.table_id ≡ table → view p ≡ next_sender k → k ≡ opening senders s

@@ -44,7 +44,7 @@ module _ {T : Type 0} where
       let me = h.fits pass (Taker v) at in
       let none : (s : ℕ) → h.holder s ≡ 0 = λ s. (me.unmade s (let z : v.made ≡ 0 = new in omega arith)).0 in
       let mine : IsTaker h.taker (h.senders + 1) h.holder h.all h.taken pass w =
-          record { here = me.here; got = me.got; count = ap (λ n. n + 1) me.count; unmade = me.unmade; joined = me.joined } in
+      record { here = me.here; got = me.got; count = ap (λ n. n + 1) me.count; unmade = me.unmade; joined = me.joined } in
       let F : ℕ → Known T → Type 0 = Fits h.taker (h.senders + 1) h.holder h.all h.taken in
       record {
         taker = h.taker;
@@ -78,15 +78,15 @@ module _ {T : Type 0} where
       let vs : List (Known T) = set views pass (Taker w) in
       let n : ℕ = suc (length vs) in
       let mine : IsTaker h.taker h.senders (given h.holder v.made n) h.all h.taken pass w =
-          record {
-            here = me.here;
-            got = me.got;
-            count = me.count;
-            unmade = λ s l. let none = me.unmade s (omega arith) in (given_else h.holder v.made n s (λ e. omega arith) ∙ none.0, none.1);
-            joined = λ s l. let none = me.joined s l in (given_else h.holder v.made n s (λ e. omega arith) ∙ none.0, none.1);
-          } in
+      record {
+        here = me.here;
+        got = me.got;
+        count = me.count;
+        unmade = λ s l. let none = me.unmade s (omega arith) in (given_else h.holder v.made n s (λ e. omega arith) ∙ none.0, none.1);
+        joined = λ s l. let none = me.joined s l in (given_else h.holder v.made n s (λ e. omega arith) ∙ none.0, none.1);
+      } in
       let new : IsSender h.senders (given h.holder v.made n) h.all (length vs) next =
-          record { seat = given_there h.holder v.made n; put = sym free.1; count = me.count; within = subst (λ k. v.made < k) me.count room } in
+      record { seat = given_there h.holder v.made n; put = sym free.1; count = me.count; within = subst (λ k. v.made < k) me.count room } in
       let F : ℕ → Known T → Type 0 = Fits h.taker h.senders (given h.holder v.made n) h.all h.taken in
       record {
         taker = h.taker;
@@ -121,19 +121,19 @@ module _ {T : Type 0} where
       let it = h.fits other (Sender w) was in
       let holder : ℕ → ℕ = given h.holder w.sender 0 in
       let mine : IsTaker h.taker h.senders holder h.all h.taken pass v' =
-          record {
-            here = me.here;
-            got = me.got;
-            count = me.count;
-            unmade = λ s l. let none = me.unmade s l in (given_none h.holder w.sender s none.0, none.1);
-            joined = longer [] (λ s l. (holder s ≡ 0) × (l ≡ values_of s h.all)) v.joined w.put
-                (λ s l. let none = me.joined s l in (given_none h.holder w.sender s none.0, none.1))
-                (subst (λ s. (holder s ≡ 0) × (w.put ≡ values_of s h.all)) next (given_there h.holder w.sender 0, it.put));
-          } in
+      record {
+        here = me.here;
+        got = me.got;
+        count = me.count;
+        unmade = λ s l. let none = me.unmade s l in (given_none h.holder w.sender s none.0, none.1);
+        joined = longer [] (λ s l. (holder s ≡ 0) × (l ≡ values_of s h.all)) v.joined w.put
+            (λ s l. let none = me.joined s l in (given_none h.holder w.sender s none.0, none.1))
+            (subst (λ s. (holder s ≡ 0) × (w.put ≡ values_of s h.all)) next (given_there h.holder w.sender 0, it.put));
+      } in
       let F : ℕ → Known T → Type 0 = Fits h.taker h.senders holder h.all h.taken in
       let G : ℕ → Known T → Type 0 = λ j u. j ≢ other → F j u in
       let now : Each G vs = each_set G views pass (Taker v') (λ _. mine)
-          (λ j u apart e apart'. fits_join h.taker h.senders h.holder h.all h.taken pass other w.sender me.here it.seat j u apart apart' (h.fits j u e)) in
+      (λ j u apart e apart'. fits_join h.taker h.senders h.holder h.all h.taken pass other w.sender me.here it.seat j u apart apart' (h.fits j u e)) in
       record {
         taker = h.taker;
         senders = h.senders;

@@ -41,9 +41,9 @@ module _ {T : Type 0} where
       → (s : ℕ) → values_of s (v.taken ++ items) ≡ values_of s ((v.taken ++ xs) ++ after)
   count_by_sender v xs items after whole before now s =
       dite (dec_lt s v.senders) (λ below. sym (before.joined s (omega arith)) ∙ now.joined s (omega arith))
-          (λ beyond.
-              let reach : v.senders ≤ s = omega arith in
-              values_of-beyond v.senders s (v.taken ++ items) reach before.from ∙ sym (values_of-beyond v.senders s ((v.taken ++ xs) ++ after) reach now.from))
+      (λ beyond.
+      let reach : v.senders ≤ s = omega arith in
+      values_of-beyond v.senders s (v.taken ++ items) reach before.from ∙ sym (values_of-beyond v.senders s ((v.taken ++ xs) ++ after) reach now.from))
 
   -- where each seat is joined, what waited is what was taken since and what still waits
   waited : (v : Got T) (xs items after : List (Tagged T)) → length v.joined ≡ v.senders → TakerAllows v items → TakerAllows (with_more v xs) after → length xs + length after ≡ length items
@@ -63,6 +63,10 @@ module _ {T : Type 0} where
       let now = subst (λ (u : Got T). TakerAllows u told.1.0) (took_more v xs x) told.1.1 in
       let count = waited v (xs ++ x ∷ []) held.0 told.1.0 whole before now in
       (told.0 ∙ ap (λ (u : Got T). Taker u) (took_more v xs x), omega (arith, count, held.1, length-append xs (x ∷ [])))
+
+  -- the same for the list as it is then
+  pub grown_more : (w : Known T) (v : Got T) (xs ys : List (Tagged T)) → w ≡ Taker (with_more v xs) → ys ≡ xs → w ≡ Taker (with_more v ys)
+  grown_more w v xs ys is same = is ∙ ap (λ (l : List (Tagged T)). Taker (with_more v l)) (sym same)
 
   inner : (n : ℕ) (before xs : List (Tagged T)) → AreFrom n (before ++ xs) → AreFrom n xs
   inner n [] xs from = from

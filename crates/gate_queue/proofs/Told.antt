@@ -61,8 +61,8 @@ module _ {T : Type 0} where
   full_told n s p queue tail size right is of held =
       let v : Put T = as_sender (view p) in
       full_at n queue tail v size (ap (λ (t : SenderSeat T). t.queue.senders) is ∙ ap (λ q. q.senders) of) (right.number ∙ ap (λ (t : SenderSeat T). t.sender) is)
-          (ap (λ (t : SenderSeat T). t.put) is) (subst (λ k. k < v.senders) (sym right.number) right.within)
-          (subst (λ (k : Known T). Held n (CanWait k)) right.known held)
+      (ap (λ (t : SenderSeat T). t.put) is) (subst (λ k. k < v.senders) (sym right.number) right.within)
+      (subst (λ (k : Known T). Held n (CanWait k)) right.known held)
 
   nothing_at : (queue : Shape) (head : TakerSeat T) (v : Got T) → v.senders ≡ queue.name.senders → v.taken ≡ head.taken → Held 0 (TakerAllows v) → MayBeEmpty queue head
   nothing_at queue head v count list held =
@@ -88,7 +88,7 @@ module _ {T : Type 0} where
   empty_told (Some x) p q queue head right is of rule = tt
   empty_told None p q queue head right is of rule =
       nothing_at queue head (as_taker (view p)) (ap (λ (h : TakerSeat T). h.queue.senders) is ∙ ap (λ q. q.senders) of) (ap (λ (h : TakerSeat T). h.taken) is)
-          (subst (λ (k : Known T). Held 0 (CanWait k)) right.known rule.1)
+      (subst (λ (k : Known T). Held 0 (CanWait k)) right.known rule.1)
 
   middle : (n : ℕ) (xs : List (Tagged T)) (x : Tagged T) (ys : List (Tagged T)) → AreFrom n ((xs ++ x ∷ []) ++ ys) → x.sender < n
   middle n [] x ys from = from 0 x (omega arith)

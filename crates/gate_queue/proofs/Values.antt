@@ -13,7 +13,7 @@ module _ {T : Type 0} where
   values_of-append s [] ys = refl
   values_of-append s (x ∷ xs) ys =
       elim (x.sender == s) as (λ (b : Bool). (cond b (x.value ∷ values_of s (xs ++ ys)) (values_of s (xs ++ ys))) ≡ (cond b (x.value ∷ values_of s xs) (values_of s xs)) ++ values_of s ys)
-          [ true ↦ ap (λ l. x.value ∷ l) (values_of-append s xs ys) | false ↦ values_of-append s xs ys ]
+      [ true ↦ ap (λ l. x.value ∷ l) (values_of-append s xs ys) | false ↦ values_of-append s xs ys ]
 
   pub one_of_same : (s : ℕ) (x : Tagged T) → x.sender ≡ s → values_of s (x ∷ []) ≡ x.value ∷ []
   one_of_same s x e = rw (eq-eqb x.sender s e)

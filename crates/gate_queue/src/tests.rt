@@ -6,9 +6,24 @@ use std::test::Fail;
 #[test]
 fn refuses_no_capacity(rt: HostRuntime) -> Result<(), Fail> {
     assert!(rt; matches!(open::<u8>(rt.alloc(), 0, 1), Err(OpenFault::Capacity)));
-    assert!(rt; matches!(open::<u8>(rt.alloc(), 0, usize::MAX), Err(OpenFault::Capacity)));
-    assert!(rt; matches!(open::<u8>(rt.alloc(), 1, usize::MAX), Err(OpenFault::Memory)));
-    assert!(rt; matches!(open::<u8>(rt.alloc(), usize::MAX, 1), Err(OpenFault::Memory)));
+    assert!(rt;
+        matches!(
+            open::<u8>(rt.alloc(), 0, usize::MAX),
+            Err(OpenFault::Capacity)
+        )
+    );
+    assert!(rt;
+        matches!(
+            open::<u8>(rt.alloc(), 1, usize::MAX),
+            Err(OpenFault::Memory)
+        )
+    );
+    assert!(rt;
+        matches!(
+            open::<u8>(rt.alloc(), usize::MAX, 1),
+            Err(OpenFault::Memory)
+        )
+    );
     Ok(())
 }
 
@@ -20,7 +35,14 @@ fn one_sender_fills_two_places(rt: HostRuntime) -> Result<(), Fail> {
     assert_eq!(rt; queue.put(&rt, &mut tails[0], 'c'), Err(Full('c')));
     assert_eq!(rt; queue.take(&rt, &mut head), tagged(0, 'a'));
     let rest = queue.settle(&rt, tails, head).ok().expect(&rt, "memory");
-    assert_eq!(rt; rest.as_slice(), [Tagged { sender: 0, value: 'b' }].as_slice());
+    assert_eq!(rt;
+        rest.as_slice(),
+        [Tagged {
+            sender: 0,
+            value: 'b'
+        }]
+        .as_slice()
+    );
     Ok(())
 }
 

@@ -11,12 +11,7 @@ use std::thread;
 use std::thread::Threads;
 
 // Puts all these values. Where the queue is full it tries again.
-fn put_all<R: Wait>(
-    rt: &R,
-    queue: &EventQueue<u64>,
-    mut tail: Tail<u64>,
-    all: &[u64],
-) -> Tail<u64>
+fn put_all<R: Wait>(rt: &R, queue: &EventQueue<u64>, mut tail: Tail<u64>, all: &[u64]) -> Tail<u64>
     requires { IsTailOf queue.now tail }
     ensures seat { IsTailOf queue.now result × (result.sender ≡ tail.sender) }
     ensures put { result.put ≡ tail.put ++ all.now }
@@ -130,9 +125,7 @@ fn exchange<R: Threads + Wait + Sync>(
 }
 
 // A queue of 16 places with two senders.
-fn open_two(
-    alloc: Global,
-) -> Result<(EventQueue<u64>, (Tail<u64>, Tail<u64>, Head<u64>)), Fail>
+fn open_two(alloc: Global) -> Result<(EventQueue<u64>, (Tail<u64>, Tail<u64>, Head<u64>)), Fail>
     ensures queue { IfOk result (λ o. o.0.name.senders ≡ 2) }
     ensures first { IfOk result (λ o. IsTailOf o.0 o.1.0 × (o.1.0.sender ≡ 0) × (o.1.0.put ≡ [])) }
     ensures second { IfOk result (λ o. IsTailOf o.0 o.1.1 × (o.1.1.sender ≡ 1) × (o.1.1.put ≡ [])) }

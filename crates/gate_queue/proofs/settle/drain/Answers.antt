@@ -4,7 +4,7 @@ use Rattle.gate_queue.specs.Views.{as_taker, with_more}
 use Rattle.crossbeam_queue.specs.Passes.{view}
 use Rattle.gate_queue.proofs.Keeps.{learns}
 use Rattle.gate_queue.proofs.Told.{take_keeps_at}
-use Rattle.gate_queue.proofs.Settles.{drain_step, drain_end}
+use Rattle.gate_queue.proofs.Settles.{drain_step, drain_end, grown_more}
 use Rattle.gate_queue.proofs.settle.drain.Goals as goal
 
 pub len_as-count-requires-clause-rule : goal.len_as-count-requires-clause-rule
@@ -28,7 +28,7 @@ loop-item-preserved g c =
     let told = drain_step _ _ (as_taker (view c.args.right)) _ _ _ _ c.loop-item.invariant.1 c.in-Some.ensures.rule c.requires.all_joined c.requires.right.1 c.len_as-count.ensures.rule.1 in
     let queue = c.in-Some.ensures.queue in (
       (queue.0 ∙ c.loop-item.invariant.0.0, queue.2 ∙ c.loop-item.invariant.0.1),
-      told.0 ∙ ap (λ xs. Taker (with_more (as_taker (view c.args.right)) xs)) (sym c.push_reserved.ensures.items),
+      grown_more _ (as_taker (view c.args.right)) _ _ told.0 c.push_reserved.ensures.items,
       omega (arith, c.push_reserved.ensures.capacity, c.loop-item.invariant.2),
       omega (arith, told.1, c.loop-item.rest.ok.0, c.push_reserved.ensures.len),
     )

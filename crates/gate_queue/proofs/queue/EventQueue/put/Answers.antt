@@ -9,13 +9,13 @@ push_as-requires-clause-rule g c = put_keeps _ _ _ _ c.tail.invariant.known (sym
 pub returns-clause-refused : goal.returns-clause-refused
 returns-clause-refused g c =
     elim c.match-push_as.branch [
-      in-Ok w ↦ rw w.result-is tt
-    | in-Err w ↦ rw w.result-is (full_told _ _ _ _ _ (ap (λ q. q.capacity) c.self.view_is) c.tail.invariant c.tail.view_is c.requires w.in-Err.ensures.rule.2).0
+      | in-Ok w ↦ rw w.result-is tt
+      | in-Err w ↦ rw w.result-is (full_told _ _ _ _ _ (ap (λ q. q.capacity) c.self.view_is) c.tail.invariant c.tail.view_is c.requires w.in-Err.ensures.rule.2).0
     ]
 
 pub returns-clause-only_sender : goal.returns-clause-only_sender
 returns-clause-only_sender g c one =
     elim c.match-push_as.branch [
-      in-Ok w ↦ rw w.result-is tt
-    | in-Err w ↦ rw w.result-is ((full_told _ _ _ _ _ (ap (λ q. q.capacity) c.self.view_is) c.tail.invariant c.tail.view_is c.requires w.in-Err.ensures.rule.2).1 one)
+      | in-Ok w ↦ rw w.result-is tt
+      | in-Err w ↦ rw w.result-is ((full_told _ _ _ _ _ (ap (λ q. q.capacity) c.self.view_is) c.tail.invariant c.tail.view_is c.requires w.in-Err.ensures.rule.2).1 one)
     ]
