@@ -1,10 +1,8 @@
 -- Each step keeps the rule of the queues.
-use Rattle.std.proofs.Common.{◌≡◌, ◌≢◌, ℕ, zero, suc, ◌+◌, ◌<◌, ◌≤◌, ◌⊎◌, List, [], ◌∷◌, ◌++◌, length, set, sym, refl, ap, ◌∙◌, subst, ⊎_elim, append_assoc, arith, append-nil}
-use Rattle.std.specs.Prelude.{All, slice_index_or}
+use Rattle.std.proofs.Common.{◌≡◌, ◌≢◌, ℕ, zero, suc, ◌<◌, List, [], ◌∷◌, ◌++◌, sym, refl, ap, ◌∙◌, subst, append_assoc, arith}
 use Rattle.std.proofs.lemmas.List.Elements.{All-append}
-use mathlib.Core.Option.{some, some-ne-none}
-use lib.ListN.{get_elem?}
-use Rattle.crossbeam_queue.specs.Fifo.{Pushes, Pops, Forks, Merges, Learns}
+use mathlib.Core.Option.{some-ne-none}
+use Rattle.crossbeam_queue.specs.Fifo.{Pushes, Pops, Learns}
 use Rattle.gate_queue.specs.declared.tagged.Tagged.{Tagged}
 use Rattle.gate_queue.specs.declared.known.Put.{Put}
 use Rattle.gate_queue.specs.declared.known.Got.{Got}
@@ -12,9 +10,9 @@ use Rattle.gate_queue.specs.declared.known.Known.{Known}
 use Rattle.gate_queue.specs.declared.known.Known.TheVariants.{Sender, Taker, Nothing}
 use Rattle.gate_queue.specs.Tagged.{values_of}
 use Rattle.gate_queue.specs.States.{AreFrom}
-use Rattle.gate_queue.specs.Sharing.{IsSender, IsTaker, Fits, Shares, newcomer, planned, nothing, seated, next_sender, joined, HasPut, HasTaken, CanWait, SenderAllows, TakerAllows, took}
-use Rattle.gate_queue.proofs.Values.{values_of-append, values_of-same, values_of-other}
-use Rattle.gate_queue.proofs.Views.{Each, each_set, each_snoc}
+use Rattle.gate_queue.specs.Sharing.{IsSender, IsTaker, Fits, Shares, newcomer, HasPut, HasTaken, CanWait, SenderAllows, TakerAllows, took}
+use Rattle.gate_queue.proofs.Values.{values_of-same, values_of-other}
+use Rattle.gate_queue.proofs.Views.{each_set, each_snoc}
 
 module _ {T : Type 0} where
   -- the rule of a new queue

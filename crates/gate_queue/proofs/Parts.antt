@@ -1,8 +1,5 @@
 -- The steps that cut a pass or join one keep the rule of the queues.
-use Rattle.std.proofs.Common.{◌≡◌, ◌≢◌, ℕ, zero, suc, ◌+◌, ◌<◌, ◌≤◌, Bool, true, false, cond, List, [], ◌∷◌, ◌++◌, length, set, sym, refl, ap, ◌∙◌, subst, eqb, eq-eqb, ne_eqb, arith, length-append, get_or}
-use Rattle.std.specs.Prelude.{◌==◌, if◌then◌else◌}
-use mathlib.Core.Logic.{dite}
-use native.Mathlib.Decide.{ℕ_discrete}
+use Rattle.std.proofs.Common.{◌≡◌, ◌≢◌, ℕ, suc, ◌+◌, ◌<◌, ◌≤◌, true, false, cond, List, [], ◌∷◌, ◌++◌, length, set, sym, refl, ap, ◌∙◌, subst, eqb, eq-eqb, ne_eqb, arith}
 use mathlib.Core.Option.{some}
 use lib.ListN.{get_elem?}
 use Rattle.crossbeam_queue.specs.Fifo.{Forks, Merges}
@@ -12,7 +9,6 @@ use Rattle.gate_queue.specs.declared.known.Got.{Got}
 use Rattle.gate_queue.specs.declared.known.Known.{Known}
 use Rattle.gate_queue.specs.declared.known.Known.TheVariants.{Sender, Taker, Nothing}
 use Rattle.gate_queue.specs.Tagged.{values_of}
-use Rattle.gate_queue.specs.States.{AreFrom}
 use Rattle.gate_queue.specs.Sharing.{IsSender, IsTaker, Fits, Shares, planned, nothing, seated, next_sender, joined}
 use Rattle.crossbeam_queue.proofs.Lists.{set_else}
 use Rattle.gate_queue.proofs.Lists.{longer}

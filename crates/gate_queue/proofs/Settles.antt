@@ -1,6 +1,5 @@
 -- How a queue is settled: its seats are joined in their order, and then all that waits is taken.
-use Rattle.std.proofs.Common.{◌≡◌, ℕ, zero, suc, ◌+◌, ◌<◌, ◌≤◌, List, [], ◌∷◌, ◌++◌, length, map, sym, refl, ap, ◌∙◌, subst, arith, append_assoc, append-nil, length-append, get_or}
-use Rattle.std.proofs.Math.ListN.{get_or-append}
+use Rattle.std.proofs.Common.{◌≡◌, ℕ, suc, ◌+◌, ◌<◌, ◌≤◌, List, [], ◌∷◌, ◌++◌, length, map, sym, refl, ap, ◌∙◌, subst, arith, append_assoc, append-nil, length-append, get_or}
 use Rattle.std.proofs.Math.Seq.{get_or-append_seam}
 use Rattle.std.proofs.lemmas.List.{length-map}
 use mathlib.Core.Logic.{dite}
@@ -9,15 +8,14 @@ use Rattle.crossbeam_queue.specs.Fifo.{Merges, Held}
 use Rattle.crossbeam_queue.specs.Passes.{Pass, view}
 use Rattle.atomic_table.specs.Seated.{TableId}
 use Rattle.gate_queue.specs.declared.tagged.Tagged.{Tagged}
-use Rattle.gate_queue.specs.declared.known.Put.{Put}
 use Rattle.gate_queue.specs.declared.known.Got.{Got}
 use Rattle.gate_queue.specs.declared.known.Known.{Known}
-use Rattle.gate_queue.specs.declared.known.Known.TheVariants.{Sender, Taker, Nothing}
+use Rattle.gate_queue.specs.declared.known.Known.TheVariants.{Taker, Nothing}
 use Rattle.gate_queue.specs.Tagged.{values_of}
 use Rattle.gate_queue.specs.Seats.{SenderSeat}
 use Rattle.gate_queue.specs.States.{AreFrom, IsDelivered}
 use Rattle.gate_queue.specs.Sharing.{Shares, HasTaken, CanWait, TakerAllows, took, joined}
-use Rattle.gate_queue.specs.Views.{as_sender, as_taker, with_joined, with_more, AreSeats, IsSenderRight}
+use Rattle.gate_queue.specs.Views.{as_sender, with_joined, with_more, AreSeats, IsSenderRight}
 use Rattle.gate_queue.proofs.Values.{values_of-append}
 use Rattle.gate_queue.proofs.Counts.{same_length, values_of-beyond}
 use Rattle.gate_queue.proofs.Parts.{joins}

@@ -1,5 +1,5 @@
 -- What the calls of a queue need of the rule, and what their answers tell of its state.
-use Rattle.std.proofs.Common.{◌≡◌, ℕ, zero, suc, ◌+◌, ◌<◌, ◌≤◌, List, [], ◌∷◌, ◌++◌, length, sym, refl, ap, ◌∙◌, subst, arith, append-nil, length-append}
+use Rattle.std.proofs.Common.{◌≡◌, ℕ, suc, ◌<◌, ◌≤◌, List, [], ◌∷◌, ◌++◌, length, sym, refl, ap, ◌∙◌, subst, arith, append-nil, length-append}
 use Rattle.std.specs.Prelude.{Option, Some, None, IfSome, IfNone, MatchOption}
 use Rattle.crossbeam_queue.specs.Fifo.{Pushes, Pops, Learns, Held}
 use Rattle.crossbeam_queue.specs.Passes.{Pass, view}
@@ -7,11 +7,11 @@ use Rattle.gate_queue.specs.declared.tagged.Tagged.{Tagged}
 use Rattle.gate_queue.specs.declared.known.Put.{Put}
 use Rattle.gate_queue.specs.declared.known.Got.{Got}
 use Rattle.gate_queue.specs.declared.known.Known.{Known}
-use Rattle.gate_queue.specs.declared.known.Known.TheVariants.{Sender, Taker, Nothing}
+use Rattle.gate_queue.specs.declared.known.Known.TheVariants.{Sender, Taker}
 use Rattle.gate_queue.specs.Tagged.{values_of}
 use Rattle.gate_queue.specs.Seats.{Shape, SenderSeat, TakerSeat, IsTailOf, IsHeadOf}
-use Rattle.gate_queue.specs.States.{AreFrom, State, Allows, MayBeFull, MayBeEmpty}
-use Rattle.gate_queue.specs.Sharing.{Shares, HasPut, HasTaken, CanWait, SenderAllows, TakerAllows, took}
+use Rattle.gate_queue.specs.States.{AreFrom, MayBeFull, MayBeEmpty}
+use Rattle.gate_queue.specs.Sharing.{Shares, HasPut, HasTaken, CanWait, SenderAllows, TakerAllows}
 use Rattle.gate_queue.specs.Views.{as_sender, as_taker, sender_seat, taker_seat, IsSenderRight, IsTakerRight}
 use Rattle.gate_queue.proofs.Values.{values_of-append, length-values_of-only}
 use Rattle.gate_queue.proofs.Keeps.{puts, takes, learns}

@@ -7,7 +7,7 @@ use Rattle.gate_queue.specs.declared.known.Put.{Put}
 use Rattle.gate_queue.specs.declared.known.Got.{Got}
 use Rattle.gate_queue.specs.declared.known.Known.{Known}
 use Rattle.gate_queue.specs.declared.known.Known.TheVariants.{Sender, Taker, Nothing}
-use Rattle.gate_queue.specs.Seats.{QueueName, SenderSeat, TakerSeat}
+use Rattle.gate_queue.specs.Seats.{SenderSeat, TakerSeat}
 
 module _ {T : Type 0} where
   abbrev pub nobody : Put T

@@ -1,6 +1,5 @@
-use Rattle.std.proofs.Common.{◌∙◌, ap, sym, arith}
-use Rattle.gate_queue.specs.declared.known.Known.TheVariants.{Taker}
-use Rattle.gate_queue.specs.Views.{as_taker, with_more}
+use Rattle.std.proofs.Common.{◌∙◌, arith, [], ◌∷◌, ◌++◌}
+use Rattle.gate_queue.specs.Views.{as_taker}
 use Rattle.crossbeam_queue.specs.Passes.{view}
 use Rattle.gate_queue.proofs.Keeps.{learns}
 use Rattle.gate_queue.proofs.Told.{take_keeps_at}
@@ -28,7 +27,7 @@ loop-item-preserved g c =
     let told = drain_step _ _ (as_taker (view c.args.right)) _ _ _ _ c.loop-item.invariant.1 c.in-Some.ensures.rule c.requires.all_joined c.requires.right.1 c.len_as-count.ensures.rule.1 in
     let queue = c.in-Some.ensures.queue in (
       (queue.0 ∙ c.loop-item.invariant.0.0, queue.2 ∙ c.loop-item.invariant.0.1),
-      grown_more _ (as_taker (view c.args.right)) _ _ told.0 c.push_reserved.ensures.items,
+      grown_more (view c.pop_as.new.pass) (as_taker (view c.args.right)) (c.loop-item.rest.items ++ c.in-Some.item ∷ []) c.push_reserved.new.self.items told.0 c.push_reserved.ensures.items,
       omega (arith, c.push_reserved.ensures.capacity, c.loop-item.invariant.2),
       omega (arith, told.1, c.loop-item.rest.ok.0, c.push_reserved.ensures.len),
     )
