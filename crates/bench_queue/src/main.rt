@@ -15,7 +15,10 @@ fn main(rt: HostRuntime) -> Result<()> {
     let Some(count) = env::args(&rt)?.nth(1) else {
         return Ok(());
     };
-    let each = count.as_str().parse::<u64>().context("the number of values")?;
+    let each = count
+        .as_str()
+        .parse::<u64>()
+        .context("the number of values")?;
     for (name, senders) in [("pair", 1), ("four", 4)] {
         let took = plain::run(&rt, rt.alloc(), senders, each)?;
         println!(rt; "{name} plain {}", per_second(senders, each, took))?;

@@ -1,5 +1,5 @@
 -- How a queue is settled: its seats are joined in their order, and then all that waits is taken.
-use Rattle.std.proofs.Common.{◌≡◌, ℕ, suc, ◌+◌, ◌<◌, ◌≤◌, List, [], ◌∷◌, ◌++◌, length, map, sym, refl, ap, ◌∙◌, subst, arith, append_assoc, append-nil, length-append, get_or}
+use Rattle.std.proofs.Common.{◌≡◌, ℕ, suc, ◌+◌, ◌<◌, ◌≤◌, List, [], ◌∷◌, ◌++◌, length, map, sym, refl, ap, ◌∙◌, subst, arith, append_assoc, append-nil, length-append, get_or, zero}
 use Rattle.std.proofs.Math.Seq.{get_or-append_seam}
 use Rattle.std.proofs.lemmas.List.{length-map}
 use mathlib.Core.Logic.{dite}
@@ -70,17 +70,22 @@ module _ {T : Type 0} where
   inner n [] xs from = from
   inner n (y ∷ before) xs from = inner n before xs (λ k d h. from (suc k) d (omega arith))
 
+  outer : (n : ℕ) (xs after : List (Tagged T)) → AreFrom n (xs ++ after) → AreFrom n xs
+  outer n [] after from k d h = absurd (omega arith)
+  outer n (x ∷ xs) after from zero d h = from zero d (omega arith)
+  outer n (x ∷ xs) after from (suc k) d h = outer n xs after (λ j e l. from (suc j) e (omega arith)) k d (omega arith)
+
   no_more : (xs : List (Tagged T)) → length xs ≡ 0 → xs ≡ []
   no_more [] e = refl
   no_more (x ∷ xs) e = absurd (omega arith)
 
   -- when nothing waits any more
   pub drain_end : (k : Known T) (v : Got T) (xs : List (Tagged T)) → k ≡ Taker (with_more v xs) → length v.joined ≡ v.senders → Held 0 (CanWait k)
-      → ((s : ℕ) → s < v.senders → IsDelivered v.taken xs s (get_or v.joined s [])) × AreFrom v.senders xs
+      → ((s : ℕ) → s < v.senders → IsDelivered v.taken xs s (get_or v.joined s [])) × (AreFrom v.senders v.taken × AreFrom v.senders xs)
   drain_end k v xs is whole held =
       let none : held.0 ≡ [] = no_more held.0 held.1 in
       let allows = subst (λ (l : Known T). CanWait l held.0) is held.2 in
       let all : (v.taken ++ xs) ++ held.0 ≡ v.taken ++ xs = ap (λ l. (v.taken ++ xs) ++ l) none ∙ append-nil (v.taken ++ xs) in (
         (λ s below. sym (values_of-append s v.taken xs) ∙ ap (values_of s) (sym all) ∙ sym (allows.joined s (omega arith))),
-        inner v.senders v.taken xs (subst (AreFrom v.senders) all allows.from),
+        (outer v.senders v.taken xs (subst (AreFrom v.senders) all allows.from), inner v.senders v.taken xs (subst (AreFrom v.senders) all allows.from)),
       )

@@ -1,4 +1,5 @@
-//! What each seat of a queue knows, and what its steps tell. These types are for the proofs alone: no value of them is made.
+//! What each seat of a queue knows, and what its steps tell. These types are for the proofs alone: no value of them is
+//! made.
 
 use crate::tagged::Tagged;
 use crossbeam_queue::protocol::{Join, Lesson, Outcome, Protocol, Split};
@@ -12,7 +13,8 @@ pub struct Put<T> {
     pub put: LinkedList<T>,
 }
 
-/// What the taker's seat knows: how many senders there are and how many have their seat, what it took, and what each seat that was joined had put.
+/// What the taker's seat knows: how many senders there are and how many have their seat, what it took, and what each
+/// seat that was joined had put.
 pub struct Got<T> {
     pub senders: usize,
     pub made: usize,
@@ -20,6 +22,7 @@ pub struct Got<T> {
     pub joined: LinkedList<LinkedList<T>>,
 }
 
+/// What a seat knows: a sender's, the taker's, or one that was only counted or was joined.
 pub enum Known<T> {
     Sender(Put<T>),
     Taker(Got<T>),

@@ -4,7 +4,8 @@ ghost use Rattle.std.specs.Prelude.{◌≡◌};
 use crate::known::Right;
 use std::marker::Model;
 
-/// A sender's seat. Contracts see it as its queue, the sender's number, and the list of what was put.
+/// A sender's seat, which is used with the queue that gave it (`IsTailOf`). Contracts see it as its queue, the sender's
+/// number, and the list of what was put. It takes no memory, and may go to another thread.
 pub struct Tail<T> {
     pub(crate) sender: usize,
     pub(crate) right: Right<T>,
@@ -43,7 +44,8 @@ impl<T> Drop for Tail<T> {
     }
 }
 
-/// The taker's seat. Contracts see it as its queue and the list of what was taken.
+/// The taker's seat, which is used with the queue that gave it (`IsHeadOf`). Contracts see it as its queue and the list
+/// of what was taken. It takes no memory, and may go to another thread.
 pub struct Head<T> {
     pub(crate) right: Right<T>,
 }

@@ -18,8 +18,9 @@ impl<T: Drop> EventQueue<T> {
     /// Ends the queue and gives what still waits, the oldest first. All its seats are handed in, the senders' in the
     /// order of their numbers.
     ///
-    /// For each sender, what was taken of it, followed by what waits of it, is what it put. Where there is no memory for
-    /// `capacity` values the queue and its seats come back, and everything waits as before.
+    /// For each sender, what was taken of it, followed by what waits of it, is what it put, and nothing else was taken or
+    /// waits. Where there is no memory for `capacity` values the queue and its seats come back, and everything waits as
+    /// before.
     pub fn settle<R: Wait>(
         self,
         rt: &R,
@@ -29,7 +30,7 @@ impl<T: Drop> EventQueue<T> {
         requires tails { AreAllTailsOf self tails.items }
         requires head { IsHeadOf self head }
         ensures delivered { IfOk result (λ rest. All (λ tail. IsDelivered head.taken rest.items tail.sender tail.put) tails.items) }
-        ensures from { IfOk result (λ rest. AreFrom self.name.senders rest.items) }
+        ensures from { IfOk result (λ rest. AreFrom self.name.senders head.taken × AreFrom self.name.senders rest.items) }
         ensures room { IfOk result (λ rest. length rest.items ≤ self.capacity) }
         ensures memory { IfErr result (λ back. (back.queue ≡ self) × (back.tails ≡ tails) × (back.head ≡ head)) }
     {
@@ -73,7 +74,7 @@ fn drain<T, R: Wait>(
     requires all_joined { length (as_taker (view right)).joined ≡ (as_taker (view right)).senders }
     requires room { (rest.items ≡ []) × (ruled_capacity places.now ≤ vec_capacity rest) }
     ensures delivered { (s : ℕ) → s < (as_taker (view right)).senders → IsDelivered (as_taker (view right)).taken result.items s (slice_index_or (as_taker (view right)).joined s []) }
-    ensures from { AreFrom (as_taker (view right)).senders result.items }
+    ensures from { AreFrom (as_taker (view right)).senders (as_taker (view right)).taken × AreFrom (as_taker (view right)).senders result.items }
     ensures room { length result.items ≤ ruled_capacity places.now }
 {
     let count = places.len_as::<Takes, R>(rt, &mut right);
