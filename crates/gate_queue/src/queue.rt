@@ -24,7 +24,10 @@ impl<T> Model for EventQueue<T> {
 
     ghost Value = { Shape };
 
-    ghost view = { λ q. record { name = record { table = q.places.table.shared.table_id; senders = q.senders }; capacity = ruled_capacity q.places } };
+    ghost view = { λ q. record {
+      name = record { table = q.places.table.shared.table_id; senders = q.senders };
+      capacity = ruled_capacity q.places;
+    } };
 }
 
 impl<T> EventQueue<T> {

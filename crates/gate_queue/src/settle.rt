@@ -29,7 +29,8 @@ impl<T: Drop> EventQueue<T> {
     ) -> Result<Vec<Tagged<T>>, Unsettled<T>>
         requires tails { AreAllTailsOf self tails.items }
         requires head { IsHeadOf self head }
-        ensures delivered { IfOk result (λ rest. All (λ tail. IsDelivered head.taken rest.items tail.sender tail.put) tails.items) }
+        ensures delivered { IfOk result (λ rest.
+            All (λ tail. IsDelivered head.taken rest.items tail.sender tail.put) tails.items) }
         ensures from { IfOk result (λ rest. AreFrom self.name.senders head.taken × AreFrom self.name.senders rest.items) }
         ensures room { IfOk result (λ rest. length rest.items ≤ self.capacity) }
         ensures memory { IfErr result (λ back. (back.queue ≡ self) × (back.tails ≡ tails) × (back.head ≡ head)) }
@@ -55,7 +56,8 @@ impl<T: Drop> EventQueue<T> {
 fn join<T>(places: &Places<T>, mut right: Right<T>, tails: Vec<Tail<T>>) -> Right<T>
     requires right { IsPassOf places.now right × IsTakerRight right }
     requires tails { AreSeats places.now.table.shared.table_id (as_taker (view right)).senders tails.items }
-    ensures { IsPassOf places.now result × (view result ≡ Taker (with_joined (as_taker (view right)) (map (λ tail. tail.put) tails.items))) }
+    ensures { IsPassOf places.now result ×
+        (view result ≡ Taker (with_joined (as_taker (view right)) (map (λ tail. tail.put) tails.items))) }
 {
     for tail in tails {
         places.absorb::<Joins>(&mut right, tail.into_right());
@@ -73,8 +75,10 @@ fn drain<T, R: Wait>(
     requires right { IsPassOf places.now right × (view right ≡ Taker (as_taker (view right))) }
     requires all_joined { length (as_taker (view right)).joined ≡ (as_taker (view right)).senders }
     requires room { (rest.items ≡ []) × (ruled_capacity places.now ≤ vec_capacity rest) }
-    ensures delivered { (s : ℕ) → s < (as_taker (view right)).senders → IsDelivered (as_taker (view right)).taken result.items s (slice_index_or (as_taker (view right)).joined s []) }
-    ensures from { AreFrom (as_taker (view right)).senders (as_taker (view right)).taken × AreFrom (as_taker (view right)).senders result.items }
+    ensures delivered { let v = as_taker (view right) in
+        (s : ℕ) → s < v.senders → IsDelivered v.taken result.items s (slice_index_or v.joined s []) }
+    ensures from { let v = as_taker (view right) in
+        AreFrom v.senders v.taken × AreFrom v.senders result.items }
     ensures room { length result.items ≤ ruled_capacity places.now }
 {
     let count = places.len_as::<Takes, R>(rt, &mut right);
