@@ -1,0 +1,39 @@
+//! Times the shared queue beside the plain `ArrayQueue`. Without words it prints nothing.
+#![tactic(auto)]
+
+mod plain;
+mod shared;
+
+use anyhow::{Context, Result};
+use std::env;
+use std::time::Duration;
+
+// The places of each queue that is timed.
+const PLACES: usize = 4096;
+
+fn main(rt: HostRuntime) -> Result<()> {
+    let Some(count) = env::args(&rt)?.nth(1) else {
+        return Ok(());
+    };
+    let each = count
+        .as_str()
+        .parse::<u64>()
+        .context("the number of values")?;
+    for (name, senders) in [("pair", 1), ("four", 4)] {
+        let took = plain::run(&rt, rt.alloc(), senders, each)?;
+        println!(rt; "{name} plain {}", per_second(senders, each, took))?;
+        let took = shared::run(&rt, rt.alloc(), senders, each)?;
+        println!(rt; "{name} shared {}", per_second(senders, each, took))?;
+    }
+    Ok(())
+}
+
+// Values per second, when each sender put so many in this time.
+fn per_second(senders: usize, each: u64, took: Duration) -> u64 {
+    let all = each.saturating_mul(senders as u64);
+    let millis = took
+        .as_secs()
+        .saturating_mul(1000)
+        .saturating_add(u64::from(took.subsec_millis()));
+    all.saturating_mul(1000) / millis.max(1)
+}

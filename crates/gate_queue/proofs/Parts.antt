@@ -1,0 +1,146 @@
+-- The steps that cut a pass or join one keep the rule of the queues.
+use Rattle.std.proofs.Common.{◌≡◌, ◌≢◌, ℕ, suc, ◌+◌, ◌<◌, ◌≤◌, true, false, cond, List, [], ◌∷◌, ◌++◌, length, set, sym, refl, ap, ◌∙◌, subst, eqb, eq-eqb, ne_eqb, arith}
+use mathlib.Core.Option.{some}
+use lib.ListN.{get_elem?}
+use Rattle.crossbeam_queue.specs.Fifo.{Forks, Merges}
+use Rattle.gate_queue.specs.declared.tagged.Tagged.{Tagged}
+use Rattle.gate_queue.specs.declared.known.Put.{Put}
+use Rattle.gate_queue.specs.declared.known.Got.{Got}
+use Rattle.gate_queue.specs.declared.known.Known.{Known}
+use Rattle.gate_queue.specs.declared.known.Known.TheVariants.{Sender, Taker, Nothing}
+use Rattle.gate_queue.specs.Tagged.{values_of}
+use Rattle.gate_queue.specs.Sharing.{IsSender, IsTaker, Fits, Shares, planned, nothing, seated, next_sender, joined}
+use Rattle.crossbeam_queue.proofs.Lists.{set_else}
+use Rattle.gate_queue.proofs.Lists.{longer}
+use Rattle.gate_queue.proofs.Views.{Each, each_set, each_snoc}
+
+-- the holders when seat s goes to p
+abbrev given : (ℕ → ℕ) → ℕ → ℕ → ℕ → ℕ
+given holder s p q = cond (eqb q s) p (holder q)
+
+given_there : (holder : ℕ → ℕ) (s p : ℕ) → given holder s p s ≡ p
+given_there holder s p = rw (eq-eqb s s refl)
+
+given_else : (holder : ℕ → ℕ) (s p q : ℕ) → q ≢ s → given holder s p q ≡ holder q
+given_else holder s p q apart = rw (ne_eqb q s apart)
+
+given_none : (holder : ℕ → ℕ) (s q : ℕ) → holder q ≡ 0 → given holder s 0 q ≡ 0
+given_none holder s q none = elim (eqb q s) as (λ b. cond b 0 (holder q) ≡ 0) [ true ↦ refl | false ↦ none ]
+
+module _ {T : Type 0} where
+  fits_plan : (taker senders : ℕ) (holder : ℕ → ℕ) (all taken : List (Tagged T)) (pass : ℕ) → pass ≡ taker → ((s : ℕ) → holder s ≡ 0)
+      → (j : ℕ) (u : Known T) → j ≢ pass → Fits taker senders holder all taken j u → Fits taker (senders + 1) holder all taken j u
+  fits_plan taker senders holder all taken pass here none j (Sender u) apart f = absurd (let a : suc j ≡ 0 = sym f.seat ∙ none u.sender in omega arith)
+  fits_plan taker senders holder all taken pass here none j (Taker u) apart f = absurd (apart (f.here ∙ sym here))
+  fits_plan taker senders holder all taken pass here none j Nothing apart f = tt
+
+  plans_at : (pass : ℕ) (v : Got T) → v.made ≡ 0 → Forks Shares pass (Taker v) (planned (Taker v)) (nothing (Taker v))
+  plans_at pass v new items views h at =
+      let w : Got T = record v { senders = v.senders + 1 } in
+      let me = h.fits pass (Taker v) at in
+      let none : (s : ℕ) → h.holder s ≡ 0 = λ s. (me.unmade s (let z : v.made ≡ 0 = new in omega arith)).0 in
+      let mine : IsTaker h.taker (h.senders + 1) h.holder h.all h.taken pass w =
+      record { here = me.here; got = me.got; count = ap (λ n. n + 1) me.count; unmade = me.unmade; joined = me.joined } in
+      let F : ℕ → Known T → Type 0 = Fits h.taker (h.senders + 1) h.holder h.all h.taken in
+      record {
+        taker = h.taker;
+        senders = h.senders + 1;
+        holder = h.holder;
+        all = h.all;
+        taken = h.taken;
+        history = h.history;
+        from = λ k d l. (let b = h.from k d l in omega arith);
+        fits = each_snoc F (set views pass (Taker w)) Nothing
+            (each_set F views pass (Taker w) mine (λ j u apart e. fits_plan h.taker h.senders h.holder h.all h.taken pass me.here none j u apart (h.fits j u e))) tt;
+      }
+
+  pub plans : (pass : ℕ) (k : Known T) (v : Got T) → k ≡ Taker v → v.made ≡ 0 → Forks Shares pass k (planned k) (nothing k)
+  plans pass k v is new = subst (λ (k : Known T). Forks Shares pass k (planned k) (nothing k)) (sym is) (plans_at pass v new)
+
+  fits_seat : (taker senders : ℕ) (holder : ℕ → ℕ) (all taken : List (Tagged T)) (pass s p : ℕ) → pass ≡ taker → holder s ≡ 0
+      → (j : ℕ) (u : Known T) → j ≢ pass → Fits taker senders holder all taken j u → Fits taker senders (given holder s p) all taken j u
+  fits_seat taker senders holder all taken pass s p here none j (Sender u) apart f =
+      let other : u.sender ≢ s = λ e. (let a : suc j ≡ 0 = sym f.seat ∙ ap holder e ∙ none in omega arith) in
+      record { seat = given_else holder s p u.sender other ∙ f.seat; put = f.put; count = f.count; within = f.within }
+  fits_seat taker senders holder all taken pass s p here none j (Taker u) apart f = absurd (apart (f.here ∙ sym here))
+  fits_seat taker senders holder all taken pass s p here none j Nothing apart f = tt
+
+  seats_at : (pass : ℕ) (v : Got T) → v.made < v.senders → length v.joined ≤ v.made → Forks Shares pass (Taker v) (seated (Taker v)) (next_sender (Taker v))
+  seats_at pass v room order items views h at =
+      let w : Got T = record v { made = v.made + 1 } in
+      let me = h.fits pass (Taker v) at in
+      let next : Put T = record { sender = v.made; senders = v.senders; put = [] } in
+      let free = me.unmade v.made (omega arith) in
+      let vs : List (Known T) = set views pass (Taker w) in
+      let n : ℕ = suc (length vs) in
+      let mine : IsTaker h.taker h.senders (given h.holder v.made n) h.all h.taken pass w =
+      record {
+        here = me.here;
+        got = me.got;
+        count = me.count;
+        unmade = λ s l. let none = me.unmade s (omega arith) in (given_else h.holder v.made n s (λ e. omega arith) ∙ none.0, none.1);
+        joined = λ s l. let none = me.joined s l in (given_else h.holder v.made n s (λ e. omega arith) ∙ none.0, none.1);
+      } in
+      let new : IsSender h.senders (given h.holder v.made n) h.all (length vs) next =
+      record { seat = given_there h.holder v.made n; put = sym free.1; count = me.count; within = subst (λ k. v.made < k) me.count room } in
+      let F : ℕ → Known T → Type 0 = Fits h.taker h.senders (given h.holder v.made n) h.all h.taken in
+      record {
+        taker = h.taker;
+        senders = h.senders;
+        holder = given h.holder v.made n;
+        all = h.all;
+        taken = h.taken;
+        history = h.history;
+        from = h.from;
+        fits = each_snoc F vs (Sender next)
+            (each_set F views pass (Taker w) mine (λ j u apart e. fits_seat h.taker h.senders h.holder h.all h.taken pass v.made n me.here free.0 j u apart (h.fits j u e))) new;
+      }
+
+  pub seats : (pass : ℕ) (k : Known T) (v : Got T) → k ≡ Taker v → v.made < v.senders → length v.joined ≤ v.made → Forks Shares pass k (seated k) (next_sender k)
+  seats pass k v is room order = subst (λ (k : Known T). Forks Shares pass k (seated k) (next_sender k)) (sym is) (seats_at pass v room order)
+
+  -- what another seat knows stays when the seat of a sender is joined
+  fits_join : (taker senders : ℕ) (holder : ℕ → ℕ) (all taken : List (Tagged T)) (pass other s : ℕ) → pass ≡ taker → holder s ≡ suc other
+      → (j : ℕ) (u : Known T) → j ≢ pass → j ≢ other → Fits taker senders holder all taken j u → Fits taker senders (given holder s 0) all taken j u
+  fits_join taker senders holder all taken pass other s here held j (Sender u) apart apart' f =
+      let differ : u.sender ≢ s = λ e. apart' (let a : suc j ≡ suc other = sym f.seat ∙ ap holder e ∙ held in omega arith) in
+      record { seat = given_else holder s 0 u.sender differ ∙ f.seat; put = f.put; count = f.count; within = f.within }
+  fits_join taker senders holder all taken pass other s here held j (Taker u) apart apart' f = absurd (apart (f.here ∙ sym here))
+  fits_join taker senders holder all taken pass other s here held j Nothing apart apart' f = tt
+
+  joins_at : (pass : ℕ) (v : Got T) (other : ℕ) (w : Put T) → w.sender ≡ length v.joined → Merges Shares pass (Taker v) other (Sender w) (joined (Taker v) (Sender w)) Nothing
+  joins_at pass v other w next items views h at two at' =
+      let v' : Got T = record v { joined = v.joined ++ w.put ∷ [] } in
+      let me = h.fits pass (Taker v) at in
+      let vs : List (Known T) = set views pass (Taker v') in
+      let was : get_elem? views other ≡ some (Sender w) = sym (set_else views pass other (Taker v') two) ∙ at' in
+      let it = h.fits other (Sender w) was in
+      let holder : ℕ → ℕ = given h.holder w.sender 0 in
+      let mine : IsTaker h.taker h.senders holder h.all h.taken pass v' =
+      record {
+        here = me.here;
+        got = me.got;
+        count = me.count;
+        unmade = λ s l. let none = me.unmade s l in (given_none h.holder w.sender s none.0, none.1);
+        joined = longer [] (λ s l. (holder s ≡ 0) × (l ≡ values_of s h.all)) v.joined w.put
+            (λ s l. let none = me.joined s l in (given_none h.holder w.sender s none.0, none.1))
+            (subst (λ s. (holder s ≡ 0) × (w.put ≡ values_of s h.all)) next (given_there h.holder w.sender 0, it.put));
+      } in
+      let F : ℕ → Known T → Type 0 = Fits h.taker h.senders holder h.all h.taken in
+      let G : ℕ → Known T → Type 0 = λ j u. j ≢ other → F j u in
+      let now : Each G vs = each_set G views pass (Taker v') (λ _. mine)
+      (λ j u apart e apart'. fits_join h.taker h.senders h.holder h.all h.taken pass other w.sender me.here it.seat j u apart apart' (h.fits j u e)) in
+      record {
+        taker = h.taker;
+        senders = h.senders;
+        holder = holder;
+        all = h.all;
+        taken = h.taken;
+        history = h.history;
+        from = h.from;
+        fits = each_set F vs other Nothing tt (λ j u apart e. now j u e apart);
+      }
+
+  pub joins : (pass : ℕ) (k : Known T) (v : Got T) (other : ℕ) (l : Known T) (w : Put T) → k ≡ Taker v → l ≡ Sender w → w.sender ≡ length v.joined
+      → Merges Shares pass k other l (joined k l) Nothing
+  joins pass k v other l w is is' next = subst (λ (y : Known T × Known T). Merges Shares pass y.0 other y.1 (joined y.0 y.1) Nothing) (λ i. (sym is i, sym is' i)) (joins_at pass v other w next)

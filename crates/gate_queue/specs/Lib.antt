@@ -1,0 +1,5 @@
+pub mod Tagged
+pub mod Sharing
+pub mod Seats
+pub mod States
+pub mod Views

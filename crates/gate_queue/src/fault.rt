@@ -1,0 +1,28 @@
+//! What a queue refuses.
+
+use crate::queue::EventQueue;
+use crate::seats::{Head, Tail};
+
+/// Why a queue was not opened.
+#[derive(Clone, Copy, Debug, PartialEq, Eq)]
+pub enum OpenFault {
+    /// The capacity is 0.
+    Capacity,
+    /// Memory ran out.
+    Memory,
+}
+
+/// The value that was not put, since the queue was full at some moment of the call.
+#[derive(Debug, PartialEq, Eq, Drop)]
+pub struct Full<T>(pub T);
+
+/// A queue that was not settled for want of memory, with all its seats. Everything waits in it as before.
+#[derive(Drop)]
+pub struct Unsettled<T> {
+    /// The queue.
+    pub queue: EventQueue<T>,
+    /// The senders' seats, as they were handed in.
+    pub tails: Vec<Tail<T>>,
+    /// The taker's seat, as it was handed in.
+    pub head: Head<T>,
+}

@@ -1,0 +1,22 @@
+//! A bounded queue that several senders and one taker share.
+//!
+//! Each sender has a seat, a `Tail`, that counts what it put, and the taker has one, the `Head`, that counts what was
+//! taken. In the end `settle` gives what still waits, and then, sender by sender, what was taken followed by what waits
+//! is what was put.
+#![tactic(auto)]
+
+mod fault;
+mod known;
+mod opening;
+mod queue;
+mod seats;
+mod settle;
+mod tagged;
+#[cfg(test)]
+mod tests;
+
+pub use fault::{Full, OpenFault, Unsettled};
+pub use opening::open;
+pub use queue::EventQueue;
+pub use seats::{Head, Tail};
+pub use tagged::Tagged;
