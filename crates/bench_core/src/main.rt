@@ -7,10 +7,12 @@ use std::alloc::{AllocError, Global};
 use std::env;
 use std::time::Instant;
 
-const CONFIGURATION: &str = "{\"tenants\":[{\"name\":\"main\",\"source\":{\"gerrit\":{\"untrusted-projects\":[\"demo\"]}}}],\"config\":{\"main\":[{\"pipeline\":{\"name\":\"check\",\"manager\":\"independent\",\"trigger\":{\"gerrit\":[{\"event\":\"patchset-created\"}]}}}]}}";
+const CONFIGURATION: &str =
+    "{\"tenants\":[{\"name\":\"main\",\"source\":{\"gerrit\":{\"untrusted-projects\":[\"demo\"]}}}],\"config\":{\"main\":[{\"pipeline\":{\"name\":\"check\",\"manager\":\"independent\",\"trigger\":{\"gerrit\":[{\"event\":\"patchset-created\"}]}}}]}}";
 
 // The lines that bring one record from its offer to the pipeline.
-const RECORD: &str = "offer 0 {\"type\":\"patchset-created\",\"change\":{\"project\":\"demo\",\"branch\":\"master\",\"number\":7},\"patchSet\":{\"number\":1}}\ntake 0\nsend 0\nfetch 0 1\nmatch 0\ngive 0\nturn 0 0\nturn 0 0\nturn 0 0\n";
+const RECORD: &str =
+    "offer 0 {\"type\":\"patchset-created\",\"change\":{\"project\":\"demo\",\"branch\":\"master\",\"number\":7},\"patchSet\":{\"number\":1}}\ntake 0\nsend 0\nfetch 0 1\nmatch 0\ngive 0\nturn 0 0\nturn 0 0\nturn 0 0\n";
 
 const LINES: u64 = 9;
 
@@ -34,7 +36,10 @@ fn main(rt: HostRuntime) -> Result<()> {
         .saturating_add(u64::from(took.subsec_micros()));
     let lines = u64::from(records).saturating_mul(LINES);
     let rate = lines.saturating_mul(1_000_000) / micros.max(1);
-    println!(rt; "{records} records, {micros} us, {rate} lines a second, {} bytes printed", text.len())?;
+    println!(rt;
+        "{records} records, {micros} us, {rate} lines a second, {} bytes printed",
+        text.len()
+    )?;
     Ok(())
 }
 

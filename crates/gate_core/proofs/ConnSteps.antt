@@ -1,9 +1,9 @@
 -- The steps of a connection and its forwarder keep what holds.
-use Rattle.std.proofs.Common.{◌≡◌, ◌∙◌, sym, ap, refl, subst, ℕ, zero, suc, ◌+◌, ◌≤◌, ◌<◌, List, [], ◌∷◌, ◌++◌, length, map, Bool, true, false, cond, Option, Some, None, append-nil, append_assoc, arith, add-zero, zero-add, length-append, eqb, eqb-true}
-use Rattle.std.specs.Prelude.{◌&&◌, ◌||◌, ◌==◌, ◌⊎◌, count_by, is_some, if◌then◌else◌, option_and_then, unwrap_or}
-use Rattle.std.proofs.Common.{inl, inr, ⊎_elim}
+use Rattle.std.proofs.Common.{◌≡◌, ◌∙◌, sym, ap, refl, subst, ℕ, suc, ◌+◌, ◌≤◌, ◌<◌, List, [], ◌∷◌, ◌++◌, length, map, Bool, true, false, cond, Option, Some, None, append-nil, append_assoc, arith, add-zero, length-append, eqb-true}
+use Rattle.std.specs.Prelude.{◌&&◌, ◌||◌, ◌==◌, ◌⊎◌, count_by, is_some, option_and_then, unwrap_or}
+use Rattle.std.proofs.Common.{inl, inr}
 use Rattle.std.specs.Option.{option_to_list}
-use Rattle.std.specs.List.{filter_map, cons_option, list_any}
+use Rattle.std.specs.List.{list_any}
 use Rattle.std.specs.Str.{bytes_eq}
 use Rattle.std.proofs.lemmas.List.{map-append}
 use Rattle.gate_record.specs.declared.ids.ConnId.{ConnId}
@@ -11,7 +11,6 @@ use Rattle.gate_record.specs.declared.ids.Stamp.{Stamp}
 use Rattle.gate_record.specs.declared.record.Record.{Record}
 use Rattle.gate_record.specs.declared.reading.Reading.{Reading}
 use Rattle.gate_record.specs.declared.reading.Reading.TheVariants as reading
-use Rattle.gate_record.specs.declared.event.Event.{Event}
 use Rattle.gate_record.specs.declared.transit.ConnEntry.{ConnEntry}
 use Rattle.gate_record.specs.declared.transit.ConnEntry.TheVariants as entry
 use Rattle.gate_record.specs.declared.transit.TenantItem.{TenantItem}
@@ -19,21 +18,21 @@ use Rattle.gate_record.specs.declared.transit.TenantItem.TheVariants as tenant
 use Rattle.gate_record.specs.declared.transit.PipelineItem.{PipelineItem}
 use Rattle.gate_record.specs.Reading.{reading_of}
 use Rattle.gate_config.specs.declared.config.Config.{Config}
-use Rattle.gate_config.specs.Lookups.{lists, belongs, projects_of}
+use Rattle.gate_config.specs.Lookups.{lists, projects_of}
 use Rattle.gate_config.specs.Selection.{is_listed, selects}
 use Rattle.gate_core.specs.declared.answer.Answer.{Answer}
-use Rattle.gate_core.specs.declared.answer.Answer.TheVariants.{Accepted, Closed, Full, Moved, Idle, Turned, Passed}
+use Rattle.gate_core.specs.declared.answer.Answer.TheVariants.{Accepted, Moved}
 use Rattle.gate_core.specs.declared.connection.Connection.{Connection}
 use Rattle.gate_core.specs.declared.tenant.Tenant.{Tenant}
 use Rattle.gate_core.specs.declared.step.Step.{Step}
-use Rattle.gate_core.specs.declared.step.Step.TheVariants.{Offer, Close, Take, Send, Fetch, Match, Give, Turn}
+use Rattle.gate_core.specs.declared.step.Step.TheVariants.{Offer, Close, Take, Send}
 use Rattle.gate_core.specs.Delivery.{conn_id, stamped, forwarded, forwarded_entry, forwarded_reading}
-use Rattle.gate_core.specs.History.{History, accepted, accepted_in, wanted, done, numbers_from, number_from, number_where, finished, closed, is_put, is_taking, is_offer, is_close, is_take}
+use Rattle.gate_core.specs.History.{History, accepted, wanted, done, numbers_from, number_where, finished, closed, is_put, is_taking}
 use Rattle.gate_core.proofs.Ends.{EndsAt, is_end, is_end_given, ends_event, ends_close}
 use Rattle.gate_core.proofs.Flow.{picked, picked_number, given_numbers, number_of_record, pick_forwarded, wanted_push}
-use Rattle.gate_core.proofs.Holds.{Holds, Way, EndsFor, ending, up, down, conn_queue, conn_hand, gathered_by, tenant_queue, pipeline_of, stamps_of, is_finished, closed_by, way_moves, way_same, IsApart}
+use Rattle.gate_core.proofs.Holds.{Holds, Way, EndsFor, up, down, conn_queue, gathered_by, tenant_queue, pipeline_of, stamps_of, is_finished, closed_by, way_moves, IsApart}
 use Rattle.gate_core.proofs.Maps.{filter_map_push, filter_map-append, cons_option_is}
-use Rattle.gate_core.proofs.Pushes.{Same, same_after, accepted_push, done_push, finished_push, closed_push, count_push, or_false, cond_none}
+use Rattle.gate_core.proofs.Pushes.{Same, same_after, accepted_push, done_push, finished_push, closed_push, count_push, or_false}
 use Rattle.gate_core.specs.Moves.{accepted_of}
 
 -- ---- what an entry brings to the tenant

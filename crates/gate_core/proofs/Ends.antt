@@ -1,5 +1,5 @@
 -- Where the end mark stands on the way to the pipeline.
-use Rattle.std.proofs.Common.{◌≡◌, ◌∙◌, sym, ap, refl, subst, ℕ, List, [], ◌∷◌, ◌++◌, Bool, true, false, cond, Some, None, append_assoc, map}
+use Rattle.std.proofs.Common.{◌≡◌, sym, refl, subst, List, [], ◌∷◌, ◌++◌, Bool, true, false, cond, Some, None, append_assoc, map}
 use Rattle.gate_record.specs.declared.transit.Stamped.{Stamped}
 use Rattle.gate_record.specs.declared.transit.TenantItem.{TenantItem}
 use Rattle.gate_record.specs.declared.transit.TenantItem.TheVariants as tenant
@@ -7,7 +7,7 @@ use Rattle.gate_record.specs.declared.transit.PipelineItem.{PipelineItem}
 use Rattle.gate_record.specs.declared.transit.PipelineItem.TheVariants as pipeline
 use Rattle.gate_config.specs.declared.config.Config.{Config}
 use Rattle.gate_config.specs.Selection.{selects_event}
-use Rattle.gate_core.specs.Delivery.{chosen, chosen_item}
+use Rattle.gate_core.specs.Delivery.{chosen}
 use Rattle.std.specs.List.{cons_option}
 
 -- which of the items are end marks

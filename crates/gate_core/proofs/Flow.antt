@@ -1,14 +1,12 @@
 -- What is on its way to the pipeline, read through selection.
-use Rattle.std.proofs.Common.{◌≡◌, ◌∙◌, sym, ap, refl, ℕ, zero, suc, ◌+◌, List, [], ◌∷◌, ◌++◌, length, Bool, true, false, cond, Option, Some, None, eqb, append-nil, append_assoc, zero-add}
-use Rattle.std.specs.Prelude.{option_and_then, ◌&&◌, ◌==◌, if◌then◌else◌}
+use Rattle.std.proofs.Common.{◌≡◌, ◌∙◌, ap, refl, ℕ, List, [], ◌∷◌, ◌++◌, length, Bool, true, false, cond, Option, Some, None, zero-add}
+use Rattle.std.specs.Prelude.{option_and_then, ◌&&◌, if◌then◌else◌}
 use Rattle.std.specs.Option.{option_to_list}
-use Rattle.std.specs.List.{filter_map, cons_option, enumerate_from, list_any}
-use Rattle.gate_record.specs.declared.ids.Stamp.{Stamp}
+use Rattle.std.specs.List.{filter_map, enumerate_from, list_any}
 use Rattle.gate_record.specs.declared.event.Event.{Event}
 use Rattle.gate_record.specs.declared.record.Record.{Record}
 use Rattle.gate_record.specs.declared.reading.Reading.{Reading}
 use Rattle.gate_record.specs.declared.reading.Reading.TheVariants as reading
-use Rattle.gate_record.specs.declared.transit.ConnEntry.{ConnEntry}
 use Rattle.gate_record.specs.declared.transit.ConnEntry.TheVariants as entry
 use Rattle.gate_record.specs.declared.transit.TenantItem.{TenantItem}
 use Rattle.gate_record.specs.declared.transit.TenantItem.TheVariants as tenant
@@ -17,10 +15,10 @@ use Rattle.gate_record.specs.declared.transit.PipelineItem.TheVariants as pipeli
 use Rattle.gate_record.specs.Reading.{reading_of}
 use Rattle.gate_rule.specs.Rule.{meets}
 use Rattle.gate_config.specs.declared.config.Config.{Config}
-use Rattle.gate_config.specs.Lookups.{rules_of, lists}
+use Rattle.gate_config.specs.Lookups.{rules_of}
 use Rattle.gate_config.specs.Selection.{is_listed, selects, selects_event, selects_reading}
-use Rattle.gate_core.specs.Delivery.{conn_id, stamped, forwarded, forwarded_entry, forwarded_reading, chosen, chosen_item}
-use Rattle.gate_core.specs.History.{number_from, numbers_from, wanted, number_where}
+use Rattle.gate_core.specs.Delivery.{conn_id, stamped, forwarded_entry, forwarded_reading, chosen, chosen_item}
+use Rattle.gate_core.specs.History.{number_from, wanted, number_where}
 use Rattle.gate_core.proofs.Maps.{filter_map_push, filter_map-filter_map, filter_map_same, filter_map_none, enumerate_from-append}
 
 -- the number that an item of connection c brings to the pipeline

@@ -1,9 +1,7 @@
 -- What holds of the state of a world after a history, and that each step keeps it.
-use Rattle.std.proofs.Common.{◌≡◌, ◌∙◌, sym, ap, refl, subst, ℕ, zero, suc, ◌+◌, ◌≤◌, ◌<◌, List, [], ◌∷◌, ◌++◌, length, map, Bool, true, false, cond, Option, Some, None, append-nil, append_assoc, arith, add-zero, length-append}
-use Rattle.std.specs.Prelude.{◌&&◌, ◌||◌, ◌==◌, ◌⊎◌, count_by, is_some, if◌then◌else◌, nat_lt, option_and_then}
-use Rattle.std.proofs.Common.{inl, inr}
+use Rattle.std.proofs.Common.{◌≡◌, ◌∙◌, sym, ap, refl, subst, ℕ, ◌+◌, ◌≤◌, ◌<◌, List, [], ◌∷◌, ◌++◌, length, map, Bool, true, false, Option, Some, None}
+use Rattle.std.specs.Prelude.{◌&&◌, ◌==◌, ◌⊎◌, count_by, is_some, if◌then◌else◌}
 use Rattle.std.specs.Option.{option_to_list}
-use Rattle.std.specs.List.{filter_map, cons_option}
 use Rattle.gate_record.specs.declared.ids.Stamp.{Stamp}
 use Rattle.gate_record.specs.declared.record.Record.{Record}
 use Rattle.gate_record.specs.declared.transit.ConnEntry.{ConnEntry}
@@ -12,12 +10,12 @@ use Rattle.gate_record.specs.declared.transit.PipelineItem.{PipelineItem}
 use Rattle.gate_config.specs.declared.config.Config.{Config}
 use Rattle.gate_config.specs.Lookups.{lists, rules_of, connections_of}
 use Rattle.gate_core.specs.declared.answer.Answer.{Answer}
-use Rattle.gate_core.specs.declared.answer.Answer.TheVariants.{Accepted, Closed, Full, Moved, Idle, Turned, Passed}
+use Rattle.gate_core.specs.declared.answer.Answer.TheVariants.{Closed, Full, Idle}
 use Rattle.gate_core.specs.declared.connection.Connection.{Connection}
 use Rattle.gate_core.specs.declared.pipeline.Pipeline.{Pipeline}
 use Rattle.gate_core.specs.declared.tenant.Tenant.{Tenant}
 use Rattle.gate_core.specs.declared.step.Step.{Step}
-use Rattle.gate_core.specs.Delivery.{forwarded, forwarded_entry}
+use Rattle.gate_core.specs.Delivery.{forwarded}
 use Rattle.gate_core.specs.History.{History, accepted, wanted, done, numbers_from, finished, closed, is_put, is_taking}
 use Rattle.gate_core.specs.Moves.{accepted_of}
 use Rattle.gate_core.proofs.Ends.{EndsAt, is_end, is_end_given}

@@ -1,8 +1,8 @@
 -- What holds of every list of steps.
-use Rattle.std.proofs.Common.{◌≡◌, ◌∙◌, sym, ap, refl, subst, ℕ, zero, suc, ◌+◌, ◌-◌, ◌≤◌, ◌<◌, List, [], ◌∷◌, ◌++◌, length, Bool, true, false, cond, Option, Some, None, arith, append-nil, append_assoc, eqb, eqb-true, ltb, rules}
+use Rattle.std.proofs.Common.{◌≡◌, ◌∙◌, sym, ap, refl, subst, ℕ, suc, ◌+◌, ◌≤◌, ◌<◌, List, [], ◌∷◌, ◌++◌, length, Bool, true, false, cond, Option, Some, None, arith, append-nil, append_assoc, eqb-true, rules}
 use Rattle.std.specs.Prelude.{◌&&◌, ◌==◌, nat_lt, is_some, option_and_then, option_map, unwrap_or, slice_get, count_by}
 use Rattle.std.specs.List.{zip}
-use Rattle.std.proofs.Common.{inl, inr}
+use Rattle.std.proofs.Common.{inl}
 use Rattle.gate_record.specs.declared.ids.ConnId.{ConnId}
 use Rattle.gate_record.specs.declared.record.Record.{Record}
 use Rattle.gate_record.specs.declared.transit.PipelineItem.{PipelineItem}
@@ -12,7 +12,7 @@ use Rattle.gate_config.specs.declared.config.TenantSpec.{TenantSpec}
 use Rattle.gate_config.specs.declared.config.PipelineSpec.{PipelineSpec}
 use Rattle.gate_config.specs.Lookups.{connections_of, tenants_of, pipelines_of, lists, rules_of}
 use Rattle.gate_core.specs.declared.answer.Answer.{Answer}
-use Rattle.gate_core.specs.declared.answer.Answer.TheVariants.{Accepted, Closed, Full, Moved, Idle, Turned, Passed}
+use Rattle.gate_core.specs.declared.answer.Answer.TheVariants.{Accepted, Closed, Full, Moved}
 use Rattle.gate_core.specs.declared.connection.Connection.{Connection}
 use Rattle.gate_core.specs.declared.pipeline.Pipeline.{Pipeline}
 use Rattle.gate_core.specs.declared.state.State.{State}
@@ -21,7 +21,7 @@ use Rattle.gate_core.specs.declared.step.Step.{Step}
 use Rattle.gate_core.specs.declared.step.Step.TheVariants.{Offer, Close, Take, Send, Fetch, Match, Give, Turn}
 use Rattle.gate_core.specs.Connections.{fresh_connection, offered, closed_off}
 use Rattle.gate_core.specs.History.{History, accepted, wanted, done, numbers_from, finished, closed, waiting, is_put, is_taking}
-use Rattle.gate_core.specs.Moves.{after, after_all, answers_to, start, fresh_tenant, first_pipeline, first_hand, with_connection}
+use Rattle.gate_core.specs.Moves.{after, after_all, answers_to, start, first_hand, with_connection}
 use Rattle.gate_core.specs.Pipelines.{fresh_pipeline}
 use Rattle.gate_core.specs.Promises.{Delivers, IsPrefixOf, IsRightAnswer, AnswersRightly, offer_answer, close_answer}
 use Rattle.gate_core.specs.Small.{IsSmall}
@@ -32,7 +32,7 @@ use Rattle.gate_core.proofs.Holds.{Holds, Way, EndsFor, IsApart, ending, up, dow
 use Rattle.gate_core.specs.Moves.{accepted_of}
 use Rattle.gate_record.specs.declared.transit.ConnEntry.{ConnEntry}
 use Rattle.gate_record.specs.declared.transit.TenantItem.{TenantItem}
-use Rattle.gate_core.proofs.Moved.{HoldsIn, HoldsAfter, holds_after}
+use Rattle.gate_core.proofs.Moved.{HoldsIn, holds_after}
 
 and_left : (a b : Bool) → (a && b) ≡ true → a ≡ true
 and_left true b e = refl

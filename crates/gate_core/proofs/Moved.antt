@@ -1,5 +1,5 @@
 -- Each step of the core keeps what holds of its state.
-use Rattle.std.proofs.Common.{◌≡◌, ◌∙◌, sym, ap, refl, subst, ℕ, zero, suc, ◌+◌, ◌≤◌, ◌<◌, List, [], ◌∷◌, ◌++◌, length, Bool, true, false, cond, Option, Some, None, arith, eqb, eqb-true, ltb}
+use Rattle.std.proofs.Common.{◌≡◌, sym, refl, subst, ℕ, ◌+◌, List, [], ◌∷◌, ◌++◌, length, Bool, true, false, cond, Option, Some, None, arith, eqb-true}
 use Rattle.std.specs.Prelude.{◌&&◌, ◌==◌, nat_lt}
 use Rattle.std.proofs.lemmas.Bool.{ltb-true}
 use Rattle.gate_record.specs.declared.ids.ConnId.{ConnId}
@@ -13,7 +13,7 @@ use Rattle.gate_record.specs.declared.transit.PipelineItem.{PipelineItem}
 use Rattle.gate_record.specs.declared.transit.PipelineItem.TheVariants as pipeline
 use Rattle.gate_config.specs.declared.config.Config.{Config}
 use Rattle.gate_core.specs.declared.answer.Answer.{Answer}
-use Rattle.gate_core.specs.declared.answer.Answer.TheVariants.{Accepted, Closed, Full, Moved, Idle, Turned, Passed}
+use Rattle.gate_core.specs.declared.answer.Answer.TheVariants.{Accepted, Closed, Full, Moved, Idle, Turned}
 use Rattle.gate_core.specs.declared.connection.Connection.{Connection}
 use Rattle.gate_core.specs.declared.pass.Phase.{Phase}
 use Rattle.gate_core.specs.declared.pass.Phase.TheVariants.{Management, Result, Trigger}
@@ -23,12 +23,12 @@ use Rattle.gate_core.specs.declared.state.State.{State}
 use Rattle.gate_core.specs.declared.tenant.Tenant.{Tenant}
 use Rattle.gate_core.specs.declared.step.Step.{Step}
 use Rattle.gate_core.specs.declared.step.Step.TheVariants.{Offer, Close, Take, Send, Fetch, Match, Give, Turn}
-use Rattle.gate_core.specs.Connections.{offered, closed_off, taken, taken_from, sent, sent_of}
+use Rattle.gate_core.specs.Connections.{offered, closed_off, taken, taken_from, sent_of}
 use Rattle.gate_core.specs.History.{History}
 use Rattle.gate_core.specs.Moves.{after, with_connection, with_tenant, sent_between}
 use Rattle.gate_core.specs.Passes.{after_taking}
-use Rattle.gate_core.specs.Pipelines.{turned, turned_in, took_trigger, passed_on}
-use Rattle.gate_core.specs.Tenants.{fetched, fetched_from, matched, matched_from, given, given_from, with_item, hand_for, turned_of, turned_at, has_room}
+use Rattle.gate_core.specs.Pipelines.{turned_in, took_trigger}
+use Rattle.gate_core.specs.Tenants.{fetched, fetched_from, matched, matched_from, given, given_from, with_item, turned_of, turned_at, has_room}
 use Rattle.gate_core.proofs.ConnSteps.{offer_accepted, closed_holds, taken_holds, sent_holds}
 use Rattle.gate_core.proofs.Holds.{Holds, quiet, quiet_idle, quiet_full, quiet_closed}
 use Rattle.gate_core.proofs.TenantSteps.{fetched_holds, matched_holds, given_holds, passed_holds, processed_holds, ended_holds, with_pipeline}

@@ -1,14 +1,10 @@
 -- What one step more does to what a history says.
-use Rattle.std.proofs.Common.{◌≡◌, ◌∙◌, sym, ap, refl, ℕ, ◌+◌, List, [], ◌∷◌, ◌++◌, Bool, true, false, cond, Option, Some, None, append-nil, add-zero}
-use Rattle.std.specs.Prelude.{◌&&◌, ◌||◌, ◌==◌, count_by, if◌then◌else◌}
-use Rattle.std.specs.List.{list_any}
+use Rattle.std.proofs.Common.{◌≡◌, ◌∙◌, ap, refl, ℕ, ◌+◌, [], ◌∷◌, ◌++◌, Bool, true, false, cond, Option, None, append-nil, add-zero}
+use Rattle.std.specs.Prelude.{◌&&◌, ◌||◌, count_by}
 use Rattle.std.specs.Option.{option_to_list}
 use Rattle.std.proofs.lemmas.List.Folds.{list_any-append}
 use Rattle.std.proofs.lemmas.List.Sums.{sum_by-append}
-use Rattle.gate_record.specs.declared.ids.Stamp.{Stamp}
-use Rattle.gate_record.specs.declared.record.Record.{Record}
 use Rattle.gate_core.specs.declared.answer.Answer.{Answer}
-use Rattle.gate_core.specs.declared.answer.Answer.TheVariants.{Accepted, Closed, Full, Moved, Idle, Turned, Passed}
 use Rattle.gate_core.specs.declared.step.Step.{Step}
 use Rattle.gate_core.specs.History.{History, accepted, accepted_in, done, processed_in, finished, closed, is_put, is_taking, is_turn, is_close, is_take, is_offer, is_moved, is_accepted, offered_to, processed}
 use Rattle.gate_core.proofs.Maps.{filter_map_push}

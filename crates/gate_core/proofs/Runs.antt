@@ -1,11 +1,10 @@
 -- A run, one step after another.
-use Rattle.std.proofs.Common.{◌≡◌, ◌∙◌, sym, ap, refl, subst, ℕ, suc, ◌+◌, ◌≤◌, List, [], ◌∷◌, ◌++◌, length, append-nil, append_assoc, arith}
+use Rattle.std.proofs.Common.{◌≡◌, ◌∙◌, sym, ap, subst, ℕ, suc, ◌+◌, ◌≤◌, List, [], ◌∷◌, ◌++◌, length, append-nil, append_assoc, arith}
 use Rattle.std.specs.List.{zip}
 use Rattle.gate_config.specs.declared.config.Config.{Config}
 use Rattle.gate_core.specs.declared.answer.Answer.{Answer}
 use Rattle.gate_core.specs.declared.state.State.{State}
 use Rattle.gate_core.specs.declared.step.Step.{Step}
-use Rattle.gate_core.specs.History.{History}
 use Rattle.gate_core.specs.Moves.{after, after_all, answers_to, start, accepted_by}
 use Rattle.gate_core.specs.Promises.{Delivers, AnswersRightly}
 use Rattle.gate_core.specs.Reports.{report_in, report_after}

@@ -1,7 +1,7 @@
 -- Lemmas on the lines, words and numbers of a script.
-use Rattle.std.proofs.Common.{◌≡◌, ◌∙◌, sym, ap, refl, subst, ℕ, zero, suc, ◌+◌, ◌*◌, ◌-◌, ◌^◌, ◌<◌, ◌≤◌, List, [], ◌∷◌, ◌++◌, length, take, drop, Bool, true, false, cond, Option, Some, None, arith, get_or, ltb, leb}
-use Rattle.std.specs.Prelude.{position, ◌==◌, nat_lt, fold, not, if◌then◌else◌}
-use Rattle.std.specs.List.{position_or_len, before_first, after_first, slice_split, onto_first, prefix_len}
+use Rattle.std.proofs.Common.{◌≡◌, ◌∙◌, sym, ap, refl, subst, ℕ, suc, ◌+◌, ◌*◌, ◌-◌, ◌<◌, ◌≤◌, List, [], ◌∷◌, ◌++◌, length, take, drop, Bool, true, false, cond, Option, Some, None, arith, get_or}
+use Rattle.std.specs.Prelude.{position, ◌==◌, nat_lt, fold, not}
+use Rattle.std.specs.List.{position_or_len, before_first, after_first, slice_split, onto_first}
 use Rattle.std.specs.Str.Lines.{lines, lines_of_parts, strip_carriage_return}
 use Rattle.std.proofs.lemmas.Bool.{ltb-true, ltb-false, eqb-true}
 use Rattle.std.proofs.Common.{length-drop}

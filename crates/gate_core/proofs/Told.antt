@@ -1,5 +1,5 @@
 -- What is reported is what the history says.
-use Rattle.std.proofs.Common.{◌≡◌, ◌∙◌, sym, ap, refl, subst, ℕ, zero, suc, ◌+◌, ◌≤◌, List, [], ◌∷◌, length, Bool, true, false, cond, Option, Some, None, arith}
+use Rattle.std.proofs.Common.{◌≡◌, ◌∙◌, ap, refl, ℕ, ◌≤◌, List, [], ◌∷◌, length, Bool, cond, Option, Some, None, arith}
 use Rattle.std.specs.Prelude.{◌==◌, is_some, option_map, not, map}
 use Rattle.std.specs.List.{enumerate_from}
 use Rattle.gate_record.specs.declared.ids.Stamp.{Stamp}
@@ -11,14 +11,13 @@ use Rattle.gate_core.specs.declared.connection.Connection.{Connection}
 use Rattle.gate_core.specs.declared.pipeline.Pipeline.{Pipeline}
 use Rattle.gate_core.specs.declared.report.ConnectionReport.{ConnectionReport}
 use Rattle.gate_core.specs.declared.report.PipelineReport.{PipelineReport}
-use Rattle.gate_core.specs.declared.state.State.{State}
 use Rattle.gate_core.specs.declared.step.Step.{Step}
 use Rattle.gate_core.specs.declared.tenant.Tenant.{Tenant}
 use Rattle.gate_core.specs.History.{History, accepted, closed, done, finished}
-use Rattle.gate_core.specs.Moves.{after_all, answers_to, start, accepted_of}
+use Rattle.gate_core.specs.Moves.{after_all, start, accepted_of}
 use Rattle.gate_core.specs.Reports.{cause_of, connection_after, pipeline_after, report_after, connections_in, pipelines_in, tenants_in, report_in}
 use Rattle.gate_core.specs.Small.{IsSmall}
-use Rattle.gate_core.proofs.Holds.{Holds, closed_by, pipeline_of, stamps_of, is_finished}
+use Rattle.gate_core.proofs.Holds.{closed_by, pipeline_of, stamps_of, is_finished}
 use Rattle.gate_core.proofs.Law.{history_from, holds_all, start_holds}
 use Rattle.gate_core.proofs.Moved.{HoldsIn}
 use Rattle.gate_core.proofs.Shapes.{shape_of, shape_for, shape_all, shape_start, has_pipeline}

@@ -1,8 +1,7 @@
 -- What a tenant gets of a connection's entries, and a pipeline of a tenant's items.
-use Rattle.std.specs.Prelude.{ℕ, List, Bool, Option, Some, None, if◌then◌else◌}
+use Rattle.std.specs.Prelude.{ℕ, List, Option, Some, None, if◌then◌else◌}
 use Rattle.std.specs.List.{filter_map}
 use Rattle.gate_record.specs.declared.ids.ConnId.{ConnId}
-use Rattle.gate_record.specs.declared.ids.Stamp.{Stamp}
 use Rattle.gate_record.specs.declared.event.Event.{Event}
 use Rattle.gate_record.specs.declared.reading.Reading.{Reading}
 use Rattle.gate_record.specs.declared.reading.Reading.TheVariants as reading

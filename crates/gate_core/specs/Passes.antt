@@ -1,5 +1,5 @@
 -- Passes of a pipeline: from management events to results to triggers, and again.
-use Rattle.std.specs.Prelude.{ℕ, ◌+◌, nat_lt, if◌then◌else◌, List, fold}
+use Rattle.std.specs.Prelude.{◌+◌, nat_lt, if◌then◌else◌, List, fold}
 use Rattle.gate_core.specs.declared.pass.Phase.{Phase}
 use Rattle.gate_core.specs.declared.pass.Phase.TheVariants.{Management, Result, Trigger}
 use Rattle.gate_core.specs.declared.pass.Taking.{Taking}

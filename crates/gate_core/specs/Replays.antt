@@ -12,7 +12,6 @@ use Rattle.gate_config.specs.Texts.{IsReadFrom}
 use Rattle.gate_core.specs.declared.answer.Answer.{Answer}
 use Rattle.gate_core.specs.declared.replaying.ReplayFault.{ReplayFault}
 use Rattle.gate_core.specs.declared.replaying.ReplayFault.TheVariants as replay
-use Rattle.gate_core.specs.declared.report.RunReport.{RunReport}
 use Rattle.gate_core.specs.declared.script.ScriptFault.{ScriptFault}
 use Rattle.gate_core.specs.declared.script.ScriptFault.TheVariants as script
 use Rattle.gate_core.specs.declared.step.Step.{Step}

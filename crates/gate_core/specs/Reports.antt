@@ -1,5 +1,5 @@
 -- What a world reports.
-use Rattle.std.specs.Prelude.{ℕ, List, [], ◌∷◌, Bool, true, false, length, Option, Some, None, map, if◌then◌else◌}
+use Rattle.std.specs.Prelude.{ℕ, List, [], ◌∷◌, Bool, length, Option, Some, None, map, if◌then◌else◌}
 use Rattle.std.specs.List.{enumerate_from}
 use Rattle.gate_config.specs.declared.config.Config.{Config}
 use Rattle.gate_config.specs.declared.config.TenantSpec.{TenantSpec}

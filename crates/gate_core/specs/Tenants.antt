@@ -1,10 +1,10 @@
 -- Steps of a tenant with at most one pipeline.
-use Rattle.std.specs.Prelude.{ℕ, List, [], ◌∷◌, ◌++◌, Bool, true, false, ◌==◌, ◌&&◌, nat_lt, length, Option, Some, None, if◌then◌else◌}
+use Rattle.std.specs.Prelude.{ℕ, List, [], ◌∷◌, ◌++◌, Bool, ◌==◌, ◌&&◌, nat_lt, length, Option, Some, None, if◌then◌else◌}
 use Rattle.gate_record.specs.declared.transit.TenantItem.{TenantItem}
 use Rattle.gate_record.specs.declared.transit.PipelineItem.{PipelineItem}
 use Rattle.gate_config.specs.declared.config.Config.{Config}
 use Rattle.gate_core.specs.declared.answer.Answer.{Answer}
-use Rattle.gate_core.specs.declared.answer.Answer.TheVariants.{Moved, Idle, Full, Turned, Passed}
+use Rattle.gate_core.specs.declared.answer.Answer.TheVariants.{Moved, Idle, Full}
 use Rattle.gate_core.specs.declared.pipeline.Pipeline.{Pipeline}
 use Rattle.gate_core.specs.declared.tenant.Tenant.{Tenant}
 use Rattle.gate_core.specs.declared.TheConstants.{PLACES, BATCH}

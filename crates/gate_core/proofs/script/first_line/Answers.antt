@@ -1,5 +1,5 @@
-use Rattle.std.proofs.Common.{◌≡◌, ◌∙◌, ◌∷◌, ◌+◌, sym, ap, drop, List, ℕ}
-use Rattle.std.specs.Str.Lines.{lines, strip_carriage_return}
+use Rattle.std.proofs.Common.{◌∙◌, ◌∷◌, ◌+◌, sym, ap, drop, List, ℕ}
+use Rattle.std.specs.Str.Lines.{lines}
 use Rattle.gate_core.proofs.Scripts.{lines_one, lines_first, take_rest}
 use Rattle.gate_core.proofs.script.first_line.Goals as goal
 

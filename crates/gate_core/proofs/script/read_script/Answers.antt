@@ -1,4 +1,4 @@
-use Rattle.std.proofs.Common.{◌≡◌, ◌∙◌, ◌∷◌, ◌+◌, sym, ap, arith, List, ℕ}
+use Rattle.std.proofs.Common.{◌∙◌, ◌+◌, sym, ap, arith, List, ℕ}
 use Rattle.std.specs.Str.Lines.{lines}
 use Rattle.gate_core.specs.Script.{line_steps, steps_from, followed_by}
 use Rattle.gate_core.proofs.Scripts.{line_added, all_read}

@@ -1,4 +1,4 @@
-use Rattle.std.proofs.Common.{◌≡◌, ◌∙◌, ◌<◌, ◌^◌, subst, sym, ap, arith, refl, ℕ, take, Some}
+use Rattle.std.proofs.Common.{◌≡◌, ◌∙◌, ◌<◌, ◌^◌, subst, ap, arith, refl, ℕ, Some}
 use Rattle.std.proofs.lemmas.List.{take_all}
 use Rattle.gate_core.specs.Script.{value_of}
 use Rattle.gate_core.proofs.Scripts.{digit_refused, fits}

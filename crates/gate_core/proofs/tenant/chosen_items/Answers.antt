@@ -1,4 +1,4 @@
-use Rattle.std.proofs.Common.{◌≡◌, ◌∙◌, ◌++◌, sym, ap, append-nil}
+use Rattle.std.proofs.Common.{◌∙◌, append-nil}
 use Rattle.gate_core.specs.Delivery.{chosen_item}
 use Rattle.gate_core.proofs.Maps.{filter_map_step}
 use Rattle.gate_core.proofs.tenant.chosen_items.Goals as goal

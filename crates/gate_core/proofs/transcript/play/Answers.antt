@@ -2,8 +2,7 @@ use Rattle.std.proofs.Common.{◌≡◌, ◌∙◌, subst}
 use Rattle.gate_config.specs.declared.config.Config.{Config}
 use Rattle.gate_core.specs.Moves.{after, after_all, answers_to, start}
 use Rattle.gate_core.specs.Worlds.{state_of}
-use Rattle.gate_core.specs.declared.answer.Answer.{Answer}
-use Rattle.gate_core.proofs.Runs.{Runs, one_more, all_answered, all_reached, run_delivers, run_rightly, run_told}
+use Rattle.gate_core.proofs.Runs.{one_more, all_answered, all_reached, run_delivers, run_rightly, run_told}
 use Rattle.gate_core.proofs.transcript.play.Goals as goal
 
 pub loop-step-preserved : goal.loop-step-preserved
