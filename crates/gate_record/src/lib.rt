@@ -12,6 +12,8 @@ mod reading;
 mod record;
 mod sequence;
 mod shared;
+#[cfg(test)]
+mod tests;
 mod text;
 mod transit;
 

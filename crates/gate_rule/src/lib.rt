@@ -3,6 +3,8 @@
 
 mod pattern;
 mod rule;
+#[cfg(test)]
+mod tests;
 
 pub use pattern::{Pattern, PatternFault};
 pub use rule::Rule;
