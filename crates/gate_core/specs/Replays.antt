@@ -35,10 +35,11 @@ pub record Plays (config : Config) (steps : List Step) (text : List ℕ) : Type 
 abbrev pub Configures : List ℕ → Config → Type 0
 Configures document config = (data' : Data) × (json_of document ≡ Some data') × IsReadFrom data' config
 
--- the document is a configuration, the script stands for steps, and the text is what they play
+-- the document is a configuration and passes every check, the script stands for steps, and the text is what they play
 pub record Replays (document script text : List ℕ) : Type 0 where
   pub config : Config
   pub read : Configures document config
+  pub passed : AllPass (checks_of document)
   pub steps : List Step
   pub parsed : script_of script ≡ Ok steps
   pub plays : Plays config steps text
@@ -63,9 +64,9 @@ of_script_fault (script.Script line) = replay.Script line
 abbrev pub IsTooLarge : ReplayFault → Type 0
 IsTooLarge fault = (fault ≡ replay.Memory) ⊎ (fault ≡ replay.Config (config.Limit (codes "tenants")))
 
--- a configuration that no world can have for now was read
+-- the document passes every check, and its configuration is one that no world can have for now
 abbrev pub HasTooMuch : List ℕ → Type 0
-HasTooMuch document = (config : Config) × Configures document config × (IsSmall config → ⊥)
+HasTooMuch document = AllPass (checks_of document) × ((config : Config) × Configures document config × (IsSmall config → ⊥))
 
 -- Memory may be refused at whichever point. A fault of the configuration is its first, or the configuration is too
 -- large. A script is read where the configuration has no fault, and its fault is the first line that is no step.
