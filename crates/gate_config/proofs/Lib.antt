@@ -4,3 +4,4 @@ pub mod Faults
 pub mod Outcome
 pub mod Picked
 pub mod Views
+pub mod WithinLimits

@@ -34,7 +34,8 @@ listing_checks here source =
     Asks (is_fine is_object source) (Shape here)
     ∷ (list_checks here source (codes "config-projects") ++ list_checks here source (codes "untrusted-projects"))
 
--- a connection among the sources, by its key
+-- A connection among the sources, by its key. Its position counts the connections of this tenant alone, which are all of
+-- them while there is at most one tenant.
 abbrev pub source_checks : List ℕ → Option Data → ℕ → List ℕ → List Check
 source_checks place sources position key =
     Asks (nat_lt position MAX_CONNECTIONS) (Limit (below place key)) ∷ listing_checks (below place key) (optional_in key sources)

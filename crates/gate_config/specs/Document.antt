@@ -32,7 +32,8 @@ name_of value = text_of_member (codes "name") value
 abbrev pub sources_of : Data → List (List ℕ)
 sources_of tenant = keys_of (optional (codes "source") tenant)
 
--- the names of the connections, by number
+-- The names of the connections, by number. This holds while there is at most one tenant: with several, names that two
+-- of them list have to be numbered once, in byte order of all.
 abbrev pub names_in : List (ℕ × Data) → List (List ℕ)
 names_in entries = flat_map (λ (entry : ℕ × Data). sources_of entry.1) entries
 

@@ -1,4 +1,5 @@
-ghost use Rattle.std.specs.Prelude.{◌≡◌, ℕ, length, IsTrue};
+ghost use Rattle.std.specs.Prelude.{◌≡◌, ◌≤◌, ℕ, length, IsTrue};
+ghost use Rattle.gate_config.specs.declared.limits.TheConstants.{MAX_CONNECTIONS, MAX_PIPELINES, MAX_TENANTS};
 
 use gate_record::{ConnId, ManagerKind, PipelineId, Sequence, TenantId, Text};
 use gate_rule::Rule;
@@ -9,6 +10,8 @@ use gate_rule::Rule;
 pub struct Config {
     pub(crate) connections: Sequence<Text>,
     pub(crate) tenants: Sequence<TenantSpec>,
+    pub ghost few_connections: { length connections ≤ MAX_CONNECTIONS },
+    pub ghost few_tenants: { length tenants ≤ MAX_TENANTS },
 }
 
 /// A tenant of a configuration.
@@ -20,6 +23,7 @@ pub struct TenantSpec {
     pub(crate) sources: Sequence<Option<Sequence<Text>>>,
     /// The pipelines, by number.
     pub pipelines: Sequence<PipelineSpec>,
+    pub ghost few_pipelines: { length pipelines ≤ MAX_PIPELINES },
 }
 
 /// A pipeline of a tenant (Zuul's documentation, "Pipeline Definition").
@@ -27,6 +31,7 @@ pub struct TenantSpec {
 pub struct PipelineSpec {
     /// The name, which no other pipeline of the tenant has.
     pub name: Text,
+    /// How its items are to be ordered.
     pub manager: ManagerKind,
     /// By connection number: the trigger rules, of which one is to be met.
     pub(crate) rules: Sequence<Sequence<Rule>>,

@@ -3,6 +3,8 @@ ghost use Rattle.gate_config.specs.declared.fault.ConfigFault.TheVariants.{Memor
 
 use gate_record::{Memory, Text};
 use std::alloc::{AllocError, AllocFailed};
+use std::error::Error;
+use std::fmt;
 
 /// Why a document is no configuration: the first fault in reading order. A place is the path of keys joined by `.`,
 /// with list positions as `[n]` from 0; the whole document is the empty text.
@@ -25,6 +27,29 @@ pub enum ConfigFault {
     /// A name that stands already.
     Repeated(Text),
 }
+
+/// The word of the fault, and behind one space its place as it is, which may be empty.
+impl fmt::Display for ConfigFault {
+    fn fmt<W: fmt::Write>(&self, f: &mut fmt::Formatter<W>) -> fmt::Result {
+        match self {
+            ConfigFault::Memory => f.write_str("memory"),
+            ConfigFault::NotJson => f.write_str("not-json"),
+            ConfigFault::Shape(place) => write_place(f, "shape ", place),
+            ConfigFault::Limit(place) => write_place(f, "limit ", place),
+            ConfigFault::Manager(place) => write_place(f, "manager ", place),
+            ConfigFault::Attribute(place) => write_place(f, "attribute ", place),
+            ConfigFault::Pattern(place) => write_place(f, "pattern ", place),
+            ConfigFault::Repeated(place) => write_place(f, "repeated ", place),
+        }
+    }
+}
+
+fn write_place<W: fmt::Write>(f: &mut fmt::Formatter<W>, word: &str, place: &Text) -> fmt::Result {
+    f.write_str(word)?;
+    f.write_str(place.as_str())
+}
+
+impl Error for ConfigFault {}
 
 impl From<Memory> for ConfigFault {
     ghost from_gives = { λ _ fault. fault ≡ Refused };

@@ -41,7 +41,7 @@ fn check_tenant(alloc: Global, here: &str, tenant: &Value) -> Result<(), ConfigF
 {
     check_object(alloc, here, tenant)?;
     check_unwrapped(alloc, here, tenant)?;
-    let _name = required_text(alloc, here, tenant, "name")?;
+    required_text(alloc, here, tenant, "name")?;
     check_sources(alloc, here, tenant)
 }
 

@@ -1,7 +1,15 @@
 use Rattle.gate_config.proofs.Each.{few}
 use Rattle.gate_config.proofs.Faults.{exit, fault_later, fault_front, fault_rest, passed_more, passed_both}
 use Rattle.gate_config.specs.Entry.{entry_view}
+use Rattle.gate_config.specs.Texts.{texts_of_tenant}
+use Rattle.gate_config.proofs.WithinLimits.{few_connections, few_tenants}
 use Rattle.gate_config.proofs.read.read_entries.Goals as goal
+
+pub invariant_of-result : goal.invariant_of-result
+invariant_of-result c = record {
+  few_connections = few_connections entry_view c.args.entries.now c.in_ok-connections.connections c.if-entries-gt-MAX_TENANTS.false c.in_ok-check_tenants.ensures.0 c.in_ok-connections.ensures;
+  few_tenants = few_tenants entry_view c.args.entries.now texts_of_tenant _ c.in_ok-tenants.tenants c.in_ok-tenants.ensures.1 c.if-entries-gt-MAX_TENANTS.false;
+}
 
 pub returns-in_err-check_tenants : goal.returns-in_err-check_tenants
 returns-in_err-check_tenants c =
