@@ -1,5 +1,5 @@
 -- What is printed: the answers and the report.
-use Rattle.std.specs.Prelude.{ℕ, ◌+◌, ◌^◌, ◌<◌, List, [], ◌∷◌, ◌++◌, Bool, length, codes, decimal, flat_map, if◌then◌else◌}
+use Rattle.std.specs.Prelude.{ℕ, ◌+◌, List, [], ◌∷◌, ◌++◌, Bool, codes, decimal, flat_map, if◌then◌else◌}
 use Rattle.serde_json.specs.Data.{string}
 use Rattle.serde_json.specs.Written.{compact_text}
 use Rattle.gate_record.specs.declared.ids.Stamp.{Stamp}
@@ -99,8 +99,3 @@ tenant_lines config t (tenant ∷ tenants) (report ∷ reports) = pipeline_lines
 -- a report, as text
 abbrev pub report_text : Config → RunReport → List ℕ
 report_text config report = connection_lines (connections_of config) report.connections ++ tenant_lines config 0 (tenants_of config) report.pipelines
-
--- the numbers of connections and tenants are u32
-pub record HasNumbers (config : Config) : Type 0 where
-  pub connections : length (connections_of config) < 2 ^ 32
-  pub tenants : length (tenants_of config) < 2 ^ 32

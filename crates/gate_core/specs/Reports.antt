@@ -29,11 +29,16 @@ connection_after history c = record { accepted = length (accepted c history); ca
 abbrev pub pipeline_after : History → ℕ → ℕ → PipelineReport
 pipeline_after history t p = record { done = done t p history; finished = finished t p history }
 
--- a line for each connection, and for each tenant one for each of its pipelines
+-- one for each of the pipelines of tenant t
+abbrev pub pipelines_after : Config → History → ℕ → List PipelineReport
+pipelines_after config history t =
+    map (λ (pipeline : ℕ × PipelineSpec). pipeline_after history t pipeline.0) (enumerate_from 0 (pipelines_of config t))
+
+-- one for each connection, and for each tenant those of its pipelines
 abbrev pub report_after : Config → History → RunReport
 report_after config history = record {
   connections = map (λ (entry : ℕ × List ℕ). connection_after history entry.0) (enumerate_from 0 (connections_of config));
-  pipelines = map (λ (tenant : ℕ × TenantSpec). map (λ (pipeline : ℕ × PipelineSpec). pipeline_after history tenant.0 pipeline.0) (enumerate_from 0 (pipelines_of config tenant.0))) (enumerate_from 0 (tenants_of config));
+  pipelines = map (λ (tenant : ℕ × TenantSpec). pipelines_after config history tenant.0) (enumerate_from 0 (tenants_of config));
 }
 
 -- ---- the report of a state

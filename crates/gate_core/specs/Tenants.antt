@@ -29,7 +29,8 @@ abbrev pub hand_for : Config → Option Pipeline → List TenantItem → List Pi
 hand_for config None items = []
 hand_for config (Some pipeline) items = chosen config 0 0 items
 
--- with these gathered
+-- With these gathered. The hand is empty then: items are gathered one at a time for now, only into an empty hand, and
+-- are matched all together.
 abbrev pub matched_from : Config → List TenantItem → Tenant → Tenant × Answer
 matched_from config [] tenant = (tenant, Idle)
 matched_from config (item ∷ items) tenant = (record tenant { gathered = []; hand = hand_for config tenant.pipeline (item ∷ items) }, Moved)

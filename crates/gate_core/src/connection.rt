@@ -18,6 +18,7 @@ pub struct Connection {
     pub accepted: u64,
     /// Whether the end mark was put.
     pub closed: bool,
+    /// What waits for the forwarder, at most 4,096 entries.
     pub queue: Queue<ConnEntry>,
     /// What the forwarder took and has still to send.
     pub hand: Option<TenantItem>,
@@ -30,6 +31,7 @@ impl Connection {
     ghost use Rattle.gate_core.specs.Answers.{Does};
     ghost use Rattle.gate_core.specs.Connections.{fresh_connection, offered, closed_off, taken};
 
+    /// The connection before any record came.
     pub fn new(alloc: Global) -> Connection
         ensures { result ≡ fresh_connection }
     {

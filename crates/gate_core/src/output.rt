@@ -1,5 +1,5 @@
 ghost use Rattle.std.specs.Prelude.{◌≡◌, ◌++◌, ◌+◌, ◌<◌, ◌≤◌, ◌^◌, length, decimal, codes, flat_map, string_bytes, IfOk, OnOk};
-ghost use Rattle.gate_core.specs.Output.{name_text, answer_line, answer_lines, cause_word, connection_line, connection_lines, state_word, number_text, done_line, done_lines, pipeline_line, pipeline_lines, tenant_lines, report_text, HasNumbers};
+ghost use Rattle.gate_core.specs.Output.{name_text, answer_line, answer_lines, cause_word, connection_line, connection_lines, state_word, number_text, done_line, done_lines, pipeline_line, pipeline_lines, tenant_lines, report_text};
 ghost use Rattle.gate_core.specs.History.{numbers_from};
 ghost use Rattle.gate_config.specs.Lookups.{connections_of, tenants_of};
 
@@ -121,7 +121,6 @@ fn cause_word(cause: EndCause) -> &'static str
 /// A report as text: a line for each connection, and for each pipeline a line and one more for each connection that
 /// its tenant lists. `Memory` where the text finds no room.
 pub fn report_text(alloc: Global, config: &Config, report: &RunReport) -> Result<String, Memory>
-    requires { HasNumbers config.now }
     ensures { IfOk result (λ text. string_bytes text ≡ report_text config.now report.now) }
 {
     let mut out = String::new(alloc);
@@ -136,7 +135,6 @@ pub fn push_report(
     config: &Config,
     report: &RunReport,
 ) -> Result<(), Memory>
-    requires { HasNumbers config.now }
     ensures { OnOk result (string_bytes out.new ≡ string_bytes out.old ++ report_text config.now report.now) }
 {
     push_connections(
@@ -154,7 +152,6 @@ fn push_tenants(
     config: &Config,
     reports: &[Sequence<PipelineReport>],
 ) -> Result<(), Memory>
-    requires { HasNumbers config.now }
     ensures { OnOk result (string_bytes out.new ≡ string_bytes out.old ++ tenant_lines config.now 0 (tenants_of config.now) reports.now) }
 {
     let mut tenants = config.tenants();
@@ -189,7 +186,6 @@ fn push_pipelines(
     tenant: &TenantSpec,
     reports: &[PipelineReport],
 ) -> Result<(), Memory>
-    requires { HasNumbers config.now }
     ensures { OnOk result (string_bytes out.new ≡ string_bytes out.old ++ pipeline_lines config.now number.0 tenant.now.name tenant.now.pipelines reports.now) }
 {
     let mut pipelines = tenant.pipelines.as_slice();
@@ -258,7 +254,6 @@ fn push_done(
     pipeline: &PipelineSpec,
     report: &PipelineReport,
 ) -> Result<(), Memory>
-    requires { HasNumbers config.now }
     ensures { OnOk result (string_bytes out.new ≡ string_bytes out.old ++ done_lines config.now number.0 0 (connections_of config.now) tenant.now pipeline.now.name report.now.done) }
 {
     let mut names = config.connections();

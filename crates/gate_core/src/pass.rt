@@ -1,25 +1,34 @@
 ghost use Rattle.std.specs.Prelude.{◌≡◌};
+ghost use Rattle.gate_core.specs.declared.TheConstants.{PHASE};
+
+use crate::PHASE;
 
 /// Which queue a pipeline works off.
 #[derive(Clone, Copy, Debug, PartialEq, Eq)]
 pub enum Phase {
+    /// The queue of management events, of which none come yet.
     Management,
+    /// The queue of results, of which none come yet.
     Result,
+    /// The trigger queue.
     Trigger,
 }
 
 /// What a pipeline found in the queue of its phase.
 #[derive(Clone, Copy, Debug, PartialEq, Eq)]
 pub enum Taking {
+    /// A value, which it took.
     Value,
+    /// The queue was empty.
     Nothing,
 }
 
 /// Where a pipeline stands in a pass, which goes from management events to results to triggers, and begins again.
 #[derive(Clone, Copy, Debug, PartialEq, Eq)]
 pub struct Pass {
+    /// The phase that it is in.
     pub phase: Phase,
-    /// How many values were taken in this phase, fewer than 256.
+    /// How many values were taken in this phase, fewer than `PHASE`.
     pub takings: u32,
 }
 
@@ -56,7 +65,7 @@ impl Pass {
         ensures { result ≡ after_taking self taking }
     {
         match taking {
-            Taking::Value if self.takings < 255 => Pass {
+            Taking::Value if self.takings < PHASE - 1 => Pass {
                 phase: self.phase,
                 takings: self.takings + 1,
             },

@@ -10,6 +10,7 @@ use std::alloc::Global;
 pub struct Pipeline {
     /// The trigger queue.
     pub queue: Queue<PipelineItem>,
+    /// Which phase it is in, and how far.
     pub pass: Pass,
     /// The stamps of the trigger events that were processed, in order.
     pub done: Sequence<Stamp>,
@@ -21,6 +22,7 @@ impl Pipeline {
     ghost use Rattle.gate_core.specs.Pipelines.{fresh_pipeline, turned};
     ghost use Rattle.gate_core.specs.Answers.{Does};
 
+    /// The pipeline before any trigger event came.
     pub fn new(alloc: Global) -> Pipeline
         ensures { result ≡ fresh_pipeline }
     {

@@ -9,6 +9,8 @@ use crate::transcript::play;
 use gate_config::{Config, ConfigFault, read_config};
 use gate_record::{Memory, Queue, TenantId, Text};
 use std::alloc::Global;
+use std::error::Error;
+use std::fmt;
 
 /// Why nothing was replayed.
 #[derive(Debug, Drop)]
@@ -21,6 +23,18 @@ pub enum ReplayFault {
     /// Memory was refused.
     Memory,
 }
+
+impl fmt::Display for ReplayFault {
+    fn fmt<W: fmt::Write>(&self, f: &mut fmt::Formatter<W>) -> fmt::Result {
+        match self {
+            ReplayFault::Config(fault) => write!(f, "{fault}"),
+            ReplayFault::Script(line) => write!(f, "script {line}"),
+            ReplayFault::Memory => f.write_str("memory"),
+        }
+    }
+}
+
+impl Error for ReplayFault {}
 
 /// Reads a configuration and a script, takes the script's steps from the beginning, and gives the answers, each on a
 /// line, and then the report. A fault of the configuration comes before one of the script.
@@ -88,7 +102,6 @@ fn is_small(config: &Config) -> bool
 
 // The answers to steps, and the report of the world that they leave.
 fn play_text(alloc: Global, config: &Config, steps: Queue<Step>) -> Result<String, Memory>
-    requires { IsSmall config.now }
     ensures { IfOk result (λ text. Plays config.now steps (string_bytes text)) }
 {
     let transcript = play(alloc, config, steps)?;

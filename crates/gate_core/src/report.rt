@@ -20,6 +20,7 @@ pub enum EndCause {
 pub struct ConnectionReport {
     /// How many records were accepted.
     pub accepted: u64,
+    /// Whether it takes more records, and if not, why.
     pub cause: EndCause,
 }
 
@@ -28,7 +29,7 @@ pub struct ConnectionReport {
 pub struct PipelineReport {
     /// The stamps of the trigger events that were processed, in order.
     pub done: Sequence<Stamp>,
-    /// Whether the end mark was met: then nothing is on its way any more.
+    /// Whether the end mark was met: then all that was wanted of the accepted records is done.
     pub finished: bool,
 }
 

@@ -7,6 +7,8 @@ ghost use Rattle.std.specs.Str.Lines.{lines};
 use crate::step::Step;
 use gate_record::{ConnId, Memory, PipelineId, Queue, Record, Sequence, TenantId};
 use std::alloc::Global;
+use std::error::Error;
+use std::fmt;
 
 /// Why a script wasn't read.
 #[derive(Clone, Copy, Debug, PartialEq, Eq)]
@@ -16,6 +18,17 @@ pub enum ScriptFault {
     /// The first line that is no step, counted from 1.
     Script(usize),
 }
+
+impl fmt::Display for ScriptFault {
+    fn fmt<W: fmt::Write>(&self, f: &mut fmt::Formatter<W>) -> fmt::Result {
+        match self {
+            ScriptFault::Memory => f.write_str("memory"),
+            ScriptFault::Script(line) => write!(f, "script {line}"),
+        }
+    }
+}
+
+impl Error for ScriptFault {}
 
 /// Reads a script: a step a line. An empty line, and one that begins with `#`, is skipped. `Script` for the first
 /// line that is none of these; `Memory` where it is refused.

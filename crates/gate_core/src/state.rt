@@ -12,7 +12,9 @@ use std::alloc::Global;
 /// What moves in a world: its connection, if there is one, and its tenant, if there is one.
 #[derive(Drop)]
 pub struct State {
+    /// Connection 0, where the configuration has one.
     pub connection: Option<Connection>,
+    /// Tenant 0, where the configuration has one.
     pub tenant: Option<Tenant>,
 }
 
@@ -22,7 +24,7 @@ impl State {
     ghost use Rattle.gate_core.specs.Connections.{offered, closed_off, taken};
     ghost use Rattle.gate_core.specs.Tenants.{matched, given};
 
-    /// The state in which nothing was offered yet.
+    /// The state in which nothing was offered yet. `Memory` where a queue finds no room.
     pub fn start(alloc: Global, config: &Config) -> Result<State, Memory>
         ensures { IfOk result (λ state. state ≡ start config.now) }
     {
@@ -39,6 +41,7 @@ impl State {
         Ok(State { connection, tenant })
     }
 
+    /// Offers a record to a connection, `Idle` where it isn't there. `Memory` leaves the state as it was, as in each step.
     pub fn offer(&mut self, conn: ConnId, line: Record) -> Result<Answer, Memory>
         requires { accepted_by self.old + 1 < 2 ^ 64 }
         ensures { Does self.old (on_connection (offered line) conn.0 self.old) self.new result }
@@ -49,6 +52,7 @@ impl State {
         }
     }
 
+    /// Puts the end mark of a connection, `Idle` where the connection isn't there.
     pub fn close(&mut self, conn: ConnId) -> Result<Answer, Memory>
         ensures { Does self.old (on_connection closed_off conn.0 self.old) self.new result }
     {
@@ -58,6 +62,7 @@ impl State {
         }
     }
 
+    /// Takes and reads the next entry of a connection, `Idle` where the connection isn't there.
     pub fn take(&mut self, alloc: Global, config: &Config, conn: ConnId) -> Result<Answer, Memory>
         ensures { Does self.old (on_connection (taken config.now) conn.0 self.old) self.new result }
     {
@@ -67,6 +72,7 @@ impl State {
         }
     }
 
+    /// Sends what the forwarder of a connection holds to the tenant, `Idle` where either isn't there.
     pub fn send(&mut self, conn: ConnId) -> Result<Answer, Memory>
         ensures { Does self.old (sent_in conn.0 self.old) self.new result }
     {
@@ -82,6 +88,7 @@ impl State {
         }
     }
 
+    /// Gathers items of a tenant's queue, `Idle` where the tenant isn't there.
     pub fn fetch(&mut self, tenant: TenantId, count: u32) -> Result<Answer, Memory>
         ensures { Does self.old (fetched_in tenant.0 count self.old) self.new result }
     {
@@ -91,6 +98,7 @@ impl State {
         }
     }
 
+    /// Matches what a tenant gathered, `Idle` where the tenant isn't there.
     pub fn match_gathered(
         &mut self,
         alloc: Global,
@@ -105,6 +113,7 @@ impl State {
         }
     }
 
+    /// Gives the next matched item of a tenant to its pipeline, `Idle` where the tenant isn't there.
     pub fn give(&mut self, tenant: TenantId) -> Result<Answer, Memory>
         ensures { Does self.old (on_tenant given tenant.0 self.old) self.new result }
     {
@@ -114,6 +123,7 @@ impl State {
         }
     }
 
+    /// A turn of a pipeline of a tenant, `Idle` where either isn't there.
     pub fn turn(&mut self, tenant: TenantId, pipeline: PipelineId) -> Result<Answer, Memory>
         ensures { Does self.old (turned_in_state tenant.0 pipeline.0 self.old) self.new result }
     {

@@ -12,11 +12,13 @@ use std::alloc::Global;
 /// A tenant at work, with its one pipeline if it has one.
 #[derive(Drop)]
 pub struct Tenant {
+    /// What waits for the worker, at most 4,096 items.
     pub queue: Queue<TenantItem>,
     /// What was fetched and waits to be matched, at most 256 items.
     pub gathered: Queue<TenantItem>,
     /// What was matched and waits to be given.
     pub hand: Queue<PipelineItem>,
+    /// Its one pipeline, if it has one.
     pub pipeline: Option<Pipeline>,
 }
 

@@ -3,7 +3,6 @@ ghost use Rattle.std.specs.List.{zip};
 ghost use Rattle.gate_core.specs.Moves.{answers_to, after_all, start};
 ghost use Rattle.gate_core.specs.Promises.{Delivers, AnswersRightly};
 ghost use Rattle.gate_core.specs.Reports.{report_in, report_after};
-ghost use Rattle.gate_core.specs.Small.{IsSmall};
 
 use crate::answer::Answer;
 use crate::step::Step;
@@ -15,7 +14,9 @@ use std::alloc::Global;
 /// The answers to a list of steps, and the world that they leave.
 #[derive(Drop)]
 pub struct Transcript<'c> {
+    /// One answer for each step, in order.
     pub answers: Sequence<Answer>,
+    /// The world behind the last step.
     pub world: World<'c>,
 }
 
@@ -23,8 +24,6 @@ ghost use Rattle.gate_core.specs.Worlds.{state_of, config_of};
 
 /// Takes steps in order, from the world in which nothing was offered yet. `Memory` where it is refused at any step.
 pub fn run<'c>(alloc: Global, config: &'c Config, steps: &[Step]) -> Result<Transcript<'c>, Memory>
-    requires { IsSmall config.now }
-
     // The answers are those of the steps one after another, and the world is what they leave.
     ensures answers { IfOk result (λ t. t.answers ≡ answers_to config.entry.now (start config.entry.now) steps.now) }
     ensures left { IfOk result (λ t. state_of t.world ≡ after_all config.entry.now (start config.entry.now) steps.now) }
@@ -48,7 +47,6 @@ pub fn play<'c>(
     config: &'c Config,
     steps: Queue<Step>,
 ) -> Result<Transcript<'c>, Memory>
-    requires { IsSmall config.now }
     ensures answers { IfOk result (λ t. t.answers ≡ answers_to config.entry.now (start config.entry.now) steps) }
     ensures left { IfOk result (λ t. state_of t.world ≡ after_all config.entry.now (start config.entry.now) steps) }
     ensures config { IfOk result (λ t. config_of t.world ≡ config.entry.now) }
@@ -57,6 +55,7 @@ pub fn play<'c>(
     ensures report { IfOk result (λ t. report_in (state_of t.world) ≡ report_after config.entry.now (zip steps t.answers)) }
 {
     let mut steps = steps;
+    // The proof counts by it: fewer than 2^64 records are accepted, since there are no more steps.
     let _total = steps.len();
     let mut world = World::new(alloc, config)?;
     let mut answers = Sequence::empty(alloc);

@@ -1,7 +1,6 @@
 ghost use Rattle.std.specs.Prelude.{◌≡◌, ◌<◌, ◌+◌, ◌^◌, IfOk, OnErr};
 ghost use Rattle.gate_core.specs.Answers.{Does};
 ghost use Rattle.gate_core.specs.Moves.{after, start, accepted_by};
-ghost use Rattle.gate_core.specs.Small.{IsSmall};
 
 use crate::answer::Answer;
 use crate::connection::Connection;
@@ -29,7 +28,6 @@ impl<'c> World<'c> {
 
     /// The world in which nothing was offered yet. `Memory` where a queue finds no room.
     pub fn new(alloc: Global, config: &'c Config) -> Result<World<'c>, Memory>
-        requires { IsSmall config.now }
         ensures config { IfOk result (λ world. config_of world ≡ config.entry.now) }
         ensures start { IfOk result (λ world. state_of world ≡ start config.entry.now) }
     {

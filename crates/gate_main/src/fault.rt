@@ -6,6 +6,7 @@ use std::fmt;
 /// Why the program did not do what its words ask for. Its text stands on standard error behind `fault: `.
 #[derive(Debug, Drop)]
 pub enum Fault {
+    /// Memory was refused.
     Memory,
     /// A file that can't be read; `-` is standard input.
     File(String),
@@ -13,6 +14,7 @@ pub enum Fault {
     Write,
     /// The words are no form that is known.
     Usage,
+    /// The document is no configuration, or one that is too large for now.
     Config(ConfigFault),
     /// The first line of the script that is no step, counted from 1.
     Script(usize),
@@ -37,33 +39,10 @@ impl fmt::Display for Fault {
             Fault::File(path) => write!(f, "file {path}"),
             Fault::Write => f.write_str("write"),
             Fault::Usage => f.write_str("usage"),
-            Fault::Config(fault) => write_config_fault(f, fault),
+            Fault::Config(fault) => write!(f, "{fault}"),
             Fault::Script(line) => write!(f, "script {line}"),
         }
     }
-}
-
-fn write_config_fault<W: fmt::Write>(
-    f: &mut fmt::Formatter<W>,
-    fault: &ConfigFault,
-) -> fmt::Result {
-    match fault {
-        ConfigFault::Memory => f.write_str("memory"),
-        ConfigFault::NotJson => f.write_str("not-json"),
-        ConfigFault::Shape(place) => write_place(f, "shape", place.as_str()),
-        ConfigFault::Limit(place) => write_place(f, "limit", place.as_str()),
-        ConfigFault::Manager(place) => write_place(f, "manager", place.as_str()),
-        ConfigFault::Attribute(place) => write_place(f, "attribute", place.as_str()),
-        ConfigFault::Pattern(place) => write_place(f, "pattern", place.as_str()),
-        ConfigFault::Repeated(place) => write_place(f, "repeated", place.as_str()),
-    }
-}
-
-// The word, one space and the place as it is, which may be empty.
-fn write_place<W: fmt::Write>(f: &mut fmt::Formatter<W>, word: &str, place: &str) -> fmt::Result {
-    f.write_str(word)?;
-    f.write_str(" ")?;
-    f.write_str(place)
 }
 
 impl From<AllocError> for Fault {
