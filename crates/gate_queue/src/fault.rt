@@ -2,6 +2,8 @@
 
 use crate::queue::EventQueue;
 use crate::seats::{Head, Tail};
+use std::error::Error;
+use std::fmt;
 
 /// Why a queue was not opened.
 #[derive(Clone, Copy, Debug, PartialEq, Eq)]
@@ -12,9 +14,28 @@ pub enum OpenFault {
     Memory,
 }
 
+impl fmt::Display for OpenFault {
+    fn fmt<W: fmt::Write>(&self, f: &mut fmt::Formatter<W>) -> fmt::Result {
+        f.write_str(match self {
+            OpenFault::Capacity => "capacity",
+            OpenFault::Memory => "memory",
+        })
+    }
+}
+
+impl Error for OpenFault {}
+
 /// The value that was not put, since the queue was full at some moment of the call.
 #[derive(Debug, PartialEq, Eq, Drop)]
 pub struct Full<T>(pub T);
+
+impl<T> fmt::Display for Full<T> {
+    fn fmt<W: fmt::Write>(&self, f: &mut fmt::Formatter<W>) -> fmt::Result {
+        f.write_str("full")
+    }
+}
+
+impl<T: fmt::Debug + Drop> Error for Full<T> {}
 
 /// A queue that was not settled for want of memory, with all its seats. Everything waits in it as before.
 #[derive(Drop)]

@@ -8,24 +8,34 @@ use std::collections::LinkedList;
 
 /// What a sender's seat knows: its number, how many senders there are, and what it put.
 pub struct Put<T> {
+    /// Its number, from 0.
     pub sender: usize,
+    /// How many senders the queue has.
     pub senders: usize,
+    /// What it put, in order.
     pub put: LinkedList<T>,
 }
 
 /// What the taker's seat knows: how many senders there are and how many have their seat, what it took, and what each
 /// seat that was joined had put.
 pub struct Got<T> {
+    /// How many senders the queue has.
     pub senders: usize,
+    /// How many of them have their seat: those from 0 on, below this number.
     pub made: usize,
+    /// What it took, in order.
     pub taken: LinkedList<Tagged<T>>,
+    /// What each joined sender had put, by number.
     pub joined: LinkedList<LinkedList<T>>,
 }
 
-/// What a seat knows: a sender's, the taker's, or one that was only counted or was joined.
+/// What a seat knows.
 pub enum Known<T> {
+    /// A sender's seat.
     Sender(Put<T>),
+    /// The taker's seat.
     Taker(Got<T>),
+    /// One that was only counted, or was joined.
     Nothing,
 }
 

@@ -81,6 +81,7 @@ fn drain<T, R: Wait>(
         AreFrom v.senders v.taken × AreFrom v.senders result.items }
     ensures room { length result.items ≤ ruled_capacity places.now }
 {
+    // The proof counts by it: so many values wait, and no more come, so they find room.
     let count = places.len_as::<Takes, R>(rt, &mut right);
     while let Some(item) = places.pop_as::<Takes, R>(rt, &mut right) {
         rest.push_reserved(item);
