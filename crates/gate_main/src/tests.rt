@@ -114,12 +114,6 @@ fn runs_steps_and_reports(rt: HostRuntime) -> Result<(), Fail> {
         Step::Take(ConnId(0)),
         Step::Turn(TenantId(0), PipelineId(0)),
     ];
-    if config.connections().len() > 1
-        || config.tenants().len() > 1
-        || config.pipelines(TenantId(0)).len() > 1
-    {
-        panic!(rt; "the base configuration has one of each");
-    }
     let transcript = run(rt.alloc(), &config, &steps)?;
     assert_eq!(rt;
         transcript.answers.as_slice(),
