@@ -4,4 +4,5 @@ pub mod Faults
 pub mod Outcome
 pub mod Picked
 pub mod Views
+pub mod Votes
 pub mod WithinLimits

@@ -4,7 +4,8 @@ use Rattle.serde_json.specs.Data.{Data}
 use Rattle.serde_json.specs.View.{view, items_view, members_view, items_of}
 use Rattle.serde_json.specs.declared.value.Value.{Value}
 use Rattle.gate_config.specs.Entry.{key_view}
-use Rattle.gate_config.specs.Parts.{items_in, keys_in}
+use Rattle.gate_config.specs.Parts.{keys_in}
+use Rattle.gate_record.specs.Json.{items_in}
 
 items_in-items_of : (ds : List Data) → items_in (items_of ds) ≡ ds
 items_in-items_of [] = refl

@@ -1,14 +1,14 @@
 -- The checks of a document, in reading order.
-use Rattle.std.specs.Prelude.{ℕ, List, [], ◌∷◌, ◌++◌, Bool, true, false, nat_lt, nat_le, length, Option, Some, None, is_none, is_some, codes, if◌then◌else◌}
-use Rattle.std.specs.List.{flat_map, enumerate_from}
+use Rattle.std.specs.Prelude.{◌+◌, ℕ, List, [], ◌∷◌, ◌++◌, Bool, true, false, nat_lt, nat_le, length, Option, Some, None, is_none, is_some, codes, if◌then◌else◌}
+use Rattle.std.specs.List.{flat_map, list_any, enumerate_from}
 use Rattle.std.specs.Str.{bytes_eq}
 use Rattle.serde_json.specs.Data.{Data, Items}
 use Rattle.serde_json.specs.Find.{get, as_array, as_str}
-use Rattle.gate_record.specs.Json.{json_of}
+use Rattle.gate_record.specs.Json.{items_in, json_of}
 use Rattle.gate_config.specs.declared.fault.ConfigFault.TheVariants.{NotJson, Shape, Limit, Manager, Attribute}
-use Rattle.gate_config.specs.Document.{tenant_entries, name_of, sources_of, names_in, config_items, pipeline_items, manager_named}
+use Rattle.gate_config.specs.Document.{tenant_entries, name_of, sources_of, names_in, config_items, pipeline_items, manager_named, vote_at, votes_of}
 use Rattle.gate_config.specs.Faults.{Check, Asks, Builds}
-use Rattle.gate_config.specs.Parts.{is_object, is_list, is_text, is_there, is_fine, items_in, items_of, keys_of, optional, optional_in, text_of_member}
+use Rattle.gate_config.specs.Parts.{is_object, is_list, is_text, is_there, is_fine, is_flag, items_of, keys_of, optional, optional_in, text_of_member}
 use Rattle.gate_config.specs.Places.{below, nth}
 use Rattle.gate_config.specs.declared.limits.TheConstants.{MAX_TENANTS, MAX_CONNECTIONS, MAX_PIPELINES, MAX_RULES, MAX_ENTRIES}
 
@@ -78,11 +78,50 @@ abbrev pub pattern_checks : List ℕ → Option Data → List Check
 pattern_checks place None = []
 pattern_checks place (Some value) = value_checks place (as_array value) value
 
--- an attribute of a rule, by its key; `event` is the one that is read
+-- The vote that an object of approvals asks for at a key: there may be so many in an attribute, and it is a number.
+-- `rank` votes stand before it.
+abbrev pub vote_checks : List ℕ → List ℕ → Data → ℕ → List ℕ → List Check
+vote_checks place here labels rank key =
+    Asks (nat_lt rank MAX_ENTRIES) (Limit place) ∷ Asks (is_some (vote_at labels key)) (Shape here) ∷ []
+
+-- an object of approvals, whose keys are taken in byte order; `count` votes stand before it
+abbrev pub votes_checks : List ℕ → List ℕ → ℕ → Data → List Check
+votes_checks place here count labels =
+    Asks (is_object labels) (Shape here)
+    ∷ each (λ index. vote_checks place here labels (count + index)) (keys_of (Some labels))
+
+-- a list of objects of approvals from a position on
+abbrev pub objects_checks : List ℕ → ℕ → ℕ → List Data → List Check
+objects_checks place position count [] = []
+objects_checks place position count (labels ∷ others) =
+    votes_checks place (nth place position) count labels
+    ++ objects_checks place (position + 1) (count + length (votes_of labels)) others
+
+abbrev pub votes_value_checks : List ℕ → Option Items → Data → List Check
+votes_value_checks place (Some items) value = objects_checks place 0 0 (items_in items)
+votes_value_checks place None value = votes_checks place place 0 value
+
+-- approvals: one object or a list of objects, if it is there
+abbrev pub approval_checks : List ℕ → Option Data → List Check
+approval_checks place None = []
+approval_checks place (Some value) = votes_value_checks place (as_array value) value
+
+-- true or false, if it is there
+abbrev pub flag_checks : List ℕ → Option Data → List Check
+flag_checks place value = Asks (is_fine is_flag value) (Shape place) ∷ []
+
+-- the attributes whose values are patterns
+abbrev pub pattern_attributes : List (List ℕ)
+pattern_attributes =
+    codes "event" ∷ codes "branch" ∷ codes "ref" ∷ codes "username" ∷ codes "email" ∷ codes "comment" ∷ []
+
+-- what stands at a key of a rule; a key that is no attribute is refused
 abbrev pub attribute_checks : List ℕ → Data → List ℕ → List Check
 attribute_checks place rule key =
-    if bytes_eq key (codes "event") then pattern_checks (below place key) (optional (codes "event") rule)
-    else Asks false (Attribute (below place key)) ∷ []
+    if list_any (bytes_eq key) pattern_attributes then pattern_checks (below place key) (optional key rule)
+    else (if bytes_eq key (codes "approval") then approval_checks (below place key) (optional key rule)
+    else (if bytes_eq key (codes "ignore-deletes") then flag_checks (below place key) (optional key rule)
+    else Asks false (Attribute (below place key)) ∷ []))
 
 abbrev pub is_nonempty : Option Items → Bool
 is_nonempty None = true

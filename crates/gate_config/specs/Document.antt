@@ -1,12 +1,15 @@
 -- What a document says, once it was checked.
-use Rattle.std.specs.Prelude.{ℕ, List, [], ◌++◌, Bool, ◌&&◌, Option, Some, None, is_none, option_map, option_and_then, option_to_list, map, codes, if◌then◌else◌}
+use Rattle.std.specs.Prelude.{ℕ, ℤ, List, [], ◌++◌, Bool, true, ◌&&◌, Option, Some, None, is_none, unwrap_or, option_map, option_and_then, option_to_list, map, codes, if◌then◌else◌}
 use Rattle.std.specs.List.{filter_map, flat_map, enumerate_from}
 use Rattle.std.specs.Str.{bytes_eq}
 use Rattle.serde_json.specs.Data.{Data, Items}
-use Rattle.serde_json.specs.Find.{get, as_str, as_array}
+use Rattle.serde_json.specs.Find.{get, as_bool, as_str, as_array}
+use Rattle.gate_record.specs.Approvals.{category}
+use Rattle.gate_record.specs.Json.{items_in}
+use Rattle.gate_record.specs.Numbers.{number_of}
 use Rattle.gate_record.specs.declared.ids.ManagerKind.{ManagerKind}
 use Rattle.gate_record.specs.declared.ids.ManagerKind.TheVariants.{Independent, Dependent}
-use Rattle.gate_config.specs.Parts.{is_object, items_of, keys_of, optional, optional_in, text_of_member, texts_in, items_in}
+use Rattle.gate_config.specs.Parts.{is_object, items_of, keys_of, optional, optional_in, text_of_member, texts_in}
 
 -- what is picked of the values, each with the position of the value that it was picked of
 abbrev pub picked : (Data → Option Data) → List Data → List (ℕ × Data)
@@ -75,12 +78,49 @@ abbrev pub pattern_texts : Option Data → List (List ℕ)
 pattern_texts None = []
 pattern_texts (Some value) = texts_of_patterns (as_array value) value
 
--- the texts of a rule's patterns, by attribute
+-- the vote that an object of approvals asks for at a key
+abbrev pub vote_at : Data → List ℕ → Option (List ℕ × ℤ)
+vote_at labels key = option_map (λ vote. (category key, vote)) (option_and_then number_of (get key labels))
+
+-- the votes that an object of approvals asks for, by its keys in byte order
+abbrev pub votes_of : Data → List (List ℕ × ℤ)
+votes_of labels = filter_map (vote_at labels) (keys_of (Some labels))
+
+abbrev pub votes_in : Option Items → Data → List (List ℕ × ℤ)
+votes_in (Some items) value = flat_map votes_of (items_in items)
+votes_in None value = votes_of value
+
+-- the votes of `approval`: those of one object, or of a list of objects
+abbrev pub votes : Option Data → List (List ℕ × ℤ)
+votes None = []
+votes (Some value) = votes_in (as_array value) value
+
+-- true where it isn't there
+abbrev pub flag : Option Data → Bool
+flag value = unwrap_or (option_and_then as_bool value) true
+
+-- a rule as the document has it, by attribute
 pub record RuleTexts : Type 0 where
   pub event : List (List ℕ)
+  pub branch : List (List ℕ)
+  pub refname : List (List ℕ)
+  pub username : List (List ℕ)
+  pub email : List (List ℕ)
+  pub comment : List (List ℕ)
+  pub approval : List (List ℕ × ℤ)
+  pub ignore_deletes : Bool
 
 abbrev pub rule_texts : Data → RuleTexts
-rule_texts rule = record { event = pattern_texts (optional (codes "event") rule) }
+rule_texts rule = record {
+  event = pattern_texts (optional (codes "event") rule);
+  branch = pattern_texts (optional (codes "branch") rule);
+  refname = pattern_texts (optional (codes "ref") rule);
+  username = pattern_texts (optional (codes "username") rule);
+  email = pattern_texts (optional (codes "email") rule);
+  comment = pattern_texts (optional (codes "comment") rule);
+  approval = votes (optional (codes "approval") rule);
+  ignore_deletes = flag (optional (codes "ignore-deletes") rule);
+}
 
 -- the rules of a trigger for the connection of this name
 abbrev pub rules_under : Option Data → List ℕ → List RuleTexts

@@ -1,3 +1,4 @@
+pub mod Attributes
 pub mod Checks
 pub mod Document
 pub mod Entry

@@ -1,8 +1,9 @@
 -- Parts of a JSON value. Where a value is of another kind than asked for, it has no such parts.
 use Rattle.std.specs.Prelude.{ℕ, List, [], ◌∷◌, Bool, true, false, Option, Some, None, is_some, option_and_then, unwrap_or, option_map}
 use Rattle.std.specs.List.{filter_map}
-use Rattle.serde_json.specs.Data.{Data, null, boolean, number, string, array, object, Items, no_items, item, Members, no_members, member}
-use Rattle.serde_json.specs.Find.{get, as_str, as_array, as_object}
+use Rattle.serde_json.specs.Data.{Data, null, boolean, number, string, array, object, Members, no_members, member}
+use Rattle.serde_json.specs.Find.{get, as_bool, as_str, as_array, as_object}
+use Rattle.gate_record.specs.Json.{items_in}
 
 abbrev pub is_object : Data → Bool
 is_object value = is_some (as_object value)
@@ -13,6 +14,9 @@ is_list value = is_some (as_array value)
 abbrev pub is_text : Data → Bool
 is_text value = is_some (as_str value)
 
+abbrev pub is_flag : Data → Bool
+is_flag value = is_some (as_bool value)
+
 -- there is a value, and it passes
 abbrev pub is_there : (Data → Bool) → Option Data → Bool
 is_there test None = false
@@ -22,10 +26,6 @@ is_there test (Some value) = test value
 abbrev pub is_fine : (Data → Bool) → Option Data → Bool
 is_fine test None = true
 is_fine test (Some value) = test value
-
-abbrev pub items_in : Items → List Data
-items_in no_items = []
-items_in (item value items) = value ∷ items_in items
 
 abbrev pub keys_in : Members → List (List ℕ)
 keys_in no_members = []

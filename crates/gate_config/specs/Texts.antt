@@ -9,7 +9,16 @@ use Rattle.gate_config.specs.declared.config.PipelineSpec.{PipelineSpec}
 use Rattle.gate_config.specs.Document.{RuleTexts, PipelineTexts, TenantTexts, connection_names, tenants_in}
 
 abbrev pub texts_of_rule : Rule → RuleTexts
-texts_of_rule rule = record { event = map text_of rule.event }
+texts_of_rule rule = record {
+  event = map text_of rule.event;
+  branch = map text_of rule.branch;
+  refname = map text_of rule.refname;
+  username = map text_of rule.username;
+  email = map text_of rule.email;
+  comment = map text_of rule.comment;
+  approval = rule.approval;
+  ignore_deletes = rule.ignore_deletes;
+}
 
 abbrev pub texts_of_pipeline : PipelineSpec → PipelineTexts
 texts_of_pipeline pipeline = record { name = pipeline.name; manager = Some pipeline.manager; rules = map (map texts_of_rule) pipeline.rules }

@@ -2,6 +2,7 @@
 //! pipelines ask for.
 #![tactic(auto)]
 
+mod approvals;
 mod config;
 mod document;
 mod fault;

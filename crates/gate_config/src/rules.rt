@@ -1,9 +1,9 @@
 ghost use Rattle.std.specs.Prelude.{◌≡◌, ◌∷◌, [], Some, map, option_map, codes};
 ghost use Rattle.std.specs.List.{flat_map};
 ghost use Rattle.serde_json.specs.View.{view};
-ghost use Rattle.gate_rule.specs.Pattern.{text_of};
-ghost use Rattle.gate_config.specs.Checks.{each, trigger_checks, connection_checks, rule_checks, rule_checks_at, attribute_checks, is_asking};
-ghost use Rattle.gate_config.specs.Document.{rule_texts, rules_under, pattern_texts};
+ghost use Rattle.gate_config.specs.Checks.{each, trigger_checks, connection_checks, rule_checks, rule_checks_at, attribute_checks, flag_checks, is_asking};
+ghost use Rattle.gate_config.specs.Attributes.{unlisted, with_attribute};
+ghost use Rattle.gate_config.specs.Document.{flag, rule_texts, rules_under};
 ghost use Rattle.gate_config.specs.Entry.{key_view};
 ghost use Rattle.gate_config.specs.Faults.{Asks, Reads, Tests};
 ghost use Rattle.gate_config.specs.Parts.{is_there, keys_of, optional};
@@ -11,6 +11,7 @@ ghost use Rattle.gate_config.specs.Places.{below};
 ghost use Rattle.gate_config.specs.Texts.{texts_of_rule};
 ghost use Rattle.gate_config.specs.declared.fault.ConfigFault.TheVariants.{Shape};
 
+use crate::approvals::read_approvals;
 use crate::fault::ConfigFault;
 use crate::limits::MAX_RULES;
 use crate::parts::{
@@ -19,7 +20,7 @@ use crate::parts::{
 use crate::patterns::read_patterns;
 use crate::places::{item_place, member_place};
 use gate_record::{Sequence, Text};
-use gate_rule::{Pattern, Rule};
+use gate_rule::Rule;
 use serde_json::Value;
 use std::alloc::Global;
 
@@ -100,44 +101,83 @@ fn read_rule(alloc: Global, here: &str, rule: &Value) -> Result<Rule, ConfigFaul
 {
     check_object(alloc, here, rule)?;
     let keys = keys(alloc, Some(rule))?;
-    let event = read_attributes(alloc, here, rule, keys.as_slice())?;
+    let read = read_attributes(alloc, here, rule, keys.as_slice())?;
     check_listed(alloc, here, rule)?;
-    Ok(Rule { event })
+    Ok(read)
 }
 
-// The patterns of `event`, with the other attributes tested in byte order.
+// The attributes, in byte order.
 fn read_attributes(
     alloc: Global,
     here: &str,
     rule: &Value,
     keys: &[&String],
-) -> Result<Sequence<Pattern>, ConfigFault>
+) -> Result<Rule, ConfigFault>
     requires { map key_view keys.now ≡ keys_of (Some (view rule.now)) }
     ensures { Reads (flat_map (attribute_checks here.now (view rule.now)) (map key_view keys.now))
-        (λ event. map text_of event ≡ pattern_texts (optional (codes "event") (view rule.now))) result }
+        (λ read. texts_of_rule read ≡ rule_texts (view rule.now)) result }
 {
-    let mut event = Sequence::empty(alloc);
+    let mut read = unlisted(alloc);
     for key in keys {
-        event = read_attribute(alloc, here, rule, key.as_str())?;
+        read_attribute(alloc, here, rule, key.as_str(), &mut read)?;
     }
-    Ok(event)
+    Ok(read)
 }
 
-// The attribute of a rule at this key. `Attribute` at a key other than `event`.
+// The rule that lists no attribute.
+fn unlisted(alloc: Global) -> Rule
+    ensures { texts_of_rule result ≡ unlisted }
+{
+    Rule {
+        event: Sequence::empty(alloc),
+        branch: Sequence::empty(alloc),
+        refname: Sequence::empty(alloc),
+        username: Sequence::empty(alloc),
+        email: Sequence::empty(alloc),
+        comment: Sequence::empty(alloc),
+        approval: Sequence::empty(alloc),
+        ignore_deletes: true,
+    }
+}
+
+// The attribute at this key. `Attribute` at a key that is none.
 fn read_attribute(
     alloc: Global,
     here: &str,
     rule: &Value,
     key: &str,
-) -> Result<Sequence<Pattern>, ConfigFault>
+    read: &mut Rule,
+) -> Result<(), ConfigFault>
     ensures { Reads (attribute_checks here.now (view rule.now) key.now)
-        (λ event. map text_of event ≡ pattern_texts (optional (codes "event") (view rule.now))) result }
+        (λ _. texts_of_rule read.new ≡ with_attribute key.now (optional key.now (view rule.now)) (texts_of_rule read.old)) result }
 {
     let place = member_place(alloc, here, key)?;
-    if key == "event" {
-        read_patterns(alloc, place.as_str(), member(rule, "event"))
-    } else {
-        Err(ConfigFault::Attribute(place))
+    let value = member(rule, key);
+    match key {
+        "event" => read.event = read_patterns(alloc, place.as_str(), value)?,
+        "branch" => read.branch = read_patterns(alloc, place.as_str(), value)?,
+        "ref" => read.refname = read_patterns(alloc, place.as_str(), value)?,
+        "username" => read.username = read_patterns(alloc, place.as_str(), value)?,
+        "email" => read.email = read_patterns(alloc, place.as_str(), value)?,
+        "comment" => read.comment = read_patterns(alloc, place.as_str(), value)?,
+        "approval" => read.approval = read_approvals(alloc, place.as_str(), value)?,
+        "ignore-deletes" => read.ignore_deletes = read_flag(alloc, place.as_str(), value)?,
+        _ => return Err(ConfigFault::Attribute(place)),
+    }
+    Ok(())
+}
+
+// True or false; true where it isn't there.
+fn read_flag(alloc: Global, place: &str, value: Option<&Value>) -> Result<bool, ConfigFault>
+    ensures { Reads (flag_checks place.now (option_map (λ v. view v.now) value.entry))
+        (λ read. read ≡ flag (option_map (λ v. view v.now) value.entry)) result }
+{
+    match value {
+        None => Ok(true),
+        Some(value) => match value.as_bool() {
+            Some(flag) => Ok(flag),
+            None => Err(ConfigFault::Shape(Text::copy(alloc, place)?)),
+        },
     }
 }
 

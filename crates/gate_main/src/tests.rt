@@ -84,6 +84,113 @@ fn numbers_every_record(rt: HostRuntime) -> Result<(), Fail> {
     Ok(())
 }
 
+// The numbers of the `done` line after records of one connection were offered under these trigger rules, which select
+// from the project `demo`.
+fn done_under(
+    rt: &impl Abort,
+    alloc: Global,
+    rules: &str,
+    records: &[&str],
+) -> Result<String, AllocError> {
+    let config = format!(in alloc;
+        "{{\"tenants\":[{{\"name\":\"main\",\"source\":{{\"gerrit\":{{\"untrusted-projects\":[\"demo\"]}}}}}}],\"config\":{{\"main\":[{{\"pipeline\":{{\"name\":\"check\",\"manager\":\"independent\",\"trigger\":{{\"gerrit\":{rules}}}}}}}]}}}}"
+    )?;
+    let mut script = String::new(alloc);
+    for record in records {
+        let line = format!(in alloc; "offer 0 {record}\n")?;
+        script.push_str(line.as_str())?;
+    }
+    script.push_str("close 0\n")?;
+    push_drain(&mut script, 6)?;
+    match replay(alloc, config.as_bytes(), script.as_bytes()) {
+        Ok(text) => match text
+            .as_str()
+            .split_once("done \"main\" \"check\" \"gerrit\"")
+        {
+            Some((_, numbers)) => String::from_str(alloc, numbers),
+            None => panic!(rt; "there is a line of what is done"),
+        },
+        Err(_) => panic!(rt; "the script is replayed"),
+    }
+}
+
+#[test]
+fn selects_by_attributes(rt: HostRuntime) -> Result<(), Fail> {
+    let cases = [
+        (
+            r#"[{"event":"patchset-created","branch":"master"}]"#,
+            r#"{"type":"patchset-created","change":{"project":"demo","branch":"master-2","number":1}}"#,
+            r#"{"type":"patchset-created","change":{"project":"demo","branch":"feature/master","number":2}}"#,
+            " 0\n",
+        ),
+        (
+            r#"[{"event":"comment-added","comment":"recheck"}]"#,
+            r#"{"type":"comment-added","change":{"project":"demo"},"comment":"please recheck"}"#,
+            r#"{"type":"comment-added","change":{"project":"demo"}}"#,
+            " 0\n",
+        ),
+        (
+            r#"[{"event":"comment-added","approval":[{"Code-Review":2},{"Verified":1}]}]"#,
+            r#"{"type":"comment-added","change":{"project":"demo"},"approvals":[{"type":"Code-Review","value":"2"}]}"#,
+            r#"{"type":"comment-added","change":{"project":"demo"},"approvals":[{"type":"Code-Review","value":"2"},{"type":"VRIF","description":"Verified","value":1}]}"#,
+            " 1\n",
+        ),
+        (
+            r#"[{"event":".*","username":"i"}]"#,
+            r#"{"type":"topic-changed","change":{"project":"demo"},"submitter":{"username":"ci"}}"#,
+            r#"{"type":"change-merged","change":{"project":"demo"},"submitter":{"username":"ci"}}"#,
+            " 1\n",
+        ),
+    ];
+    for (rules, first, second, wanted) in cases {
+        let done = done_under(&rt, rt.alloc(), rules, &[first, second])?;
+        assert_eq!(rt; done.as_str(), wanted);
+    }
+    Ok(())
+}
+
+#[test]
+fn ignores_deletions(rt: HostRuntime) -> Result<(), Fail> {
+    let records = [
+        r#"{"type":"ref-updated","refUpdate":{"project":"demo","newRev":"0000000000000000000000000000000000000000"}}"#,
+    ];
+    let cases = [
+        (r#"[{"event":"ref-updated"}]"#, "\n"),
+        (r#"[{"event":"ref-updated","ignore-deletes":true}]"#, "\n"),
+        (
+            r#"[{"event":"ref-updated","ignore-deletes":false}]"#,
+            " 0\n",
+        ),
+    ];
+    for (rules, wanted) in cases {
+        let done = done_under(&rt, rt.alloc(), rules, &records)?;
+        assert_eq!(rt; done.as_str(), wanted);
+    }
+    Ok(())
+}
+
+#[test]
+fn keeps_sixty_four_approvals(rt: HostRuntime) -> Result<(), Fail> {
+    let mut record = String::from_str(
+        rt.alloc(),
+        "{\"type\":\"comment-added\",\"change\":{\"project\":\"demo\"},\"approvals\":[",
+    )?;
+    for number in 0..64u32 {
+        let approval = format!(in rt.alloc(); "{{\"type\":\"c{number}\",\"value\":1}},")?;
+        record.push_str(approval.as_str())?;
+    }
+    record.push_str("{\"type\":\"c64\",\"value\":1}]}")?;
+    let cases = [
+        (r#"[{"event":"","approval":{"c63":1}}]"#, " 0\n"),
+        (r#"[{"event":"","approval":{"c64":1}}]"#, "\n"),
+    ];
+    for (rules, wanted) in cases {
+        let done = done_under(&rt, rt.alloc(), rules, &[record.as_str()])?;
+        assert_eq!(rt; done.as_str(), wanted);
+    }
+    Ok(())
+}
+
 #[test]
 fn fills_its_queue(rt: HostRuntime) -> Result<(), Fail> {
     let mut script = String::new(rt.alloc());
@@ -214,9 +321,9 @@ fn tells_faults_by_text_and_status(rt: HostRuntime) -> Result<(), Fail> {
         ),
         (
             ["gate"].as_slice(),
-            "{\"tenants\":[{\"name\":\"a\",\"source\":{\"g\":null}}],\"config\":{\"a\":[{\"pipeline\":{\"name\":\"p\",\"manager\":\"dependent\",\"trigger\":{\"g\":[{\"event\":\"x\",\"ref\":null}]}}}]}}",
+            "{\"tenants\":[{\"name\":\"a\",\"source\":{\"g\":null}}],\"config\":{\"a\":[{\"pipeline\":{\"name\":\"p\",\"manager\":\"dependent\",\"trigger\":{\"g\":[{\"event\":\"x\",\"reject\":null}]}}}]}}",
             3,
-            "fault: attribute config.a[0].pipeline.trigger.g[0].ref\n",
+            "fault: attribute config.a[0].pipeline.trigger.g[0].reject\n",
         ),
         (
             ["gate"].as_slice(),

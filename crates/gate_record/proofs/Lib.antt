@@ -1,1 +1,5 @@
+pub mod Categories
 pub mod JsonOf
+pub mod Kept
+pub mod Numbers
+pub mod Views

@@ -1,3 +1,5 @@
+pub mod Approvals
 pub mod Json
+pub mod Numbers
 pub mod Queues
 pub mod Reading

@@ -1,10 +1,33 @@
+use crate::sequence::Sequence;
 use crate::text::Text;
 
-/// An event of Gerrit, as its `stream-events` documentation lists them. Any field but the type may be missing.
+/// An event of Gerrit, as its `stream-events` documentation lists them. Any field but the type may be missing, and
+/// which of them are there doesn't depend on the type, the account aside.
 #[derive(Debug, Drop)]
 pub struct Event {
     /// The event's `type`, as `patchset-created`.
     pub kind: Text,
     /// `change.project` where it is a text, else `refUpdate.project`.
     pub project: Option<Text>,
+    /// `change.branch`, without `refs/heads/`.
+    pub branch: Option<Text>,
+    /// `change.number`.
+    pub change: Option<i64>,
+    /// `patchSet.number`.
+    pub patchset: Option<i64>,
+    /// `refUpdate.refName`, as Gerrit gives it.
+    pub refname: Option<Text>,
+    /// `refUpdate.newRev`; forty `0` where the ref was deleted.
+    pub newrev: Option<Text>,
+    /// `comment`.
+    pub comment: Option<Text>,
+    /// `username` of the account whose event it is (this project's profile): the `uploader` of `patchset-created`,
+    /// the `author` of `comment-added`, the `submitter` of `change-merged` and `ref-updated`, the `abandoner` of
+    /// `change-abandoned`, the `restorer` of `change-restored`. An event of another type has no account.
+    pub username: Option<Text>,
+    /// `email` of that account.
+    pub email: Option<Text>,
+    /// The first 64 entries of `approvals` that have both a category and a vote: the category of `description` where
+    /// it is a text, else of `type`, and the number `value`.
+    pub approvals: Sequence<(Text, i64)>,
 }

@@ -3,9 +3,12 @@
 //! Below every other crate of the repository: it also holds the few types that all of them share.
 #![tactic(auto)]
 
+mod approvals;
 mod event;
 mod ids;
 mod memory;
+mod number;
+mod paths;
 mod queue;
 mod read;
 mod reading;
@@ -17,9 +20,11 @@ mod tests;
 mod text;
 mod transit;
 
+pub use approvals::{MAX_APPROVALS, category};
 pub use event::Event;
 pub use ids::{ConnId, ManagerKind, PipelineId, Stamp, TenantId};
 pub use memory::Memory;
+pub use number::read_number;
 pub use queue::Queue;
 pub use read::read_record;
 pub use reading::{Reading, Why};

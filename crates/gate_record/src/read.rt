@@ -1,11 +1,12 @@
-ghost use Rattle.std.specs.Prelude.{◌≡◌, IfOk, Option, Some, option_map};
-ghost use Rattle.gate_record.specs.Json.{json_of, text_at};
-ghost use Rattle.gate_record.specs.Reading.{reading_of, reading_of_json, reading_of_value, project_of};
+ghost use Rattle.std.specs.Prelude.{◌≡◌, IfOk, option_map};
 ghost use Rattle.serde_json.specs.View.{view};
-ghost use Rattle.std.specs.Prelude.{◌∷◌, [], codes};
+ghost use Rattle.gate_record.specs.Json.{json_of};
+ghost use Rattle.gate_record.specs.Reading.{account_of, account_text, event_of, project_of, reading_of, reading_of_json, reading_of_value};
 
+use crate::approvals::approvals;
 use crate::event::Event;
 use crate::memory::Memory;
+use crate::paths::{number_below, text_below, text_member};
 use crate::reading::{Reading, Why};
 use crate::record::Record;
 use crate::text::Text;
@@ -44,40 +45,67 @@ fn read_value(alloc: Global, value: &Value) -> Result<Reading, Memory>
     }
     match text_member(value, "type") {
         None => Ok(Reading::Nothing(Why::NoType)),
-        Some(kind) => Ok(Reading::Event(Event {
-            kind: Text::copy(alloc, kind)?,
-            project: project(alloc, value)?,
-        })),
+        Some(kind) => Ok(Reading::Event(read_event(alloc, value, kind)?)),
     }
 }
 
-fn project(alloc: Global, value: &Value) -> Result<Option<Text>, Memory>
-    ensures { IfOk result (λ project. project ≡ project_of (view value.now)) }
+fn read_event(alloc: Global, value: &Value, kind: &str) -> Result<Event, Memory>
+    ensures { IfOk result (λ event. event ≡ event_of (view value.now) kind.now) }
 {
-    let of_change = text_below(value, "change", "project");
-    let found = match of_change {
-        Some(name) => Some(name),
-        None => text_below(value, "refUpdate", "project"),
-    };
-    match found {
-        Some(name) => Ok(Some(Text::copy(alloc, name)?)),
+    let account = account(kind);
+    Ok(Event {
+        kind: Text::copy(alloc, kind)?,
+        project: copied(alloc, project(value))?,
+        branch: copied(alloc, text_below(value, "change", "branch"))?,
+        change: number_below(value, "change", "number"),
+        patchset: number_below(value, "patchSet", "number"),
+        refname: copied(alloc, text_below(value, "refUpdate", "refName"))?,
+        newrev: copied(alloc, text_below(value, "refUpdate", "newRev"))?,
+        comment: copied(alloc, text_member(value, "comment"))?,
+        username: copied(alloc, account_text(value, account, "username"))?,
+        email: copied(alloc, account_text(value, account, "email"))?,
+        approvals: approvals(alloc, value)?,
+    })
+}
+
+fn copied(alloc: Global, text: Option<&str>) -> Result<Option<Text>, Memory>
+    ensures { IfOk result (λ copy. copy ≡ option_map (λ t. t.now) text.entry) }
+{
+    match text {
+        Some(text) => Ok(Some(Text::copy(alloc, text)?)),
         None => Ok(None),
     }
 }
 
-// The text at a key.
-fn text_member<'v>(value: &'v Value, key: &str) -> Option<&'v str>
-    ensures { option_map (λ s. s.now) result ≡ text_at (key.now ∷ []) (view value.now) }
+fn project(value: &Value) -> Option<&str>
+    ensures { option_map (λ t. t.now) result ≡ project_of (view value.now) }
 {
-    value.get(key).and_then(Value::as_str)
+    match text_below(value, "change", "project") {
+        Some(name) => Some(name),
+        None => text_below(value, "refUpdate", "project"),
+    }
 }
 
-// The text at a key of the object at another.
-fn text_below<'v>(value: &'v Value, outer: &str, key: &str) -> Option<&'v str>
-    ensures { option_map (λ s. s.now) result ≡ text_at (outer.now ∷ key.now ∷ []) (view value.now) }
+// The key of the account whose event it is.
+fn account(kind: &str) -> Option<&'static str>
+    ensures { option_map (λ t. t.now) result ≡ account_of kind.now }
 {
-    match value.get(outer) {
-        Some(inner) => text_member(inner, key),
+    match kind {
+        "patchset-created" => Some("uploader"),
+        "comment-added" => Some("author"),
+        "change-merged" | "ref-updated" => Some("submitter"),
+        "change-abandoned" => Some("abandoner"),
+        "change-restored" => Some("restorer"),
+        _ => None,
+    }
+}
+
+// A text of the account at this key.
+fn account_text<'v>(value: &'v Value, account: Option<&str>, key: &str) -> Option<&'v str>
+    ensures { option_map (λ t. t.now) result ≡ account_text (option_map (λ t. t.now) account.entry) key.now (view value.now) }
+{
+    match account {
+        Some(account) => text_below(value, account, key),
         None => None,
     }
 }

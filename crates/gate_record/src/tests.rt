@@ -1,9 +1,15 @@
+mod accounts;
+mod approvals;
+mod events;
+mod numbers;
+mod readings;
+
 use super::*;
 use std::alloc::Global;
 use std::process::Abort;
 use std::test::Fail;
 
-// What a line is read as: its type and its project, or why it is no event.
+// What a line is read as.
 fn read(rt: &impl Abort, alloc: Global, line: &[u8]) -> Result<Reading, Fail> {
     let record = Record::Line(Sequence::new(line.to_vec(alloc)?));
     match read_record(alloc, &record) {
@@ -12,73 +18,32 @@ fn read(rt: &impl Abort, alloc: Global, line: &[u8]) -> Result<Reading, Fail> {
     }
 }
 
-#[test]
-fn reads_events(rt: HostRuntime) -> Result<(), Fail> {
-    let cases = [
-        (
-            r#"{"type":"patchset-created","change":{"project":"demo","branch":"master"},"patchSet":{"number":1}}"#,
-            "patchset-created",
-            Some("demo"),
-        ),
-        (
-            r#"{"type":"ref-updated","refUpdate":{"project":"plugins/replication","refName":"refs/heads/master"}}"#,
-            "ref-updated",
-            Some("plugins/replication"),
-        ),
-        (
-            r#"{"type":"both","change":{"project":"a"},"refUpdate":{"project":"b"}}"#,
-            "both",
-            Some("a"),
-        ),
-        (
-            r#"{"type":"both","change":{"project":1},"refUpdate":{"project":"b"}}"#,
-            "both",
-            Some("b"),
-        ),
-        (
-            r#"{"type":"dropped-output","project":"c"}"#,
-            "dropped-output",
-            None,
-        ),
-        (r#" {"type":""} "#, "", None),
-    ];
-    for (line, kind, project) in cases {
-        match read(&rt, rt.alloc(), line.as_bytes())? {
-            Reading::Event(event) => {
-                assert_eq!(rt; event.kind.as_str(), kind);
-                assert_eq!(rt; event.project.as_ref().map(Text::as_str), project);
-            }
-            Reading::Nothing(_) => panic!(rt; "the record is an event"),
-        }
+// The event that a line is read as.
+fn read_event(rt: &impl Abort, alloc: Global, line: &str) -> Result<Event, Fail> {
+    match read(rt, alloc, line.as_bytes())? {
+        Reading::Event(event) => Ok(event),
+        Reading::Nothing(_) => panic!(rt; "the record is an event"),
     }
-    Ok(())
 }
 
-#[test]
-fn tells_why_there_is_no_event(rt: HostRuntime) -> Result<(), Fail> {
-    let cases = [
-        (b"".as_slice(), Why::NotJson),
-        (b"{\"type\":".as_slice(), Why::NotJson),
-        (b"{\"type\":\"\xff\"}".as_slice(), Why::NotJson),
-        (b"{\"type\":\"a\"} {}".as_slice(), Why::NotJson),
-        (b"{\"type\":\"a\",\"x\":1e999}".as_slice(), Why::NotJson),
-        (b"[{\"type\":\"a\"}]".as_slice(), Why::NotObject),
-        (b"null".as_slice(), Why::NotObject),
-        (b"{}".as_slice(), Why::NoType),
-        (b"{\"type\":3}".as_slice(), Why::NoType),
-        (b"{\"Type\":\"a\"}".as_slice(), Why::NoType),
-    ];
-    for (line, wanted) in cases {
-        match read(&rt, rt.alloc(), line)? {
-            Reading::Event(_) => panic!(rt; "the record is no event"),
-            Reading::Nothing(why) => assert_eq!(rt; why, wanted),
-        }
+// Why a line is no event; nothing where it is one.
+fn why(rt: &impl Abort, alloc: Global, line: &[u8]) -> Result<Option<Why>, Fail> {
+    match read(rt, alloc, line)? {
+        Reading::Event(_) => Ok(None),
+        Reading::Nothing(why) => Ok(Some(why)),
     }
-    match read_record(rt.alloc(), &Record::Oversize.copy(rt.alloc())?)? {
-        Reading::Event(_) => panic!(rt; "the record is no event"),
-        Reading::Nothing(why) => assert_eq!(rt; why, Why::Oversize),
-    }
-    Ok(())
+}
+
+fn text_of(field: &Option<Text>) -> Option<&str> {
+    field.as_ref().map(Text::as_str)
+}
+
+// Whether an event has these approvals, in this order.
+fn has_votes(event: &Event, wanted: &[(&str, i64)]) -> bool {
+    event.approvals.len() == wanted.len()
+        && event.approvals.as_slice().iter().zip(wanted).all(|(vote, wanted)| vote.0.as_str()
+            == wanted.0
+            && vote.1 == wanted.1)
 }
 
 #[test]
@@ -116,5 +81,13 @@ fn queues_pop_at_the_front(rt: HostRuntime) -> Result<(), Fail> {
     assert_eq!(rt; queue.pop(), None);
     queue.move_first_to(&mut other)?;
     assert_eq!(rt; other.len(), 1);
+    Ok(())
+}
+
+#[test]
+fn a_refusal_has_a_word(rt: HostRuntime) -> Result<(), Fail> {
+    let refused = Memory;
+    let text = format!(in rt.alloc(); "{refused}")?;
+    assert_eq!(rt; text.as_str(), "memory");
     Ok(())
 }

@@ -1,18 +1,45 @@
 -- When an event meets a trigger rule.
-use Rattle.std.specs.Prelude.{ℕ, List, [], ◌∷◌, Bool, true, false, Option, Some, None}
-use Rattle.std.specs.List.{list_any}
+use Rattle.std.specs.Prelude.{◌&&◌, ℕ, ℤ, List, [], ◌∷◌, replicate, Bool, true, false, not, codes, Option, Some, None}
+use Rattle.std.specs.List.{list_all, list_any}
+use Rattle.std.specs.Ordering.{int_eq}
+use Rattle.std.specs.Str.{bytes_eq}
 use Rattle.gate_record.specs.declared.event.Event.{Event}
 use Rattle.gate_rule.specs.declared.pattern.Pattern.{Pattern}
 use Rattle.gate_rule.specs.declared.rule.Rule.{Rule}
-use Rattle.gate_rule.specs.Pattern.{front}
+use Rattle.gate_rule.specs.Pattern.{front, within}
 
--- An attribute whose patterns are to match at the front of a field: one of them does. With no pattern it isn't
--- listed, and asks nothing. A listed attribute whose field is missing isn't met.
-abbrev pub met_at_front : List Pattern → Option (List ℕ) → Bool
-met_at_front [] field = true
-met_at_front (pattern ∷ patterns) None = false
-met_at_front (pattern ∷ patterns) (Some text) = list_any (λ p. front p text) (pattern ∷ patterns)
+-- An attribute whose patterns are tried on a field: one of them matches. With no pattern it isn't listed, and asks
+-- nothing. A listed attribute whose field is missing isn't met.
+abbrev pub is_met : (Pattern → List ℕ → Bool) → List Pattern → Option (List ℕ) → Bool
+is_met finds [] field = true
+is_met finds (pattern ∷ patterns) None = false
+is_met finds (pattern ∷ patterns) (Some text) = list_any (λ p. finds p text) (pattern ∷ patterns)
 
--- each listed attribute is met
+-- the category is among the approvals, with this vote
+abbrev pub is_given : List ℕ × ℤ → List (List ℕ × ℤ) → Bool
+is_given wanted given = list_any (λ approval. bytes_eq approval.0 wanted.0 && int_eq approval.1 wanted.1) given
+
+-- each of the categories that a rule asks for is given
+abbrev pub is_approved : List (List ℕ × ℤ) → List (List ℕ × ℤ) → Bool
+is_approved asked given = list_all (λ wanted. is_given wanted given) asked
+
+-- the new revision of a ref that was deleted
+abbrev pub is_no_revision : Option (List ℕ) → Bool
+is_no_revision None = false
+is_no_revision (Some revision) = bytes_eq revision (replicate 40 48)
+
+-- the event tells that a ref was deleted
+abbrev pub is_delete : Event → Bool
+is_delete event = bytes_eq event.kind (codes "ref-updated") && is_no_revision event.newrev
+
+-- each listed attribute is met, and a deletion isn't ignored
 abbrev pub meets : Rule → Event → Bool
-meets rule event = met_at_front rule.event (Some event.kind)
+meets rule event =
+    is_met front rule.event (Some event.kind)
+    && is_met front rule.branch event.branch
+    && is_met front rule.refname event.refname
+    && is_met within rule.username event.username
+    && is_met within rule.email event.email
+    && is_met within rule.comment event.comment
+    && is_approved rule.approval event.approvals
+    && not (rule.ignore_deletes && is_delete event)

@@ -1,16 +1,18 @@
 ghost use Rattle.std.specs.Prelude.{◌≡◌, IfOk};
 ghost use Rattle.gate_rule.specs.Built.{IsReadByDefault};
 
-use gate_record::Memory;
+use crate::matcher::Matcher;
+use gate_record::{Memory, Shared};
 use regex::Regex;
 use std::alloc::Global;
 use std::error::Error;
 use std::fmt;
 
-/// A pattern of a trigger rule, in the syntax of `regex` under its default options.
+/// A pattern of a trigger rule, in the syntax of `regex` under its default options. What was built of its text can
+/// have several owners.
 #[derive(Drop)]
 pub struct Pattern {
-    regex: Regex,
+    regex: Shared<Regex>,
     ghost built: { ∥ IsReadByDefault regex ∥₁ },
 }
 
@@ -35,24 +37,45 @@ impl fmt::Display for PatternFault {
 impl Error for PatternFault {}
 
 impl Pattern {
-    ghost use Rattle.gate_rule.specs.Pattern.{text_of, front};
+    ghost use Rattle.gate_rule.specs.Pattern.{text_of, tree_of, tree_in, front, within};
 
     /// Builds the pattern of a text. `Memory` where memory is refused, else `Refused` where `regex` refuses the text.
     pub fn new(alloc: Global, text: &str) -> Result<Pattern, PatternFault>
         ensures { IfOk result (λ pattern. text_of pattern ≡ text.now) }
     {
         match Regex::new(alloc, text) {
-            Ok(regex) => Ok(Pattern { regex }),
+            Ok(regex) => match Shared::new(alloc, regex) {
+                Ok(regex) => Ok(Pattern { regex }),
+                Err(Memory) => Err(PatternFault::Memory),
+            },
             Err(regex::Error::OutOfMemory) => Err(PatternFault::Memory),
             Err(_) => Err(PatternFault::Refused),
         }
+    }
+
+    /// Another owner of the same pattern, which isn't built anew. `Memory` where there are too many to be counted.
+    pub fn share(&self) -> Result<Pattern, Memory>
+        ensures { IfOk result (λ pattern. pattern ≡ self.now) }
+    {
+        Ok(Pattern {
+            regex: self.regex.share()?,
+        })
     }
 
     /// The text that the pattern was built from.
     pub fn text(&self) -> &str
         ensures { result.now ≡ text_of self.now }
     {
-        self.regex.as_str()
+        self.regex.get().as_str()
+    }
+
+    /// The pattern, ready for many texts. `Memory` where what the searches need finds no room.
+    pub fn matcher(&self, alloc: Global) -> Result<Matcher<'_>, Memory>
+        ensures { IfOk result (λ matcher. tree_in matcher ≡ tree_of self.now) }
+    {
+        Ok(Matcher {
+            searches: self.regex.get().matcher(alloc)?,
+        })
     }
 
     /// Whether the first match that `regex` finds in the text begins at byte 0. It need not end at the last.
@@ -60,10 +83,13 @@ impl Pattern {
     pub fn front(&self, alloc: Global, text: &str) -> Result<bool, Memory>
         ensures { IfOk result (λ found. found ≡ front self.now text.now) }
     {
-        let mut matcher = self.regex.matcher(alloc)?;
-        match matcher.find(text) {
-            Some(found) => Ok(found.start() == 0),
-            None => Ok(false),
-        }
+        Ok(self.matcher(alloc)?.front(text))
+    }
+
+    /// Whether `regex` finds a match in the text. `Memory` where a search finds no room.
+    pub fn within(&self, alloc: Global, text: &str) -> Result<bool, Memory>
+        ensures { IfOk result (λ found. found ≡ within self.now text.now) }
+    {
+        Ok(self.matcher(alloc)?.within(text))
     }
 }

@@ -1,41 +1,77 @@
-ghost use Rattle.std.specs.Prelude.{◌≡◌, IfOk, option_copied, Option, Some};
+ghost use Rattle.std.specs.Prelude.{◌≡◌, IfOk, option_map};
 ghost use Rattle.std.specs.List.{list_any};
-ghost use Rattle.gate_rule.specs.Pattern.{front};
+ghost use Rattle.gate_rule.specs.Pattern.{front, within};
+ghost use Rattle.gate_rule.specs.Rule.{meets, is_approved, is_delete, is_given, is_met, is_no_revision};
 
 use crate::pattern::Pattern;
-use gate_record::{Event, Memory, Sequence};
+use gate_record::{Event, Memory, Sequence, Text};
 use std::alloc::Global;
 
-/// A trigger rule. An event meets it where it meets each attribute that is listed; an empty list isn't listed.
+// What Gerrit gives as the new revision of a ref that was deleted.
+const NO_REVISION: &str = "0000000000000000000000000000000000000000";
+
+/// A trigger rule (Zuul's documentation, "Gerrit", trigger configuration, in this project's profile). An event meets it
+/// where it meets each attribute that is listed; an empty list isn't listed. A listed attribute isn't met by an event
+/// in which its field is missing. The patterns of one attribute are alternatives.
 #[derive(Drop)]
 pub struct Rule {
     /// One of these matches at the front of the event's type.
     pub event: Sequence<Pattern>,
+    /// One of these matches at the front of the branch.
+    pub branch: Sequence<Pattern>,
+    /// The attribute `ref`: one of these matches at the front of the ref's name, as Gerrit gives it.
+    pub refname: Sequence<Pattern>,
+    /// One of these matches anywhere in the account's username.
+    pub username: Sequence<Pattern>,
+    /// One of these matches anywhere in the account's email address.
+    pub email: Sequence<Pattern>,
+    /// One of these matches anywhere in the comment.
+    pub comment: Sequence<Pattern>,
+    /// Each of these categories is among the event's approvals, with the same vote.
+    pub approval: Sequence<(Text, i64)>,
+    /// Whether the rule isn't met by a `ref-updated` that tells that its ref was deleted.
+    pub ignore_deletes: bool,
 }
 
 impl Rule {
-    ghost use Rattle.gate_rule.specs.Rule.{meets};
-
     /// Whether an event meets the rule. `Memory` where a search finds no room.
     pub fn matches(&self, alloc: Global, event: &Event) -> Result<bool, Memory>
         ensures { IfOk result (λ met. met ≡ meets self.now event.now) }
     {
-        is_met_at_front(alloc, self.event.as_slice(), Some(event.kind.as_str()))
+        let met = is_met_at_front(alloc, &self.event, Some(event.kind.as_str()))?
+            && is_met_at_front(alloc, &self.branch, text(&event.branch))?
+            && is_met_at_front(alloc, &self.refname, text(&event.refname))?
+            && is_met_within(alloc, &self.username, text(&event.username))?
+            && is_met_within(alloc, &self.email, text(&event.email))?
+            && is_met_within(alloc, &self.comment, text(&event.comment))?
+            && is_approved(&self.approval, &event.approvals)
+            && !(self.ignore_deletes && is_delete(event));
+        Ok(met)
     }
 }
 
-ghost use Rattle.gate_rule.specs.Rule.{met_at_front};
-ghost use Rattle.std.specs.Prelude.{option_map};
-
-fn is_met_at_front(alloc: Global, patterns: &[Pattern], field: Option<&str>) -> Result<bool, Memory>
-    ensures { IfOk result (λ met. met ≡ met_at_front patterns.now (option_map (λ t. t.now) field.entry)) }
+fn text(field: &Option<Text>) -> Option<&str>
+    ensures { option_map (λ t. t.now) result ≡ field.now }
 {
-    if patterns.is_empty() {
+    match field {
+        Some(text) => Some(text.as_str()),
+        None => None,
+    }
+}
+
+fn is_met_at_front(
+    alloc: Global,
+    patterns: &Sequence<Pattern>,
+    field: Option<&str>,
+) -> Result<bool, Memory>
+    ensures { IfOk result (λ met. met ≡ is_met front patterns.now (option_map (λ t. t.now) field.entry)) }
+{
+    if patterns.len() == 0 {
         return Ok(true);
     }
     match field {
         None => Ok(false),
-        Some(text) => any_at_front(alloc, patterns, text),
+        Some(text) => any_at_front(alloc, patterns.as_slice(), text),
     }
 }
 
@@ -48,4 +84,61 @@ fn any_at_front(alloc: Global, patterns: &[Pattern], text: &str) -> Result<bool,
         }
     }
     Ok(false)
+}
+
+fn is_met_within(
+    alloc: Global,
+    patterns: &Sequence<Pattern>,
+    field: Option<&str>,
+) -> Result<bool, Memory>
+    ensures { IfOk result (λ met. met ≡ is_met within patterns.now (option_map (λ t. t.now) field.entry)) }
+{
+    if patterns.len() == 0 {
+        return Ok(true);
+    }
+    match field {
+        None => Ok(false),
+        Some(text) => any_within(alloc, patterns.as_slice(), text),
+    }
+}
+
+fn any_within(alloc: Global, patterns: &[Pattern], text: &str) -> Result<bool, Memory>
+    ensures { IfOk result (λ met. met ≡ list_any (λ pattern. within pattern text.now) patterns.now) }
+{
+    for pattern in patterns {
+        if pattern.within(alloc, text)? {
+            return Ok(true);
+        }
+    }
+    Ok(false)
+}
+
+fn is_approved(asked: &Sequence<(Text, i64)>, given: &Sequence<(Text, i64)>) -> bool
+    ensures { result ≡ is_approved asked.now given.now }
+{
+    asked
+        .as_slice()
+        .iter()
+        .all(|wanted| is_given(wanted, given.as_slice()))
+}
+
+fn is_given(wanted: &(Text, i64), given: &[(Text, i64)]) -> bool
+    ensures { result ≡ is_given wanted.now given.now }
+{
+    given.iter().any(|vote| vote.0.as_str() == wanted.0.as_str() && vote.1 == wanted.1)
+}
+
+fn is_delete(event: &Event) -> bool
+    ensures { result ≡ is_delete event.now }
+{
+    event.kind.as_str() == "ref-updated" && is_no_revision(&event.newrev)
+}
+
+fn is_no_revision(revision: &Option<Text>) -> bool
+    ensures { result ≡ is_no_revision revision.now }
+{
+    match revision {
+        Some(revision) => revision.as_str() == NO_REVISION,
+        None => false,
+    }
 }

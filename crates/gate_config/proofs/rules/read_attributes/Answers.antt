@@ -1,19 +1,20 @@
-use Rattle.std.proofs.Common.{inr}
-use Rattle.gate_config.proofs.Attributes.{attributes_all}
-use Rattle.gate_config.proofs.Each.{flat_fault, tested_more, flat_all}
+use Rattle.gate_config.proofs.Attributes.{attributes_none, attributes_more, attributes_all}
+use Rattle.gate_config.proofs.Each.{flat_fault, flat_all}
 use Rattle.gate_config.proofs.Faults.{exit}
 use Rattle.gate_config.proofs.rules.read_attributes.Goals as goal
 
-pub returns-in_err-event : goal.returns-in_err-event
-returns-in_err-event c =
+pub loop-key-init : goal.loop-key-init
+loop-key-init c = attributes_none c.unlisted-read.ensures
+
+pub returns-in_err-read_attribute : goal.returns-in_err-read_attribute
+returns-in_err-read_attribute c =
     exit _ c.from_residual.result c.from_residual.ensures.1
-    (flat_fault c.key-item.result c.loop-key-test.true c.key-item.is c.loop-key.invariant.tested (rw c.as_str.ensures.value at c.in_err-event.ensures))
+    (flat_fault c.key-item.result c.loop-key-test.true c.key-item.is c.loop-key.invariant.tested (rw c.as_str.ensures.value at c.in_err-read_attribute.ensures))
 
 pub loop-key-preserved : goal.loop-key-preserved
-loop-key-preserved c = record {
-  tested = tested_more c.key-item.result c.loop-key-test.true c.key-item.is c.loop-key.invariant.tested (rw c.as_str.ensures.value at c.in_ok-event.ensures.0);
-  says = inr c.in_ok-event.ensures.1;
-}
+loop-key-preserved c =
+    attributes_more c.key-item.result c.loop-key-test.true c.key-item.is c.loop-key.invariant
+    (rw c.as_str.ensures.value at c.in_ok-read_attribute.ensures.0) (rw c.as_str.ensures.value at c.in_ok-read_attribute.ensures.1)
 
 pub returns : goal.returns
 returns c = (flat_all c.loop-key-test.false c.loop-key.invariant.tested, attributes_all c.loop-key-test.false c.requires c.loop-key.invariant)

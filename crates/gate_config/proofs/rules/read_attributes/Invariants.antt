@@ -3,4 +3,4 @@ use Rattle.gate_config.proofs.Attributes.{AttributesSoFar}
 use Rattle.gate_config.proofs.rules.read_attributes.Given as goal
 
 abbrev pub invariant-loop-key : goal.invariant-loop-key
-invariant-loop-key l = AttributesSoFar l.here (view l.rule) l.keys l.key-index l.event
+invariant-loop-key l = AttributesSoFar l.here (view l.rule) l.keys l.key-index l.read

@@ -1,0 +1,5 @@
+use Rattle.gate_config.proofs.Votes.{ObjectsSoFar}
+use Rattle.gate_config.proofs.approvals.read_objects.Given as goal
+
+abbrev pub invariant-loop-position : goal.invariant-loop-position
+invariant-loop-position l = ObjectsSoFar l.place l.items l.position l.votes

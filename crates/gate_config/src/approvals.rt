@@ -1,0 +1,145 @@
+ghost use Rattle.std.specs.Prelude.{◌≡◌, ◌+◌, ◌++◌, Some, length, map, option_and_then, option_map, option_to_list};
+ghost use Rattle.std.specs.List.{filter_map, flat_map};
+ghost use Rattle.serde_json.specs.Find.{get};
+ghost use Rattle.serde_json.specs.View.{view};
+ghost use Rattle.gate_record.specs.Numbers.{number_of};
+ghost use Rattle.gate_config.specs.Checks.{each, approval_checks, objects_checks, vote_checks, votes_checks};
+ghost use Rattle.gate_config.specs.Document.{vote_at, votes, votes_of};
+ghost use Rattle.gate_config.specs.Entry.{key_view};
+ghost use Rattle.gate_config.specs.Faults.{Reads};
+ghost use Rattle.gate_config.specs.Places.{nth};
+
+use crate::fault::ConfigFault;
+use crate::limits::MAX_ENTRIES;
+use crate::parts::{check_object, keys, list};
+use crate::places::item_place;
+use gate_record::{Sequence, Text, category, read_number};
+use serde_json::Value;
+use std::alloc::Global;
+
+// The votes of `approval`, if it is there: an object of categories and numbers, or a list of such objects.
+pub(crate) fn read_approvals(
+    alloc: Global,
+    place: &str,
+    value: Option<&Value>,
+) -> Result<Sequence<(Text, i64)>, ConfigFault>
+    ensures { Reads (approval_checks place.now (option_map (λ v. view v.now) value.entry))
+        (λ read. read ≡ votes (option_map (λ v. view v.now) value.entry)) result }
+{
+    match value {
+        None => Ok(Sequence::empty(alloc)),
+        Some(value) => match list(value) {
+            Some(items) => read_objects(alloc, place, items),
+            None => read_object(alloc, place, value),
+        },
+    }
+}
+
+fn read_object(
+    alloc: Global,
+    place: &str,
+    object: &Value,
+) -> Result<Sequence<(Text, i64)>, ConfigFault>
+    ensures { Reads (votes_checks place.now place.now 0 (view object.now)) (λ read. read ≡ votes_of (view object.now)) result }
+{
+    let mut votes = Sequence::empty(alloc);
+    push_object(alloc, place, place, object, &mut votes)?;
+    Ok(votes)
+}
+
+fn read_objects(
+    alloc: Global,
+    place: &str,
+    items: &[Value],
+) -> Result<Sequence<(Text, i64)>, ConfigFault>
+    ensures { Reads (objects_checks place.now 0 0 (map view items.now)) (λ read. read ≡ flat_map votes_of (map view items.now)) result }
+{
+    let mut votes = Sequence::empty(alloc);
+    for (position, item) in items.iter().enumerate() {
+        push_item(alloc, place, position, item, &mut votes)?;
+    }
+    Ok(votes)
+}
+
+// The object at this position of the list.
+fn push_item(
+    alloc: Global,
+    place: &str,
+    position: usize,
+    item: &Value,
+    votes: &mut Sequence<(Text, i64)>,
+) -> Result<(), ConfigFault>
+    ensures { Reads (votes_checks place.now (nth place.now position) (length votes.old) (view item.now))
+        (λ _. votes.new ≡ votes.old ++ votes_of (view item.now)) result }
+{
+    let here = item_place(alloc, place, position)?;
+    push_object(alloc, place, here.as_str(), item, votes)
+}
+
+// An object of categories and numbers, at `here`.
+fn push_object(
+    alloc: Global,
+    place: &str,
+    here: &str,
+    object: &Value,
+    votes: &mut Sequence<(Text, i64)>,
+) -> Result<(), ConfigFault>
+    ensures { Reads (votes_checks place.now here.now (length votes.old) (view object.now))
+        (λ _. votes.new ≡ votes.old ++ votes_of (view object.now)) result }
+{
+    check_object(alloc, here, object)?;
+    let keys = keys(alloc, Some(object))?;
+    push_votes(alloc, place, here, object, keys.as_slice(), votes)
+}
+
+fn push_votes(
+    alloc: Global,
+    place: &str,
+    here: &str,
+    object: &Value,
+    keys: &[&String],
+    votes: &mut Sequence<(Text, i64)>,
+) -> Result<(), ConfigFault>
+    ensures { Reads (each (λ index. vote_checks place.now here.now (view object.now) (length votes.old + index)) (map key_view keys.now))
+        (λ _. votes.new ≡ votes.old ++ filter_map (vote_at (view object.now)) (map key_view keys.now)) result }
+{
+    for key in keys {
+        push_vote(alloc, place, here, object, key.as_str(), votes)?;
+    }
+    Ok(())
+}
+
+// The vote at a key. `Limit` at the attribute where there are as many as there may be, `Shape` at the object where it
+// is no number.
+fn push_vote(
+    alloc: Global,
+    place: &str,
+    here: &str,
+    object: &Value,
+    key: &str,
+    votes: &mut Sequence<(Text, i64)>,
+) -> Result<(), ConfigFault>
+    ensures { Reads (vote_checks place.now here.now (view object.now) (length votes.old) key.now)
+        (λ _. votes.new ≡ votes.old ++ option_to_list (vote_at (view object.now) key.now)) result }
+{
+    if votes.len() >= MAX_ENTRIES {
+        return Err(ConfigFault::Limit(Text::copy(alloc, place)?));
+    }
+    match number_member(object, key) {
+        Some(vote) => {
+            let category = category(alloc, key)?;
+            votes.push((Text::new(category), vote))?;
+            Ok(())
+        }
+        None => Err(ConfigFault::Shape(Text::copy(alloc, here)?)),
+    }
+}
+
+fn number_member(object: &Value, key: &str) -> Option<i64>
+    ensures { result ≡ option_and_then number_of (get key.now (view object.now)) }
+{
+    match object.get(key) {
+        Some(value) => read_number(value),
+        None => None,
+    }
+}

@@ -1,0 +1,32 @@
+-- The approvals of an event: categories, each with a vote.
+use Rattle.std.specs.Prelude.{◌==◌, ℕ, ℤ, List, [], ◌∷◌, map, take, codes, Option, option_map, option_and_then, if◌then◌else◌}
+use Rattle.std.specs.List.{filter_map}
+use Rattle.std.specs.Option.{option_or}
+use Rattle.std.specs.Char.{to_ascii_lowercase}
+use Rattle.serde_json.specs.Data.{Data}
+use Rattle.gate_record.specs.Json.{text_at, number_at, items_at}
+use Rattle.gate_record.specs.declared.approvals.TheConstants.{MAX_APPROVALS}
+
+-- 32 is a space, 45 a dash
+abbrev pub category_byte : ℕ → ℕ
+category_byte byte = if byte == 32 then 45 else to_ascii_lowercase byte
+
+-- a label's name as rules write it: ASCII letters in lower case, and a dash for each space
+abbrev pub category : List ℕ → List ℕ
+category text = map category_byte text
+
+-- by `description` where it is a text, else by `type`
+abbrev pub category_of : Data → Option (List ℕ)
+category_of entry = option_map category (option_or
+    (text_at (codes "description" ∷ []) entry)
+    (text_at (codes "type" ∷ []) entry))
+
+-- an entry that has both a category and a number as its `value`
+abbrev pub approval_of : Data → Option (List ℕ × ℤ)
+approval_of entry = option_and_then
+    (λ name. option_map (λ vote. (name, vote)) (number_at (codes "value" ∷ []) entry))
+    (category_of entry)
+
+-- the first of the list `approvals` that have both
+abbrev pub approvals_of : Data → List (List ℕ × ℤ)
+approvals_of value = take MAX_APPROVALS (filter_map approval_of (items_at (codes "approvals" ∷ []) value))
