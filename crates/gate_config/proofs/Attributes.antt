@@ -84,7 +84,7 @@ other Less x y e = refl
 other Equal x y e = cc
 other Greater x y e = refl
 
-same_bytes : (xs ys : List ℕ) → bytes_eq xs ys ≡ bytes_eq ys xs
+pub same_bytes : (xs ys : List ℕ) → bytes_eq xs ys ≡ bytes_eq ys xs
 same_bytes xs ys = same_from_decides (bytes_eq xs ys) (bytes_eq ys xs) (bytes_eq-Decides xs ys) (Decides-like (bytes_eq ys xs) (λ e. sym e) (λ e. sym e) (bytes_eq-Decides ys xs))
 
 neither : (x y : Bool) → (x || y) ≡ false → (x ≡ false) × (y ≡ false)

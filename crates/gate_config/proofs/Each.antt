@@ -1,10 +1,10 @@
 -- Loops over the items of a list, each with its checks.
-use Rattle.std.proofs.Common.{◌≡◌, ◌∙◌, ◌+◌, ◌<◌, ◌≤◌, ℕ, List, [], ◌∷◌, ◌++◌, map, length, get_or, take, drop, nat_le, rules, refl, sym, ap, Option, Some, subst, arith, append_assoc, add-zero, zero-add, suc}
+use Rattle.std.proofs.Common.{◌≡◌, ◌∙◌, ◌+◌, ◌<◌, ◌≤◌, ℕ, List, [], ◌∷◌, ◌++◌, map, length, get_or, take, drop, refl, sym, ap, Option, Some, subst, arith, append_assoc, add-zero, zero-add, suc}
 use Rattle.std.specs.List.{flat_map, filter_map, enumerate_from}
 use Rattle.std.proofs.lemmas.List.{append-nil, map-append, map-id, take_more, take_all, take-append-drop, length-map, length-take-le}
 use Rattle.gate_config.specs.declared.fault.ConfigFault.{ConfigFault}
 use Rattle.gate_config.specs.Checks.{each}
-use Rattle.gate_config.specs.Faults.{Check, Asks, HasPassed, HasFault}
+use Rattle.gate_config.specs.Faults.{Check, HasPassed, HasFault}
 use Rattle.gate_config.proofs.Faults.{fault_front, fault_rest, passed_both}
 
 -- the checks from a position on
@@ -42,7 +42,7 @@ map_more v items i x h e =
 pub count : {X A : Type 0} (v : X → A) (items : List X) (i : ℕ) → i < length items → length (map v (take i items)) ≡ i
 count v items i h = length-map (take i items) v ∙ length-take-le i items (omega arith)
 
-split : {X A : Type 0} (v : X → A) (items : List X) (i : ℕ) (x : X) → i < length items → x ≡ get_or items i x → map v items ≡ (map v (take i items) ++ v x ∷ []) ++ map v (drop (i + 1) items)
+pub split : {X A : Type 0} (v : X → A) (items : List X) (i : ℕ) (x : X) → i < length items → x ≡ get_or items i x → map v items ≡ (map v (take i items) ++ v x ∷ []) ++ map v (drop (i + 1) items)
 split v items i x h e =
     ap (map v) (sym (take-append-drop (i + 1) items)) ∙ map-append v (take (i + 1) items) (drop (i + 1) items)
     ∙ ap (λ front. front ++ map v (drop (i + 1) items)) (map_more v items i x h e)
@@ -117,7 +117,3 @@ filter_map_all texts gives (y ∷ ys) (x ∷ xs) e =
     let first : Some (texts y) ≡ gives x = cc in
     let rest : map (λ z. Some (texts z)) ys ≡ map gives xs = cc in
     rw (← first) (ap (λ zs. texts y ∷ zs) (filter_map_all texts gives ys xs rest))
-
--- a limit that is kept
-pub few : {X A : Type 0} (v : X → A) (items : List X) (n : ℕ) (fault : ConfigFault) → length items ≤ n → HasPassed (Asks (nat_le (length (map v items)) n) fault ∷ [])
-few v items n fault h = record { all = (rw (length-map items v) (search rules), tt) }

@@ -1,9 +1,10 @@
 -- The first fault of lists of checks that are joined.
-use Rattle.std.proofs.Common.{◌≡◌, ◌++◌, List, [], ◌∷◌, Result, Ok, Err, inl, inr, sym, subst}
+use Rattle.std.proofs.Common.{◌≡◌, ◌∙◌, ◌≤◌, ◌++◌, ℕ, length, nat_le, rules, List, [], ◌∷◌, Bool, true, false, Result, Ok, Err, inl, inr, sym, ap, subst}
+use Rattle.std.specs.Prelude.{not}
 use Rattle.std.specs.Result.{IsErrAnd}
 use Rattle.gate_config.specs.declared.fault.ConfigFault.{ConfigFault}
 use Rattle.gate_config.specs.declared.fault.ConfigFault.TheVariants as fault
-use Rattle.gate_config.specs.Faults.{Check, AllPass, IsFirstFault, IsFaultOf, HasPassed, HasFault, Reads}
+use Rattle.gate_config.specs.Faults.{Check, Asks, AllPass, IsFirstFault, IsFaultOf, HasPassed, HasFault, Reads, Tests}
 
 -- IsFaultOf is a map of IsFirstFault
 over_faults : (xs ys : List Check) → ((found : ConfigFault) → IsFirstFault xs found → IsFirstFault ys found) → (found : ConfigFault) → IsFaultOf xs found → IsFaultOf ys found
@@ -62,3 +63,19 @@ after ys P (Err found) p h = fault_rest p h
 
 pub after_one : {T : Type 0} {x : Check} (ys : List Check) (P : T → Type 0) (r : Result T ConfigFault) → HasPassed (x ∷ []) → Reads ys P r → Reads (x ∷ ys) P r
 after_one ys P r p h = after ys P r p h
+
+-- the test that a name is new
+pub new : {b : Bool} (place : List ℕ) → b ≡ false → HasPassed (Asks (not b) (fault.Repeated place) ∷ [])
+new place e = record { all = (ap not e, tt) }
+
+pub taken : {b : Bool} {place found : List ℕ} → b ≡ true → found ≡ place → HasFault (Asks (not b) (fault.Repeated place) ∷ []) (fault.Repeated found)
+taken e p = record { first = inl (ap not e, ap fault.Repeated p) }
+
+-- a reader that gives nothing, and what else is known once it has passed
+pub saying : {T : Type 0} (checks : List Check) {Q : Type 0} (r : Result T ConfigFault) → Tests checks r → Q → Reads checks (λ _. Q) r
+saying checks (Ok value) h q = (h.0, q)
+saying checks (Err found) h q = h
+
+-- the test that there are at most so many names
+pub room : {names next : List (List ℕ)} {n m : ℕ} (found : ConfigFault) → n ≤ m → n ≡ length names → names ≡ next → HasPassed (Asks (nat_le (length next) m) found ∷ [])
+room {names} {next} {n} {m} found h e s = record { all = (subst (λ k. nat_le k m ≡ true) (e ∙ ap length s) (search (rules, h)), tt) }

@@ -1,6 +1,12 @@
+pub mod Along
 pub mod Attributes
 pub mod Each
 pub mod Faults
+pub mod JobLists
+pub mod Keyed
+pub mod Lines
+pub mod Listed
+pub mod NameSets
 pub mod Outcome
 pub mod Picked
 pub mod Views

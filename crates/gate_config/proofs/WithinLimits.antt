@@ -1,16 +1,18 @@
 -- What passed its checks is within the limits.
-use Rattle.std.proofs.Common.{◌≡◌, ◌∙◌, ◌+◌, ◌<◌, ◌≤◌, ℕ, List, [], ◌∷◌, ◌++◌, map, length, sym, ap, subst, arith, codes, Option}
+use Rattle.std.proofs.Common.{◌≡◌, ◌∙◌, ◌<◌, ◌≤◌, ℕ, List, [], ◌∷◌, ◌++◌, map, length, nat_le, sym, ap, subst, arith, codes, Option, append_assoc}
 use Rattle.std.specs.List.{flat_map}
-use Rattle.std.proofs.lemmas.Bool.{ltb-true}
-use Rattle.std.proofs.lemmas.List.{append-nil, length-map}
+use Rattle.std.proofs.lemmas.Bool.{leb-true, ltb-true}
+use Rattle.std.proofs.lemmas.List.{append-nil, length-append, length-map}
 use Rattle.serde_json.specs.Data.{Data}
-use Rattle.gate_config.specs.Checks.{each, item_checks, items_checks, pipeline_checks, source_checks, tenant_checks}
-use Rattle.gate_config.specs.Document.{names_in, pipeline_items, sources_of}
-use Rattle.gate_config.specs.Faults.{Check, AllPass, HasPassed}
+use Rattle.gate_config.specs.Checks.{along, along_from, each, all_items_checks, item_checks, items_checks, stanzas_checks, pipeline_checks, source_checks, tenant_checks, tenant_place}
+use Rattle.gate_config.specs.Document.{names_in, pipeline_items, sources_of, tenant_of}
+use Rattle.gate_config.specs.Faults.{Check, Asks, AllPass, HasPassed}
 use Rattle.gate_config.specs.Parts.{optional}
 use Rattle.gate_config.specs.Places.{below, nth}
+use Rattle.gate_config.specs.declared.fault.ConfigFault.{ConfigFault}
 use Rattle.gate_config.specs.declared.limits.TheConstants.{MAX_CONNECTIONS, MAX_PIPELINES, MAX_TENANTS}
-use Rattle.gate_config.proofs.Each.{each_from}
+use Rattle.gate_config.specs.Names.{with_name, with_names}
+use Rattle.gate_config.proofs.Listed.{flat_map-append, with_names-append}
 
 front_passed : (xs ys : List Check) → AllPass (xs ++ ys) → AllPass xs
 front_passed [] ys p = tt
@@ -20,33 +22,47 @@ rest_passed : (xs ys : List Check) → AllPass (xs ++ ys) → AllPass ys
 rest_passed [] ys p = p
 rest_passed (x ∷ xs) ys p = rest_passed xs ys p.1
 
--- where each check asks for a position below m, there are at most m items
-at_most : {A : Type 0} (checks : ℕ → A → List Check) (m : ℕ) → ((i : ℕ) (x : A) → AllPass (checks i x) → i < m) → (n : ℕ) (xs : List A) → n ≤ m → AllPass (each_from checks n xs) → n + length xs ≤ m
-at_most checks m below n [] h p = omega (arith, h)
-at_most checks m below n (x ∷ xs) h p =
-    let here : n < m = below n x (front_passed (checks n x) (each_from checks (n + 1) xs) p) in
-    let rest : n + 1 + length xs ≤ m = at_most checks m below (n + 1) xs (omega (arith, here)) (rest_passed (checks n x) (each_from checks (n + 1) xs) p) in
-    omega (arith, rest)
+-- where each check asks for fewer than m items before it, there are at most m
+at_most_along : {A : Type 0} (checks : List A → A → List Check) (m : ℕ) → ((before : List A) (x : A) → AllPass (checks before x) → length before < m) → (before xs : List A) → length before ≤ m → AllPass (along_from checks before xs) → length (before ++ xs) ≤ m
+at_most_along checks m below before [] h p = rw (append-nil before) h
+at_most_along checks m below before (x ∷ xs) h p =
+    let here : length before < m = below before x (front_passed (checks before x) (along_from checks (before ++ x ∷ []) xs) p) in
+    let more : length (before ++ x ∷ []) ≤ m = omega (arith, here, length-append before (x ∷ [])) in
+    subst (λ ys. length ys ≤ m) (append_assoc before (x ∷ []) xs)
+    (at_most_along checks m below (before ++ x ∷ []) xs more (rest_passed (checks before x) (along_from checks (before ++ x ∷ []) xs) p))
 
-few_sources : (here : List ℕ) (tenant : Data) (sources : Option Data) → AllPass (each (source_checks here sources) (sources_of tenant)) → length (sources_of tenant) ≤ MAX_CONNECTIONS
-few_sources here tenant sources p =
-    let few : 0 + length (sources_of tenant) ≤ MAX_CONNECTIONS = at_most (source_checks here sources) MAX_CONNECTIONS (λ i key q. ltb-true i MAX_CONNECTIONS q.0) 0 (sources_of tenant) (omega arith) p in
-    omega (arith, few)
+-- the connections of a tenant, with those known before
+few_sources : (known : List (List ℕ)) (here : List ℕ) (sources : Option Data) (before keys : List (List ℕ)) → length (with_names known before) ≤ MAX_CONNECTIONS → AllPass (along_from (source_checks known here sources) before keys) → length (with_names known (before ++ keys)) ≤ MAX_CONNECTIONS
+few_sources known here sources before [] h p = rw (append-nil before) h
+few_sources known here sources before (key ∷ keys) h p =
+    let few : length (with_name key (with_names known before)) ≤ MAX_CONNECTIONS = leb-true (length (with_name key (with_names known before))) MAX_CONNECTIONS p.0 in
+    subst (λ names. length (with_names known names) ≤ MAX_CONNECTIONS) (append_assoc before (key ∷ []) keys)
+    (few_sources known here sources (before ++ key ∷ []) keys
+    (subst (λ names. length names ≤ MAX_CONNECTIONS) (sym (with_names-append known before (key ∷ []))) few)
+    (rest_passed (source_checks known here sources before key) (along_from (source_checks known here sources) (before ++ key ∷ []) keys) p))
 
--- the connections of at most one tenant
-few_names : (entries : List (ℕ × Data)) → length entries ≤ MAX_TENANTS → AllPass (flat_map tenant_checks entries) → length (names_in entries) ≤ MAX_CONNECTIONS
-few_names [] h p = omega arith
-few_names (entry ∷ []) h p =
-    subst (λ names. length names ≤ MAX_CONNECTIONS) (sym (append-nil (sources_of entry.1)))
-    (few_sources (below (nth (codes "tenants") entry.0) (codes "source")) entry.1 (optional (codes "source") entry.1) (front_passed (tenant_checks entry) [] p).1.1.1.1)
-few_names (entry ∷ other ∷ entries) h p = absurd (omega (arith, h))
+abbrev tenant_sources : ℕ × Data → List (List ℕ)
+tenant_sources entry = sources_of (tenant_of entry.1)
 
--- items that are seen by v are as many
-seen : {X A : Type 0} (v : X → A) (items : List X) (m : ℕ) → length items ≤ m → length (map v items) ≤ m
-seen v items m h = subst (λ n. n ≤ m) (sym (length-map items v)) h
+-- the connections of entries
+names-append : (before : List (ℕ × Data)) (entry : ℕ × Data) → names_in (before ++ entry ∷ []) ≡ with_names (names_in before) (tenant_sources entry)
+names-append before entry =
+    ap (with_names []) (flat_map-append tenant_sources before (entry ∷ []) ∙ ap (λ rest. flat_map tenant_sources before ++ rest) (append-nil (tenant_sources entry)))
+    ∙ with_names-append [] (flat_map tenant_sources before) (tenant_sources entry)
 
-pub few_connections : {X : Type 0} (v : X → ℕ × Data) (items : List X) (names : List (List ℕ)) → length items ≤ MAX_TENANTS → HasPassed (flat_map tenant_checks (map v items)) → names ≡ names_in (map v items) → length names ≤ MAX_CONNECTIONS
-few_connections v items names h p e = subst (λ (found : List (List ℕ)). length found ≤ MAX_CONNECTIONS) (sym e) (few_names (map v items) (seen v items MAX_TENANTS h) p.all)
+few_names : (before entries : List (ℕ × Data)) → length (names_in before) ≤ MAX_CONNECTIONS → AllPass (along_from tenant_checks before entries) → length (names_in (before ++ entries)) ≤ MAX_CONNECTIONS
+few_names before [] h p = rw (append-nil before) h
+few_names before (entry ∷ entries) h p =
+    let passed : AllPass (tenant_checks before entry) = front_passed (tenant_checks before entry) (along_from tenant_checks (before ++ entry ∷ []) entries) p in
+    let tenant = tenant_of entry.1 in
+    let few : length (with_names (names_in before) (tenant_sources entry)) ≤ MAX_CONNECTIONS =
+    few_sources (names_in before) (below (tenant_place (nth (codes "tenants") entry.0) entry.1) (codes "source")) (optional (codes "source") tenant) [] (sources_of tenant) h passed.1.1.1.1.1 in
+    subst (λ es. length (names_in es) ≤ MAX_CONNECTIONS) (append_assoc before (entry ∷ []) entries)
+    (few_names (before ++ entry ∷ []) entries (subst (λ names. length names ≤ MAX_CONNECTIONS) (sym (names-append before entry)) few)
+    (rest_passed (tenant_checks before entry) (along_from tenant_checks (before ++ entry ∷ []) entries) p))
+
+pub few_connections : (entries : List (ℕ × Data)) (names : List (List ℕ)) → HasPassed (along tenant_checks entries) → names ≡ names_in entries → length names ≤ MAX_CONNECTIONS
+few_connections entries names p e = subst (λ (found : List (List ℕ)). length found ≤ MAX_CONNECTIONS) (sym e) (few_names [] entries (omega arith) p.all)
 
 -- as many were read as there are items
 few_read : {A B T : Type 0} (texts : T → B) (gives : A → B) (read : List T) (items : List A) (m : ℕ) → map texts read ≡ map gives items → length items ≤ m → length read ≤ m
@@ -54,12 +70,16 @@ few_read texts gives read items m e h =
     let same : length read ≡ length items = sym (length-map read texts) ∙ ap length e ∙ length-map items gives in
     omega (arith, same, h)
 
-pub few_tenants : {X A T B : Type 0} (v : X → A) (items : List X) (texts : T → B) (gives : A → B) (read : List T) → map texts read ≡ map gives (map v items) → length items ≤ MAX_TENANTS → length read ≤ MAX_TENANTS
-few_tenants v items texts gives read e h = few_read texts gives read (map v items) MAX_TENANTS e (seen v items MAX_TENANTS h)
+pub few_tenants : {X A T B : Type 0} (v : X → A) (items : List X) (texts : T → B) (gives : A → B) (read : List T) {found : ConfigFault} → map texts read ≡ map gives (map v items) → HasPassed (Asks (nat_le (length (map v items)) MAX_TENANTS) found ∷ []) → length read ≤ MAX_TENANTS
+few_tenants v items texts gives read e p = few_read texts gives read (map v items) MAX_TENANTS e (leb-true (length (map v items)) MAX_TENANTS p.all.0)
 
 pub few_pipelines : {T B : Type 0} (connections : List (List ℕ)) (place : List ℕ) (items : List Data) (texts : T → B) (gives : ℕ × Data → B) (read : List T) →
     HasPassed (items_checks connections place items) → map texts read ≡ map gives (pipeline_items items) → length read ≤ MAX_PIPELINES
 few_pipelines connections place items texts gives read p e =
-    let passed : AllPass (each (pipeline_checks connections place) (pipeline_items items)) = rest_passed (each (item_checks place) items) (each (pipeline_checks connections place) (pipeline_items items)) p.all in
-    let few : 0 + length (pipeline_items items) ≤ MAX_PIPELINES = at_most (pipeline_checks connections place) MAX_PIPELINES (λ i entry q. ltb-true i MAX_PIPELINES q.1.1.0) 0 (pipeline_items items) (omega arith) passed in
-    few_read texts gives read (pipeline_items items) MAX_PIPELINES e (omega (arith, few))
+    let passed : AllPass (along (pipeline_checks connections place) (pipeline_items items)) = rest_passed (each (item_checks place) items) (along (pipeline_checks connections place) (pipeline_items items)) p.all in
+    let few : length ([] ++ pipeline_items items) ≤ MAX_PIPELINES = at_most_along (pipeline_checks connections place) MAX_PIPELINES (λ before entry q. ltb-true (length before) MAX_PIPELINES q.1.1.1.0) [] (pipeline_items items) (omega arith) passed in
+    few_read texts gives read (pipeline_items items) MAX_PIPELINES e few
+
+-- the same of all items
+pub passed_pipelines : (connections : List (List ℕ)) (place : List ℕ) (items : List Data) → HasPassed (all_items_checks connections place items) → HasPassed (items_checks connections place items)
+passed_pipelines connections place items p = record { all = front_passed (items_checks connections place items) (stanzas_checks place items) p.all }

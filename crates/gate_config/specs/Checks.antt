@@ -1,13 +1,14 @@
 -- The checks of a document, in reading order.
-use Rattle.std.specs.Prelude.{◌+◌, ℕ, List, [], ◌∷◌, ◌++◌, Bool, true, false, nat_lt, nat_le, length, Option, Some, None, is_none, is_some, codes, if◌then◌else◌}
+use Rattle.std.specs.Prelude.{◌+◌, ℕ, List, [], ◌∷◌, ◌++◌, Bool, true, false, nat_lt, nat_le, length, Option, Some, None, is_none, is_some, not, codes, if◌then◌else◌}
 use Rattle.std.specs.List.{flat_map, list_any, enumerate_from}
 use Rattle.std.specs.Str.{bytes_eq}
 use Rattle.serde_json.specs.Data.{Data, Items}
 use Rattle.serde_json.specs.Find.{get, as_array, as_str}
 use Rattle.gate_record.specs.Json.{items_in, json_of}
-use Rattle.gate_config.specs.declared.fault.ConfigFault.TheVariants.{NotJson, Shape, Limit, Manager, Attribute}
-use Rattle.gate_config.specs.Document.{tenant_entries, name_of, sources_of, names_in, config_items, pipeline_items, manager_named, vote_at, votes_of}
+use Rattle.gate_config.specs.declared.fault.ConfigFault.TheVariants.{NotJson, Shape, Limit, Manager, Attribute, Repeated}
+use Rattle.gate_config.specs.Document.{tenant_entries, tenant_of, tenant_name, name_of, name_in, group, sources_of, names_in, config_items, pipeline_items, pipeline_names, project_items, is_stanza, job_list, manager_named, vote_at, votes_of}
 use Rattle.gate_config.specs.Faults.{Check, Asks, Builds}
+use Rattle.gate_config.specs.Names.{with_name, with_names}
 use Rattle.gate_config.specs.Parts.{is_object, is_list, is_text, is_there, is_fine, is_flag, items_of, keys_of, optional, optional_in, text_of_member}
 use Rattle.gate_config.specs.Places.{below, nth}
 use Rattle.gate_config.specs.declared.limits.TheConstants.{MAX_TENANTS, MAX_CONNECTIONS, MAX_PIPELINES, MAX_RULES, MAX_ENTRIES}
@@ -16,11 +17,30 @@ use Rattle.gate_config.specs.declared.limits.TheConstants.{MAX_TENANTS, MAX_CONN
 abbrev pub each : {A : Type 0} → (ℕ → A → List Check) → List A → List Check
 each checks values = flat_map (λ entry. checks entry.0 entry.1) (enumerate_from 0 values)
 
+-- the checks of each of the values, by those that stand before it
+abbrev pub along_from : {A : Type 0} → (List A → A → List Check) → List A → List A → List Check
+along_from checks before [] = []
+along_from checks before (value ∷ values) = checks before value ++ along_from checks (before ++ value ∷ []) values
+
+abbrev pub along : {A : Type 0} → (List A → A → List Check) → List A → List Check
+along checks values = along_from checks [] values
+
 -- ---- tenants
 
--- an entry of a project list: a text
+abbrev pub is_nameless : Data → Bool
+is_nameless value = is_none (name_in value)
+
+abbrev pub is_group : Option Items → Data → Bool
+is_group (Some items) entry = not (list_any is_nameless (items_in items))
+is_group None entry = not (is_nameless entry)
+
+-- An entry of a project list: a text, an object with a list `projects` of texts and objects of one key, or an object of
+-- one key.
+abbrev pub is_entry : Data → Bool
+is_entry entry = is_group (group entry) entry
+
 abbrev pub project_checks : List ℕ → ℕ → Data → List Check
-project_checks place position project = Asks (is_text project) (Shape (nth place position)) ∷ []
+project_checks place position entry = Asks (is_entry entry) (Shape (nth place position)) ∷ []
 
 -- a project list of what stands at a connection
 abbrev pub list_checks : List ℕ → Option Data → List ℕ → List Check
@@ -34,29 +54,44 @@ listing_checks here source =
     Asks (is_fine is_object source) (Shape here)
     ∷ (list_checks here source (codes "config-projects") ++ list_checks here source (codes "untrusted-projects"))
 
--- A connection among the sources, by its key. Its position counts the connections of this tenant alone, which are all of
--- them while there is at most one tenant.
-abbrev pub source_checks : List ℕ → Option Data → ℕ → List ℕ → List Check
-source_checks place sources position key =
-    Asks (nat_lt position MAX_CONNECTIONS) (Limit (below place key)) ∷ listing_checks (below place key) (optional_in key sources)
+-- A connection among the sources, by its key: with those that earlier tenants list and those before it, there may be so
+-- many.
+abbrev pub source_checks : List (List ℕ) → List ℕ → Option Data → List (List ℕ) → List ℕ → List Check
+source_checks known place sources before key =
+    Asks (nat_le (length (with_name key (with_names known before))) MAX_CONNECTIONS) (Limit (below place key))
+    ∷ listing_checks (below place key) (optional_in key sources)
 
 -- the connections that a tenant lists, in byte order
-abbrev pub sources_checks : List ℕ → Data → List Check
-sources_checks here tenant =
+abbrev pub sources_checks : List (List ℕ) → List ℕ → Data → List Check
+sources_checks known here tenant =
     Asks (is_fine is_object (optional (codes "source") tenant)) (Shape (below here (codes "source")))
-    ∷ each (source_checks (below here (codes "source")) (optional (codes "source") tenant)) (sources_of tenant)
+    ∷ along (source_checks known (below here (codes "source")) (optional (codes "source") tenant)) (sources_of tenant)
 
--- a tenant at this place: an object with a name, and perhaps with sources
-abbrev pub tenant_checks_at : List ℕ → Data → List Check
-tenant_checks_at here tenant =
-    Asks (is_object tenant) (Shape here)
-    ∷ Asks (is_none (optional (codes "tenant") tenant)) (Shape here)
-    ∷ Asks (is_there is_text (get (codes "name") tenant)) (Shape (below here (codes "name")))
-    ∷ sources_checks here tenant
+-- an earlier tenant has the name
+abbrev pub is_taken : List (ℕ × Data) → List ℕ → Bool
+is_taken before name = list_any (λ (entry : ℕ × Data). bytes_eq (tenant_name entry.1) name) before
 
--- an entry of `tenants`, which has this position
-abbrev pub tenant_checks : ℕ × Data → List Check
-tenant_checks entry = tenant_checks_at (nth (codes "tenants") entry.0) entry.1
+-- a tenant at this place: it has a name of its own, and perhaps sources
+abbrev pub named_checks : List (ℕ × Data) → List ℕ → Data → List Check
+named_checks before here tenant =
+    Asks (is_there is_text (get (codes "name") tenant)) (Shape (below here (codes "name")))
+    ∷ Asks (not (is_taken before (name_of tenant))) (Repeated (below here (codes "name")))
+    ∷ sources_checks (names_in before) here tenant
+
+-- the place of the tenant of an entry
+abbrev pub tenant_place : List ℕ → Data → List ℕ
+tenant_place here entry = if is_some (optional (codes "tenant") entry) then below here (codes "tenant") else here
+
+-- an entry at this place: an object, of which `tenant` is an object if it is there
+abbrev pub tenant_checks_at : List (ℕ × Data) → List ℕ → Data → List Check
+tenant_checks_at before here entry =
+    Asks (is_object entry) (Shape here)
+    ∷ Asks (is_fine is_object (optional (codes "tenant") entry)) (Shape here)
+    ∷ named_checks before (tenant_place here entry) (tenant_of entry)
+
+-- an entry of `tenants`, behind those before it
+abbrev pub tenant_checks : List (ℕ × Data) → ℕ × Data → List Check
+tenant_checks before entry = tenant_checks_at before (nth (codes "tenants") entry.0) entry.1
 
 -- ---- rules
 
@@ -141,12 +176,23 @@ rule_checks_at here rule =
 abbrev pub rule_checks : List ℕ → ℕ → Data → List Check
 rule_checks place position rule = rule_checks_at (nth place position) rule
 
+-- a list of rules, of which there may be so many
+abbrev pub rule_list_checks : List ℕ → List Data → List Check
+rule_list_checks here rules = Asks (nat_le (length rules) MAX_RULES) (Limit here) ∷ each (rule_checks here) rules
+
+-- a list of rules or one rule
+abbrev pub rules_value_checks : List ℕ → Option Items → Data → List Check
+rules_value_checks here (Some items) value = rule_list_checks here (items_in items)
+rules_value_checks here None value = rule_checks_at here value
+
+-- rules, if they are there
+abbrev pub rules_checks : List ℕ → Option Data → List Check
+rules_checks here None = []
+rules_checks here (Some value) = rules_value_checks here (as_array value) value
+
 -- the rules of a trigger for a connection. What stands at other keys isn't looked into.
 abbrev pub connection_checks : List ℕ → Option Data → List ℕ → List Check
-connection_checks place trigger connection =
-    Asks (is_fine is_list (optional_in connection trigger)) (Shape (below place connection))
-    ∷ Asks (nat_le (length (items_of (optional_in connection trigger))) MAX_RULES) (Limit (below place connection))
-    ∷ each (rule_checks (below place connection)) (items_of (optional_in connection trigger))
+connection_checks place trigger connection = rules_checks (below place connection) (optional_in connection trigger)
 
 -- ---- pipelines
 
@@ -162,17 +208,22 @@ trigger_checks connections here pipeline =
     Asks (is_fine is_object (optional (codes "trigger") pipeline)) (Shape (below here (codes "trigger")))
     ∷ flat_map (connection_checks (below here (codes "trigger")) (optional (codes "trigger") pipeline)) connections
 
--- the pipeline of this rank, in the item at this place
-abbrev pub pipeline_checks_at : List (List ℕ) → List ℕ → List ℕ → ℕ → Data → List Check
-pipeline_checks_at connections item here rank pipeline =
+-- an earlier pipeline has the name
+abbrev pub is_named : List (ℕ × Data) → List ℕ → Bool
+is_named before name = list_any (λ (entry : ℕ × Data). bytes_eq (name_of entry.1) name) before
+
+-- a pipeline in the item at this place, behind those before it
+abbrev pub pipeline_checks_at : List (List ℕ) → List ℕ → List ℕ → List (ℕ × Data) → Data → List Check
+pipeline_checks_at connections item here before pipeline =
     Asks (is_object pipeline) (Shape here)
     ∷ Asks (is_there is_text (get (codes "name") pipeline)) (Shape (below here (codes "name")))
-    ∷ Asks (nat_lt rank MAX_PIPELINES) (Limit item)
+    ∷ Asks (not (is_named before (name_of pipeline))) (Repeated (below here (codes "name")))
+    ∷ Asks (nat_lt (length before) MAX_PIPELINES) (Limit item)
     ∷ (manager_checks here pipeline ++ trigger_checks connections here pipeline)
 
-abbrev pub pipeline_checks : List (List ℕ) → List ℕ → ℕ → ℕ × Data → List Check
-pipeline_checks connections place rank entry =
-    pipeline_checks_at connections (nth place entry.0) (below (nth place entry.0) (codes "pipeline")) rank entry.1
+abbrev pub pipeline_checks : List (List ℕ) → List ℕ → List (ℕ × Data) → ℕ × Data → List Check
+pipeline_checks connections place before entry =
+    pipeline_checks_at connections (nth place entry.0) (below (nth place entry.0) (codes "pipeline")) before entry.1
 
 -- an item of a tenant's list in `config`
 abbrev pub item_checks : List ℕ → ℕ → Data → List Check
@@ -181,13 +232,47 @@ item_checks place position item = Asks (is_object item) (Shape (nth place positi
 -- the items of a tenant's list in `config`: each is an object, and then the pipelines among them
 abbrev pub items_checks : List (List ℕ) → List ℕ → List Data → List Check
 items_checks connections place items =
-    each (item_checks place) items ++ each (pipeline_checks connections place) (pipeline_items items)
+    each (item_checks place) items ++ along (pipeline_checks connections place) (pipeline_items items)
+
+-- ---- projects' jobs
+
+-- an entry of a list of jobs: a name
+abbrev pub job_checks : List ℕ → ℕ → Data → List Check
+job_checks place position job = Asks (is_some (name_in job)) (Shape (nth place position)) ∷ []
+
+abbrev pub jobs_checks : List ℕ → Option Data → List Check
+jobs_checks place jobs = Asks (is_fine is_list jobs) (Shape place) ∷ each (job_checks place) (items_of jobs)
+
+-- what a stanza has for the pipeline of this name: an object with a list of jobs, both optional
+abbrev pub part_checks : List ℕ → Data → List ℕ → List Check
+part_checks here stanza pipeline =
+    Asks (is_fine is_object (optional pipeline stanza)) (Shape (below here pipeline))
+    ∷ jobs_checks (below (below here pipeline) (codes "jobs")) (job_list pipeline stanza)
+
+abbrev pub parts_checks : List (List ℕ) → List ℕ → Data → List Check
+parts_checks pipelines here stanza = if is_stanza stanza then flat_map (part_checks here stanza) pipelines else []
+
+-- A project item at this place, for pipelines of these names: an object. What it has for them is looked into where it is
+-- a stanza of a project.
+abbrev pub stanza_checks_at : List (List ℕ) → List ℕ → Data → List Check
+stanza_checks_at pipelines here stanza = Asks (is_object stanza) (Shape here) ∷ parts_checks pipelines here stanza
+
+abbrev pub stanza_checks : List (List ℕ) → List ℕ → ℕ × Data → List Check
+stanza_checks pipelines place entry = stanza_checks_at pipelines (below (nth place entry.0) (codes "project")) entry.1
+
+-- the project items among the items of a tenant's list in `config`
+abbrev pub stanzas_checks : List ℕ → List Data → List Check
+stanzas_checks place items = flat_map (stanza_checks (pipeline_names items) place) (project_items items)
+
+-- the items of a tenant's list in `config`: all pipelines are read before the project items
+abbrev pub all_items_checks : List (List ℕ) → List ℕ → List Data → List Check
+all_items_checks connections place items = items_checks connections place items ++ stanzas_checks place items
 
 -- a tenant's list in `config`
 abbrev pub config_checks : Option Data → List (List ℕ) → ℕ × Data → List Check
 config_checks config connections entry =
-    Asks (is_fine is_list (optional_in (name_of entry.1) config)) (Shape (below (codes "config") (name_of entry.1)))
-    ∷ items_checks connections (below (codes "config") (name_of entry.1)) (config_items config (name_of entry.1))
+    Asks (is_fine is_list (optional_in (tenant_name entry.1) config)) (Shape (below (codes "config") (tenant_name entry.1)))
+    ∷ all_items_checks connections (below (codes "config") (tenant_name entry.1)) (config_items config (tenant_name entry.1))
 
 -- ---- the document
 
@@ -195,7 +280,7 @@ config_checks config connections entry =
 abbrev pub entries_checks : Option Data → List (ℕ × Data) → List Check
 entries_checks config entries =
     Asks (nat_le (length entries) MAX_TENANTS) (Limit (codes "tenants"))
-    ∷ (flat_map tenant_checks entries ++ flat_map (config_checks config (names_in entries)) entries)
+    ∷ (along tenant_checks entries ++ flat_map (config_checks config (names_in entries)) entries)
 
 abbrev pub document_checks : Data → List Check
 document_checks document =

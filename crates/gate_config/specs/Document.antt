@@ -1,5 +1,5 @@
 -- What a document says, once it was checked.
-use Rattle.std.specs.Prelude.{ℕ, ℤ, List, [], ◌++◌, Bool, true, ◌&&◌, Option, Some, None, is_none, unwrap_or, option_map, option_and_then, option_to_list, map, codes, if◌then◌else◌}
+use Rattle.std.specs.Prelude.{ℕ, ℤ, List, [], ◌∷◌, Bool, true, false, ◌&&◌, nat_eq, Option, Some, None, is_none, is_some, slice_get, unwrap_or, option_map, option_and_then, option_to_list, map, codes, if◌then◌else◌}
 use Rattle.std.specs.List.{filter_map, flat_map, enumerate_from}
 use Rattle.std.specs.Str.{bytes_eq}
 use Rattle.serde_json.specs.Data.{Data, Items}
@@ -9,11 +9,24 @@ use Rattle.gate_record.specs.Json.{items_in}
 use Rattle.gate_record.specs.Numbers.{number_of}
 use Rattle.gate_record.specs.declared.ids.ManagerKind.{ManagerKind}
 use Rattle.gate_record.specs.declared.ids.ManagerKind.TheVariants.{Independent, Dependent}
-use Rattle.gate_config.specs.Parts.{is_object, items_of, keys_of, optional, optional_in, text_of_member, texts_in}
+use Rattle.gate_config.specs.Jobs.{firsts}
+use Rattle.gate_config.specs.Names.{with_names}
+use Rattle.gate_config.specs.Parts.{is_object, is_text, items_of, keys_of, optional, optional_in, text_of_member, texts_in}
 
 -- what is picked of the values, each with the position of the value that it was picked of
 abbrev pub picked : (Data → Option Data) → List Data → List (ℕ × Data)
 picked pick values = filter_map (λ (entry : ℕ × Data). option_map (λ found. (entry.0, found)) (pick entry.1)) (enumerate_from 0 values)
+
+-- ---- names
+
+abbrev pub only : List (List ℕ) → Option (List ℕ)
+only [] = None
+only (key ∷ []) = Some key
+only (key ∷ other ∷ keys) = None
+
+-- the name that a value gives: a text, or the key of an object that has no other
+abbrev pub name_in : Data → Option (List ℕ)
+name_in value = if is_text value then as_str value else only (keys_of (Some value))
 
 -- ---- tenants
 
@@ -28,25 +41,50 @@ tenant_at entry = if is_ignored entry then None else Some entry
 abbrev pub tenant_entries : Data → List (ℕ × Data)
 tenant_entries document = picked tenant_at (items_of (get (codes "tenants") document))
 
+-- the tenant of an entry: what stands at `tenant`, or else the entry itself
+abbrev pub tenant_of : Data → Data
+tenant_of entry = unwrap_or (optional (codes "tenant") entry) entry
+
 abbrev pub name_of : Data → List ℕ
 name_of value = text_of_member (codes "name") value
+
+abbrev pub tenant_name : Data → List ℕ
+tenant_name entry = name_of (tenant_of entry)
 
 -- the names of the connections that a tenant lists
 abbrev pub sources_of : Data → List (List ℕ)
 sources_of tenant = keys_of (optional (codes "source") tenant)
 
--- The names of the connections, by number. This holds while there is at most one tenant: with several, names that two
--- of them list have to be numbered once, in byte order of all.
+-- the names of the connections that entries list, each once and in byte order
 abbrev pub names_in : List (ℕ × Data) → List (List ℕ)
-names_in entries = flat_map (λ (entry : ℕ × Data). sources_of entry.1) entries
+names_in entries = with_names [] (flat_map (λ (entry : ℕ × Data). sources_of (tenant_of entry.1)) entries)
 
+-- the names of the connections, by number
 abbrev pub connection_names : Data → List (List ℕ)
 connection_names document = names_in (tenant_entries document)
 
--- the projects that are listed under a connection
+-- ---- projects
+
+-- the list `projects` of an entry of a project list
+abbrev pub group : Data → Option Items
+group entry = option_and_then as_array (optional (codes "projects") entry)
+
+abbrev pub names_of_group : Option Items → Data → List (List ℕ)
+names_of_group (Some items) entry = filter_map name_in (items_in items)
+names_of_group None entry = option_to_list (name_in entry)
+
+-- the projects of an entry: those of its list `projects`, or the one that it names
+abbrev pub entry_projects : Data → List (List ℕ)
+entry_projects entry = names_of_group (group entry) entry
+
+-- the projects of a project list
+abbrev pub listed_at : List ℕ → Data → List (List ℕ)
+listed_at key source = flat_map entry_projects (items_of (optional key source))
+
+-- the projects that are listed under a connection, each once and in byte order
 abbrev pub projects_in : Data → List (List ℕ)
 projects_in source =
-    texts_in (items_of (optional (codes "config-projects") source)) ++ texts_in (items_of (optional (codes "untrusted-projects") source))
+    with_names (with_names [] (listed_at (codes "config-projects") source)) (listed_at (codes "untrusted-projects") source)
 
 -- the projects that a tenant lists under the connection of this name, if it lists the connection
 abbrev pub projects_under : Data → List ℕ → Option (List (List ℕ))
@@ -122,9 +160,18 @@ rule_texts rule = record {
   ignore_deletes = flag (optional (codes "ignore-deletes") rule);
 }
 
+abbrev pub rules_in : Option Items → Data → List RuleTexts
+rules_in (Some items) value = map rule_texts (items_in items)
+rules_in None value = rule_texts value ∷ []
+
+-- the rules of a list, or the one rule
+abbrev pub rules_at : Option Data → List RuleTexts
+rules_at None = []
+rules_at (Some value) = rules_in (as_array value) value
+
 -- the rules of a trigger for the connection of this name
 abbrev pub rules_under : Option Data → List ℕ → List RuleTexts
-rules_under trigger connection = map rule_texts (items_of (optional_in connection trigger))
+rules_under trigger connection = rules_at (optional_in connection trigger)
 
 -- a pipeline as the document has it, with its rules by connection number
 pub record PipelineTexts : Type 0 where
@@ -139,19 +186,66 @@ pipeline_texts connections entry = record {
   rules = map (rules_under (optional (codes "trigger") entry.1)) connections;
 }
 
--- a tenant as the document has it, with its sources by connection number
+-- ---- projects' jobs
+
+-- the project items among items, with the positions of these
+abbrev pub project_items : List Data → List (ℕ × Data)
+project_items items = picked (optional (codes "project")) items
+
+-- a name that begins with `^` is a regular expression, and names no project
+abbrev pub plain_name : List ℕ → Option (List ℕ)
+plain_name [] = Some []
+plain_name (first ∷ rest) = if nat_eq first 94 then None else Some (first ∷ rest)
+
+-- the project that a stanza is of; one without such a name is ignored
+abbrev pub project_of : Data → Option (List ℕ)
+project_of stanza = option_and_then plain_name (option_and_then as_str (get (codes "name") stanza))
+
+abbrev pub is_stanza : Data → Bool
+is_stanza stanza = is_some (project_of stanza)
+
+-- the stanza is of the project of this name
+abbrev pub is_of : List ℕ → Option (List ℕ) → Bool
+is_of project None = false
+is_of project (Some name) = bytes_eq name project
+
+-- the list of jobs that a stanza has for the pipeline of this name
+abbrev pub job_list : List ℕ → Data → Option Data
+job_list pipeline stanza = optional_in (codes "jobs") (optional pipeline stanza)
+
+-- the jobs that an item names for a project in a pipeline, by their names
+abbrev pub jobs_for : List ℕ → List ℕ → Data → List (List ℕ)
+jobs_for pipeline project stanza =
+    if is_of project (project_of stanza) then filter_map name_in (items_of (job_list pipeline stanza)) else []
+
+-- the jobs of a project in a pipeline: those of all its stanzas in order, each once
+abbrev pub jobs_in : List (ℕ × Data) → List ℕ → List ℕ → List (List ℕ)
+jobs_in stanzas pipeline project = firsts (flat_map (λ (entry : ℕ × Data). jobs_for pipeline project entry.1) stanzas)
+
+-- the names of the pipelines among items, in order
+abbrev pub pipeline_names : List Data → List (List ℕ)
+pipeline_names items = map (λ (entry : ℕ × Data). name_of entry.1) (pipeline_items items)
+
+-- a tenant as the document has it, with its sources by connection number and the jobs of a project by pipeline number
 pub record TenantTexts : Type 0 where
   pub name : List ℕ
   pub sources : List (Option (List (List ℕ)))
   pub pipelines : List PipelineTexts
+  pub jobs : List (List ℕ → List (List ℕ))
 
 abbrev pub tenant_texts : Option Data → List (List ℕ) → ℕ × Data → TenantTexts
 tenant_texts config connections entry = record {
-  name = name_of entry.1;
-  sources = map (projects_under entry.1) connections;
-  pipelines = map (pipeline_texts connections) (pipeline_items (config_items config (name_of entry.1)));
+  name = tenant_name entry.1;
+  sources = map (projects_under (tenant_of entry.1)) connections;
+  pipelines = map (pipeline_texts connections) (pipeline_items (config_items config (tenant_name entry.1)));
+  jobs = map (jobs_in (project_items (config_items config (tenant_name entry.1)))) (pipeline_names (config_items config (tenant_name entry.1)));
 }
 
 -- the tenants, by number
 abbrev pub tenants_in : Data → List TenantTexts
 tenants_in document = map (tenant_texts (get (codes "config") document) (connection_names document)) (tenant_entries document)
+
+-- the jobs of a project in a pipeline, by numbers; none out of range
+abbrev pub jobs_among : List TenantTexts → ℕ → ℕ → List ℕ → List (List ℕ)
+jobs_among tenants t p project =
+    unwrap_or (option_map (λ (jobs : List ℕ → List (List ℕ)). jobs project) (option_and_then (λ (tenant : TenantTexts). slice_get tenant.jobs p) (slice_get tenants t))) []

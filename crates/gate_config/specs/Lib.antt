@@ -1,9 +1,13 @@
 pub mod Attributes
+pub mod CheckText
 pub mod Checks
 pub mod Document
 pub mod Entry
 pub mod Faults
+pub mod Jobs
+pub mod Keyed
 pub mod Lookups
+pub mod Names
 pub mod Parts
 pub mod Places
 pub mod Selection

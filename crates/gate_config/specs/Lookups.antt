@@ -1,11 +1,13 @@
 -- The look-ups of a configuration, by the numbers of connections, tenants and pipelines.
-use Rattle.std.specs.Prelude.{ℕ, List, [], Bool, Option, None, option_map, option_and_then, unwrap_or, is_some, slice_get}
+use Rattle.std.specs.Prelude.{ℕ, List, [], Bool, Option, None, option_map, option_and_then, unwrap_or, is_some, map, slice_get}
+use Rattle.std.specs.BTreeMap.{get_by_text}
 use Rattle.std.specs.List.{list_any}
 use Rattle.std.specs.Str.{bytes_eq}
 use Rattle.gate_rule.specs.declared.rule.Rule.{Rule}
 use Rattle.gate_config.specs.declared.config.Config.{Config}
 use Rattle.gate_config.specs.declared.config.TenantSpec.{TenantSpec}
 use Rattle.gate_config.specs.declared.config.PipelineSpec.{PipelineSpec}
+use Rattle.gate_config.specs.declared.jobs.Jobs.{Jobs}
 
 -- the names of the connections, by number
 abbrev pub connections_of : Config → List (List ℕ)
@@ -16,6 +18,10 @@ tenants_of config = config.tenants
 
 abbrev pub pipelines_of : Config → ℕ → List PipelineSpec
 pipelines_of config t = unwrap_or (option_map (λ (tenant : TenantSpec). tenant.pipelines) (slice_get config.tenants t)) []
+
+-- the names of pipelines
+abbrev pub names_of : List PipelineSpec → List (List ℕ)
+names_of pipelines = map (λ (pipeline : PipelineSpec). pipeline.name) pipelines
 
 -- the projects that the tenant lists under the connection, if it lists the connection
 abbrev pub projects_of : Config → ℕ → ℕ → Option (List (List ℕ))
@@ -32,3 +38,12 @@ belongs config t c project = list_any (λ name. bytes_eq name project) (unwrap_o
 -- the rules by which the pipeline selects events of the connection
 abbrev pub rules_of : Config → ℕ → ℕ → ℕ → List Rule
 rules_of config t p c = unwrap_or (option_and_then (λ (pipeline : PipelineSpec). slice_get pipeline.rules c) (slice_get (pipelines_of config t) p)) []
+
+-- the jobs of a project, of those of one pipeline
+abbrev pub jobs_under : Jobs → List ℕ → List (List ℕ)
+jobs_under jobs project = unwrap_or (get_by_text jobs.lists project) []
+
+-- the jobs of a project in the pipeline, by their names
+abbrev pub jobs_of : Config → ℕ → ℕ → List ℕ → List (List ℕ)
+jobs_of config t p project =
+    unwrap_or (option_map (λ (jobs : Jobs). jobs_under jobs project) (option_and_then (λ (tenant : TenantSpec). slice_get tenant.jobs p) (slice_get config.tenants t))) []

@@ -1,11 +1,13 @@
 ghost use Rattle.std.specs.Prelude.{◌≡◌, ◌≤◌, ℕ, length, IsTrue};
 ghost use Rattle.gate_config.specs.declared.limits.TheConstants.{MAX_CONNECTIONS, MAX_PIPELINES, MAX_TENANTS};
 
+use crate::jobs::Jobs;
+use crate::name_set::NameSet;
 use gate_record::{ConnId, ManagerKind, PipelineId, Sequence, TenantId, Text};
 use gate_rule::Rule;
 
 /// A configuration. Connections are numbered in byte order of their names, tenants and pipelines in the order of the
-/// document. A number out of range has no projects, no pipelines and no rules.
+/// document. A number out of range has no projects, no pipelines, no rules and no jobs.
 #[derive(Drop)]
 pub struct Config {
     pub(crate) connections: Sequence<Text>,
@@ -20,9 +22,11 @@ pub struct TenantSpec {
     /// The name, which no other tenant has.
     pub name: Text,
     /// By connection number: the projects that it lists there, or nothing where it doesn't list the connection.
-    pub(crate) sources: Sequence<Option<Sequence<Text>>>,
+    pub(crate) sources: Sequence<Option<NameSet>>,
     /// The pipelines, by number.
     pub pipelines: Sequence<PipelineSpec>,
+    /// By pipeline number: the jobs of projects.
+    pub(crate) jobs: Sequence<Jobs>,
     pub ghost few_pipelines: { length pipelines ≤ MAX_PIPELINES },
 }
 
@@ -38,7 +42,7 @@ pub struct PipelineSpec {
 }
 
 impl Config {
-    ghost use Rattle.gate_config.specs.Lookups.{connections_of, tenants_of, pipelines_of, lists, belongs, rules_of};
+    ghost use Rattle.gate_config.specs.Lookups.{connections_of, tenants_of, pipelines_of, lists, belongs, rules_of, jobs_of};
 
     /// The names of the connections, by number.
     pub fn connections(&self) -> &[Text]
@@ -76,7 +80,7 @@ impl Config {
         ensures { result ≡ belongs self.now tenant.0 conn.0 project.now }
     {
         match self.projects(tenant, conn) {
-            Some(projects) => contains(projects, project),
+            Some(projects) => projects.contains(project),
             None => false,
         }
     }
@@ -94,27 +98,31 @@ impl Config {
         }
     }
 
+    /// The names of the jobs of a project in the pipeline, in the order in which its stanzas name them first.
+    pub fn jobs(&self, tenant: TenantId, pipeline: PipelineId, project: &str) -> &[Text]
+        ensures { result.now ≡ jobs_of self.now tenant.0 pipeline.0 project.now }
+    {
+        match self.tenants.get(tenant.0 as usize) {
+            Some(tenant) => match tenant.jobs.get(pipeline.0 as usize) {
+                Some(jobs) => jobs.of(project),
+                None => &[],
+            },
+            None => &[],
+        }
+    }
+
     ghost use Rattle.gate_config.specs.Lookups.{projects_of};
     ghost use Rattle.std.specs.Prelude.{option_map};
 
-    fn projects(&self, tenant: TenantId, conn: ConnId) -> Option<&[Text]>
+    fn projects(&self, tenant: TenantId, conn: ConnId) -> Option<&NameSet>
         ensures { option_map (λ p. p.now) result ≡ projects_of self.now tenant.0 conn.0 }
     {
         match self.tenants.get(tenant.0 as usize) {
             Some(tenant) => match tenant.sources.get(conn.0 as usize) {
-                Some(Some(projects)) => Some(projects.as_slice()),
+                Some(Some(projects)) => Some(projects),
                 _ => None,
             },
             None => None,
         }
     }
-}
-
-ghost use Rattle.std.specs.List.{list_any};
-ghost use Rattle.std.specs.Str.{bytes_eq};
-
-fn contains(names: &[Text], wanted: &str) -> bool
-    ensures { result ≡ list_any (λ name. bytes_eq name wanted.now) names.now }
-{
-    names.iter().any(|name| name.as_str() == wanted)
 }

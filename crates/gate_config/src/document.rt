@@ -2,7 +2,8 @@ ghost use Rattle.std.specs.Prelude.{◌≡◌, ℕ, IfOk, map};
 ghost use Rattle.serde_json.specs.Data.{Data};
 ghost use Rattle.serde_json.specs.View.{view};
 ghost use Rattle.gate_config.specs.Entry.{entry_view};
-ghost use Rattle.gate_config.specs.Document.{is_ignored, tenant_at, pipeline_items, picked};
+ghost use Rattle.gate_config.specs.Document.{is_ignored, tenant_at, tenant_of, picked};
+ghost use Rattle.gate_config.specs.Parts.{optional};
 
 use crate::parts::member;
 use gate_record::Memory;
@@ -36,13 +37,24 @@ fn is_no_tenant(entry: &Value) -> bool
     entry.is_object() && member(entry, "tenant").is_none() && entry.get("name").is_none()
 }
 
-// The pipelines among the items of a tenant's list in `config`.
-pub(crate) fn pipeline_entries(alloc: Global, items: &[Value]) -> Result<Vec<Entry<'_>>, Memory>
-    ensures { IfOk result (λ entries. map entry_view entries.items ≡ pipeline_items (map view items.now)) }
+// The tenant of an entry: what stands at `tenant`, or else the entry itself.
+pub(crate) fn tenant_of(entry: &Value) -> &Value
+    ensures { view result.now ≡ tenant_of (view entry.now) }
+{
+    member(entry, "tenant").unwrap_or(entry)
+}
+
+// What stands at a key of the items of a tenant's list in `config`.
+pub(crate) fn entries_at<'v>(
+    alloc: Global,
+    items: &'v [Value],
+    key: &str,
+) -> Result<Vec<Entry<'v>>, Memory>
+    ensures { IfOk result (λ entries. map entry_view entries.items ≡ picked (optional key.now) (map view items.now)) }
 {
     let mut entries = Vec::new(alloc);
     for (position, item) in items.iter().enumerate() {
-        if let Some(value) = member(item, "pipeline") {
+        if let Some(value) = member(item, key) {
             entries.push(Entry { position, value })?;
         }
     }

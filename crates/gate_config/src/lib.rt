@@ -1,25 +1,34 @@
-//! A tenant configuration, and what it says: which connections and projects a tenant lists, and which events its
-//! pipelines ask for.
+//! A tenant configuration, and what it says: which connections and projects a tenant lists, which events its pipelines
+//! ask for, and which jobs a project has in them.
 #![tactic(auto)]
 
 mod approvals;
 mod config;
 mod document;
 mod fault;
+mod job_list;
+mod jobs;
 mod limits;
+mod name_set;
+mod names;
 mod parts;
+mod pattern_table;
 mod patterns;
 mod pipelines;
 mod places;
+mod projects;
 mod read;
 mod rules;
 mod sources;
+mod stanzas;
 mod tenants;
 #[cfg(test)]
 mod tests;
+mod text;
 
 pub use config::{Config, PipelineSpec, TenantSpec};
 pub use fault::ConfigFault;
 pub use gate_record::ManagerKind;
 pub use limits::{MAX_CONNECTIONS, MAX_ENTRIES, MAX_PIPELINES, MAX_RULES, MAX_TENANTS};
 pub use read::read_config;
+pub use text::check_text;

@@ -176,3 +176,10 @@ pub(crate) fn required_object<'v>(
         _ => Err(ConfigFault::Shape(member_place(alloc, place, key)?)),
     }
 }
+
+// The text of a member that was checked.
+pub(crate) fn text_at<'v>(value: &'v Value, key: &str) -> &'v str
+    ensures { result.now ≡ text_of_member key.now (view value.now) }
+{
+    value.get(key).and_then(Value::as_str).unwrap_or("")
+}

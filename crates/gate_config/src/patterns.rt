@@ -10,6 +10,7 @@ ghost use Rattle.gate_config.specs.Parts.{texts_in};
 use crate::fault::ConfigFault;
 use crate::limits::MAX_ENTRIES;
 use crate::parts::list;
+use crate::pattern_table::PatternTable;
 use crate::places::item_place;
 use gate_record::{Sequence, Text};
 use gate_rule::{Pattern, PatternFault};
@@ -19,6 +20,7 @@ use std::alloc::Global;
 // The patterns of an attribute, if it is there: a text or a list of texts.
 pub(crate) fn read_patterns(
     alloc: Global,
+    table: &mut PatternTable,
     place: &str,
     value: Option<&Value>,
 ) -> Result<Sequence<Pattern>, ConfigFault>
@@ -28,17 +30,22 @@ pub(crate) fn read_patterns(
     match value {
         None => Ok(Sequence::empty(alloc)),
         Some(value) => match list(value) {
-            Some(items) => read_entries(alloc, place, items),
-            None => read_one(alloc, place, value),
+            Some(items) => read_entries(alloc, table, place, items),
+            None => read_one(alloc, table, place, value),
         },
     }
 }
 
-fn read_one(alloc: Global, place: &str, value: &Value) -> Result<Sequence<Pattern>, ConfigFault>
+fn read_one(
+    alloc: Global,
+    table: &mut PatternTable,
+    place: &str,
+    value: &Value,
+) -> Result<Sequence<Pattern>, ConfigFault>
     ensures { Reads (text_checks place.now (as_str (view value.now)))
         (λ patterns. map text_of patterns ≡ option_to_list (as_str (view value.now))) result }
 {
-    let pattern = read_pattern(alloc, place, value)?;
+    let pattern = read_pattern(alloc, table, place, value)?;
     let mut patterns = Vec::new(alloc);
     patterns.push(pattern)?;
     Ok(Sequence::new(patterns))
@@ -46,6 +53,7 @@ fn read_one(alloc: Global, place: &str, value: &Value) -> Result<Sequence<Patter
 
 fn read_entries(
     alloc: Global,
+    table: &mut PatternTable,
     place: &str,
     items: &[Value],
 ) -> Result<Sequence<Pattern>, ConfigFault>
@@ -54,7 +62,7 @@ fn read_entries(
 {
     let mut patterns = Vec::new(alloc);
     for (position, item) in items.iter().enumerate() {
-        let pattern = read_entry(alloc, place, position, item)?;
+        let pattern = read_entry(alloc, table, place, position, item)?;
         patterns.push(pattern)?;
     }
     Ok(Sequence::new(patterns))
@@ -63,6 +71,7 @@ fn read_entries(
 // An entry of a list of patterns.
 fn read_entry(
     alloc: Global,
+    table: &mut PatternTable,
     place: &str,
     position: usize,
     item: &Value,
@@ -73,23 +82,33 @@ fn read_entry(
         return Err(ConfigFault::Limit(Text::copy(alloc, place)?));
     }
     let here = item_place(alloc, place, position)?;
-    read_pattern(alloc, here.as_str(), item)
+    read_pattern(alloc, table, here.as_str(), item)
 }
 
 // The pattern of a text. `Shape` where the value is another.
-fn read_pattern(alloc: Global, place: &str, value: &Value) -> Result<Pattern, ConfigFault>
+fn read_pattern(
+    alloc: Global,
+    table: &mut PatternTable,
+    place: &str,
+    value: &Value,
+) -> Result<Pattern, ConfigFault>
     ensures { Reads (text_checks place.now (as_str (view value.now))) (λ pattern. Some (text_of pattern) ≡ as_str (view value.now)) result }
 {
     match value.as_str() {
-        Some(text) => build_pattern(alloc, place, text),
+        Some(text) => build_pattern(alloc, table, place, text),
         None => Err(ConfigFault::Shape(Text::copy(alloc, place)?)),
     }
 }
 
-fn build_pattern(alloc: Global, place: &str, text: &str) -> Result<Pattern, ConfigFault>
+fn build_pattern(
+    alloc: Global,
+    table: &mut PatternTable,
+    place: &str,
+    text: &str,
+) -> Result<Pattern, ConfigFault>
     ensures { Reads (Builds text.now place.now ∷ []) (λ pattern. text_of pattern ≡ text.now) result }
 {
-    match Pattern::new(alloc, text) {
+    match table.pattern(alloc, text) {
         Ok(pattern) => Ok(pattern),
         Err(PatternFault::Memory) => Err(ConfigFault::Memory),
         Err(PatternFault::Refused) => Err(ConfigFault::Pattern(Text::copy(alloc, place)?)),

@@ -1,21 +1,29 @@
-ghost use Rattle.std.specs.Prelude.{◌≡◌, Some, map, codes};
-ghost use Rattle.std.specs.List.{flat_map};
+ghost use Rattle.std.specs.Prelude.{◌≡◌, ◌∷◌, [], Some, length, map, nat_lt, not, codes};
+ghost use Rattle.std.specs.List.{flat_map, list_any};
+ghost use Rattle.std.specs.Str.{bytes_eq};
 ghost use Rattle.serde_json.specs.View.{view};
-ghost use Rattle.gate_config.specs.Checks.{each, config_checks, items_checks, item_checks, pipeline_checks, pipeline_checks_at, manager_checks};
-ghost use Rattle.gate_config.specs.Document.{tenant_texts, pipeline_texts, pipeline_items, manager_named};
+ghost use Rattle.gate_config.specs.Checks.{along, each, config_checks, all_items_checks, items_checks, item_checks, is_named, pipeline_checks, pipeline_checks_at, manager_checks};
+ghost use Rattle.gate_config.specs.Document.{name_of, tenant_texts, pipeline_texts, pipeline_items, manager_named, jobs_in, pipeline_names, project_items};
 ghost use Rattle.gate_config.specs.Entry.{entry_view};
-ghost use Rattle.gate_config.specs.Faults.{Reads, Tests};
+ghost use Rattle.gate_config.specs.Faults.{Asks, Reads, Tests};
+ghost use Rattle.gate_config.specs.Lookups.{jobs_under};
 ghost use Rattle.gate_config.specs.Parts.{text_of_member};
+ghost use Rattle.gate_config.specs.Places.{below};
 ghost use Rattle.gate_config.specs.Texts.{texts_of_tenant, texts_of_pipeline};
+ghost use Rattle.gate_config.specs.declared.fault.ConfigFault.TheVariants.{Limit, Repeated};
 
 use crate::config::{PipelineSpec, TenantSpec};
-use crate::document::{Entry, pipeline_entries};
+use crate::document::{Entry, entries_at, tenant_of};
 use crate::fault::ConfigFault;
+use crate::jobs::Jobs;
 use crate::limits::MAX_PIPELINES;
-use crate::parts::{check_object, member, optional_list, required_text};
+use crate::parts::{check_object, member, optional_list, required_text, text_at};
+use crate::pattern_table::PatternTable;
 use crate::places::{item_place, member_place};
 use crate::rules::read_trigger;
 use crate::sources::read_sources;
+use crate::stanzas::read_stanzas;
+use crate::tenants::tenant_name;
 use gate_record::{ManagerKind, Sequence, Text};
 use serde_json::Value;
 use std::alloc::Global;
@@ -23,6 +31,7 @@ use std::alloc::Global;
 // Each tenant with its list in `config`, in order.
 pub(crate) fn read_tenants(
     alloc: Global,
+    table: &mut PatternTable,
     config: &Value,
     connections: &[Text],
     entries: &[Entry<'_>],
@@ -32,7 +41,7 @@ pub(crate) fn read_tenants(
 {
     let mut tenants = Vec::new(alloc);
     for entry in entries {
-        let tenant = read_tenant(alloc, config, connections, entry)?;
+        let tenant = read_tenant(alloc, table, config, connections, entry)?;
         tenants.push(tenant)?;
     }
     Ok(Sequence::new(tenants))
@@ -40,6 +49,7 @@ pub(crate) fn read_tenants(
 
 fn read_tenant(
     alloc: Global,
+    table: &mut PatternTable,
     config: &Value,
     connections: &[Text],
     entry: &Entry<'_>,
@@ -47,27 +57,39 @@ fn read_tenant(
     ensures { Reads (config_checks (Some (view config.now)) connections.now (entry_view entry.now))
         (λ tenant. texts_of_tenant tenant ≡ tenant_texts (Some (view config.now)) connections.now (entry_view entry.now)) result }
 {
-    let name = text_at(entry.value, "name");
+    let name = tenant_name(entry.value);
     let place = member_place(alloc, "config", name)?;
     let items = optional_list(alloc, place.as_str(), member(config, name))?;
-    let pipelines = read_items(alloc, connections, place.as_str(), items)?;
+    let (pipelines, jobs) = read_all_items(alloc, table, connections, place.as_str(), items)?;
     Ok(TenantSpec {
         name: Text::copy(alloc, name)?,
-        sources: read_sources(alloc, entry.value, connections)?,
+        sources: read_sources(alloc, tenant_of(entry.value), connections)?,
         pipelines,
+        jobs,
     })
 }
 
-// The text of a member that was checked.
-fn text_at<'v>(value: &'v Value, key: &str) -> &'v str
-    ensures { result.now ≡ text_of_member key.now (view value.now) }
+// The pipelines of a tenant's list in `config`, and the jobs that its project items name for each of them.
+fn read_all_items(
+    alloc: Global,
+    table: &mut PatternTable,
+    connections: &[Text],
+    place: &str,
+    items: &[Value],
+) -> Result<(Sequence<PipelineSpec>, Sequence<Jobs>), ConfigFault>
+    ensures { Reads (all_items_checks connections.now place.now (map view items.now))
+        (λ read. (map texts_of_pipeline read.0 ≡ map (pipeline_texts connections.now) (pipeline_items (map view items.now)))
+        × (map jobs_under read.1 ≡ map (jobs_in (project_items (map view items.now))) (pipeline_names (map view items.now)))) result }
 {
-    value.get(key).and_then(Value::as_str).unwrap_or("")
+    let pipelines = read_items(alloc, table, connections, place, items)?;
+    let jobs = read_stanzas(alloc, pipelines.as_slice(), place, items)?;
+    Ok((pipelines, jobs))
 }
 
 // The pipelines of a tenant's list in `config`, of which each item is tested first.
 fn read_items(
     alloc: Global,
+    table: &mut PatternTable,
     connections: &[Text],
     place: &str,
     items: &[Value],
@@ -76,8 +98,8 @@ fn read_items(
         (λ pipelines. map texts_of_pipeline pipelines ≡ map (pipeline_texts connections.now) (pipeline_items (map view items.now))) result }
 {
     check_each_item(alloc, place, items)?;
-    let entries = pipeline_entries(alloc, items)?;
-    read_pipelines(alloc, connections, place, entries.as_slice())
+    let entries = entries_at(alloc, items, "pipeline")?;
+    read_pipelines(alloc, table, connections, place, entries.as_slice())
 }
 
 fn check_each_item(alloc: Global, place: &str, items: &[Value]) -> Result<(), ConfigFault>
@@ -101,16 +123,17 @@ fn check_item(alloc: Global, place: &str, position: usize, item: &Value) -> Resu
 
 fn read_pipelines(
     alloc: Global,
+    table: &mut PatternTable,
     connections: &[Text],
     place: &str,
     entries: &[Entry<'_>],
 ) -> Result<Sequence<PipelineSpec>, ConfigFault>
-    ensures { Reads (each (pipeline_checks connections.now place.now) (map entry_view entries.now))
+    ensures { Reads (along (pipeline_checks connections.now place.now) (map entry_view entries.now))
         (λ pipelines. map texts_of_pipeline pipelines ≡ map (pipeline_texts connections.now) (map entry_view entries.now)) result }
 {
     let mut pipelines = Vec::new(alloc);
     for (rank, entry) in entries.iter().enumerate() {
-        let pipeline = read_entry(alloc, connections, place, rank, entry)?;
+        let pipeline = read_entry(alloc, table, connections, place, &entries[..rank], entry)?;
         pipelines.push(pipeline)?;
     }
     Ok(Sequence::new(pipelines))
@@ -118,50 +141,80 @@ fn read_pipelines(
 
 fn read_entry(
     alloc: Global,
+    table: &mut PatternTable,
     connections: &[Text],
     place: &str,
-    rank: usize,
+    before: &[Entry<'_>],
     entry: &Entry<'_>,
 ) -> Result<PipelineSpec, ConfigFault>
-    ensures { Reads (pipeline_checks connections.now place.now rank (entry_view entry.now))
+    ensures { Reads (pipeline_checks connections.now place.now (map entry_view before.now) (entry_view entry.now))
         (λ pipeline. texts_of_pipeline pipeline ≡ pipeline_texts connections.now (entry_view entry.now)) result }
 {
     let item = item_place(alloc, place, entry.position)?;
     let here = member_place(alloc, item.as_str(), "pipeline")?;
     read_pipeline(
         alloc,
+        table,
         connections,
         item.as_str(),
         here.as_str(),
-        rank,
+        before,
         entry.value,
     )
 }
 
-// The pipeline of this rank, which stands in an item.
+// A pipeline in an item, behind those before it.
 fn read_pipeline(
     alloc: Global,
+    table: &mut PatternTable,
     connections: &[Text],
     item: &str,
     here: &str,
-    rank: usize,
+    before: &[Entry<'_>],
     pipeline: &Value,
 ) -> Result<PipelineSpec, ConfigFault>
-    ensures { Reads (pipeline_checks_at connections.now item.now here.now rank (view pipeline.now))
-        (λ read. texts_of_pipeline read ≡ pipeline_texts connections.now (rank, view pipeline.now)) result }
+    ensures { Reads (pipeline_checks_at connections.now item.now here.now (map entry_view before.now) (view pipeline.now))
+        (λ read. texts_of_pipeline read ≡ pipeline_texts connections.now (0, view pipeline.now)) result }
 {
     check_object(alloc, here, pipeline)?;
     let name = required_text(alloc, here, pipeline, "name")?;
-    if rank >= MAX_PIPELINES {
-        return Err(ConfigFault::Limit(Text::copy(alloc, item)?));
-    }
+    check_new(alloc, before, here, name)?;
+    check_room(alloc, before, item)?;
     let manager = read_manager(alloc, here, pipeline)?;
-    let rules = read_trigger(alloc, connections, here, pipeline)?;
+    let rules = read_trigger(alloc, table, connections, here, pipeline)?;
     Ok(PipelineSpec {
         name: Text::copy(alloc, name)?,
         manager,
         rules,
     })
+}
+
+// `Repeated` at a name that an earlier pipeline has.
+fn check_new(alloc: Global, before: &[Entry<'_>], here: &str, name: &str) -> Result<(), ConfigFault>
+    ensures { Tests (Asks (not (is_named (map entry_view before.now) name.now)) (Repeated (below here.now (codes "name"))) ∷ []) result }
+{
+    if is_named(before, name) {
+        return Err(ConfigFault::Repeated(member_place(alloc, here, "name")?));
+    }
+    Ok(())
+}
+
+fn is_named(before: &[Entry<'_>], name: &str) -> bool
+    ensures { result ≡ list_any (λ entry. bytes_eq (name_of (view entry.value.now)) name.now) before.now }
+{
+    before
+        .iter()
+        .any(|entry| text_at(entry.value, "name") == name)
+}
+
+// `Limit` at the item of a pipeline that is one too many.
+fn check_room(alloc: Global, before: &[Entry<'_>], item: &str) -> Result<(), ConfigFault>
+    ensures { Tests (Asks (nat_lt (length (map entry_view before.now)) MAX_PIPELINES) (Limit item.now) ∷ []) result }
+{
+    if before.len() >= MAX_PIPELINES {
+        return Err(ConfigFault::Limit(Text::copy(alloc, item)?));
+    }
+    Ok(())
 }
 
 // The manager of a pipeline.

@@ -1,20 +1,21 @@
-ghost use Rattle.std.specs.Prelude.{◌≡◌, Some, IfOk, IfErr, OnOk, map};
+ghost use Rattle.std.specs.Prelude.{◌≡◌, ◌∷◌, [], Some, IfOk, IfErr, OnOk, length, map, nat_le, codes};
 ghost use Rattle.serde_json.specs.Data.{Data};
 ghost use Rattle.serde_json.specs.View.{view};
 ghost use Rattle.gate_record.specs.Json.{json_of};
 ghost use Rattle.gate_config.specs.Checks.{checks_of, document_checks, entries_checks};
-ghost use Rattle.gate_config.specs.Document.{names_in, tenant_texts};
+ghost use Rattle.gate_config.specs.Document.{connection_names, names_in, tenant_texts, tenants_in};
 ghost use Rattle.gate_config.specs.Entry.{entry_view};
-ghost use Rattle.gate_config.specs.Faults.{AllPass, IsFaultOf, Reads};
+ghost use Rattle.gate_config.specs.Faults.{AllPass, Asks, IsFaultOf, Reads, Tests};
 ghost use Rattle.gate_config.specs.Texts.{IsReadFrom, texts_of_tenant};
+ghost use Rattle.gate_config.specs.declared.fault.ConfigFault.TheVariants.{Limit};
 
 use crate::config::Config;
 use crate::document::{Entry, tenant_entries};
 use crate::fault::ConfigFault;
 use crate::limits::MAX_TENANTS;
 use crate::parts::{check_object, required_list, required_object};
+use crate::pattern_table::PatternTable;
 use crate::pipelines::read_tenants;
-use crate::sources::connection_names;
 use crate::tenants::check_tenants;
 use gate_record::Text;
 use serde_json::Value;
@@ -26,7 +27,7 @@ use std::alloc::Global;
 /// Definition", in this project's profile).
 ///
 /// A fault is the first in reading order: the document, each tenant with its connections in byte order, then each
-/// tenant's items, and among these the pipelines with their rules. `Memory` comes where memory was refused, at
+/// tenant's items: first the pipelines with their rules, then the projects with their jobs. `Memory` comes where memory was refused, at
 /// whichever point.
 pub fn read_config(alloc: Global, bytes: &[u8]) -> Result<Config, ConfigFault>
     ensures read { IfOk result (λ config. (d : Data) × (json_of bytes.now ≡ Some d) × IsReadFrom d config) }
@@ -43,7 +44,9 @@ pub fn read_config(alloc: Global, bytes: &[u8]) -> Result<Config, ConfigFault>
 }
 
 fn read_document(alloc: Global, document: &Value) -> Result<Config, ConfigFault>
-    ensures { Reads (document_checks (view document.now)) (IsReadFrom (view document.now)) result }
+    ensures { Reads (document_checks (view document.now))
+        (λ read. (read.connections ≡ connection_names (view document.now))
+        × (map texts_of_tenant read.tenants ≡ tenants_in (view document.now))) result }
 {
     check_object(alloc, "", document)?;
     let items = required_list(alloc, "", document, "tenants")?;
@@ -58,14 +61,23 @@ fn read_entries(alloc: Global, config: &Value, entries: &[Entry<'_>]) -> Result<
         (λ read. (read.connections ≡ names_in (map entry_view entries.now))
         × (map texts_of_tenant read.tenants ≡ map (tenant_texts (Some (view config.now)) (names_in (map entry_view entries.now))) (map entry_view entries.now))) result }
 {
-    if entries.len() > MAX_TENANTS {
-        return Err(ConfigFault::Limit(Text::copy(alloc, "tenants")?));
-    }
-    check_tenants(alloc, entries)?;
-    let connections = connection_names(alloc, entries)?;
-    let tenants = read_tenants(alloc, config, connections.as_slice(), entries)?;
+    check_count(alloc, entries)?;
+    let names = check_tenants(alloc, entries)?;
+    let connections = names.to_texts(alloc)?;
+    let mut table = PatternTable::new(alloc);
+    let tenants = read_tenants(alloc, &mut table, config, connections.as_slice(), entries)?;
     Ok(Config {
         connections,
         tenants,
     })
+}
+
+// `Limit` where there are too many tenants.
+fn check_count(alloc: Global, entries: &[Entry<'_>]) -> Result<(), ConfigFault>
+    ensures { Tests (Asks (nat_le (length (map entry_view entries.now)) MAX_TENANTS) (Limit (codes "tenants")) ∷ []) result }
+{
+    if entries.len() > MAX_TENANTS {
+        return Err(ConfigFault::Limit(Text::copy(alloc, "tenants")?));
+    }
+    Ok(())
 }

@@ -1,9 +1,9 @@
 ghost use Rattle.std.specs.Prelude.{◌≡◌, ◌∷◌, [], Some, map, option_map, codes};
 ghost use Rattle.std.specs.List.{flat_map};
 ghost use Rattle.serde_json.specs.View.{view};
-ghost use Rattle.gate_config.specs.Checks.{each, trigger_checks, connection_checks, rule_checks, rule_checks_at, attribute_checks, flag_checks, is_asking};
+ghost use Rattle.gate_config.specs.Checks.{each, trigger_checks, connection_checks, rule_checks, rule_checks_at, rule_list_checks, rules_checks, attribute_checks, flag_checks, is_asking};
 ghost use Rattle.gate_config.specs.Attributes.{unlisted, with_attribute};
-ghost use Rattle.gate_config.specs.Document.{flag, rule_texts, rules_under};
+ghost use Rattle.gate_config.specs.Document.{flag, rule_texts, rules_at, rules_under};
 ghost use Rattle.gate_config.specs.Entry.{key_view};
 ghost use Rattle.gate_config.specs.Faults.{Asks, Reads, Tests};
 ghost use Rattle.gate_config.specs.Parts.{is_there, keys_of, optional};
@@ -14,9 +14,8 @@ ghost use Rattle.gate_config.specs.declared.fault.ConfigFault.TheVariants.{Shape
 use crate::approvals::read_approvals;
 use crate::fault::ConfigFault;
 use crate::limits::MAX_RULES;
-use crate::parts::{
-    check_object, check_optional_object, keys, list, member, member_of, optional_list,
-};
+use crate::parts::{check_object, check_optional_object, keys, list, member, member_of};
+use crate::pattern_table::PatternTable;
 use crate::patterns::read_patterns;
 use crate::places::{item_place, member_place};
 use gate_record::{Sequence, Text};
@@ -27,6 +26,7 @@ use std::alloc::Global;
 // The trigger of a pipeline: its rules by connection number.
 pub(crate) fn read_trigger(
     alloc: Global,
+    table: &mut PatternTable,
     connections: &[Text],
     here: &str,
     pipeline: &Value,
@@ -37,11 +37,12 @@ pub(crate) fn read_trigger(
     let place = member_place(alloc, here, "trigger")?;
     let trigger = member(pipeline, "trigger");
     check_optional_object(alloc, place.as_str(), trigger)?;
-    read_connections(alloc, connections, place.as_str(), trigger)
+    read_connections(alloc, table, connections, place.as_str(), trigger)
 }
 
 fn read_connections(
     alloc: Global,
+    table: &mut PatternTable,
     connections: &[Text],
     place: &str,
     trigger: Option<&Value>,
@@ -51,7 +52,7 @@ fn read_connections(
 {
     let mut rules = Vec::new(alloc);
     for connection in connections {
-        let read = read_connection(alloc, place, trigger, connection.as_str())?;
+        let read = read_connection(alloc, table, place, trigger, connection.as_str())?;
         rules.push(read)?;
     }
     Ok(Sequence::new(rules))
@@ -60,6 +61,7 @@ fn read_connections(
 // The rules for one connection.
 fn read_connection(
     alloc: Global,
+    table: &mut PatternTable,
     place: &str,
     trigger: Option<&Value>,
     connection: &str,
@@ -68,40 +70,103 @@ fn read_connection(
         (λ rules. map texts_of_rule rules ≡ rules_under (option_map (λ v. view v.now) trigger.entry) connection.now) result }
 {
     let here = member_place(alloc, place, connection)?;
-    let items = optional_list(alloc, here.as_str(), member_of(trigger, connection))?;
-    if items.len() > MAX_RULES {
-        return Err(ConfigFault::Limit(here));
-    }
-    read_rules(alloc, here.as_str(), items)
+    read_value(alloc, table, here.as_str(), member_of(trigger, connection))
 }
 
-fn read_rules(alloc: Global, place: &str, items: &[Value]) -> Result<Sequence<Rule>, ConfigFault>
+// A list of rules or one rule, if it is there.
+fn read_value(
+    alloc: Global,
+    table: &mut PatternTable,
+    here: &str,
+    value: Option<&Value>,
+) -> Result<Sequence<Rule>, ConfigFault>
+    ensures { Reads (rules_checks here.now (option_map (λ v. view v.now) value.entry))
+        (λ rules. map texts_of_rule rules ≡ rules_at (option_map (λ v. view v.now) value.entry)) result }
+{
+    match value {
+        None => Ok(Sequence::empty(alloc)),
+        Some(value) => match list(value) {
+            Some(items) => read_rules(alloc, table, here, items),
+            None => read_lone(alloc, table, here, value),
+        },
+    }
+}
+
+// The one rule that stands in place of a list.
+fn read_lone(
+    alloc: Global,
+    table: &mut PatternTable,
+    here: &str,
+    value: &Value,
+) -> Result<Sequence<Rule>, ConfigFault>
+    ensures { Reads (rule_checks_at here.now (view value.now))
+        (λ rules. map texts_of_rule rules ≡ rule_texts (view value.now) ∷ []) result }
+{
+    let rule = read_rule(alloc, table, here, value)?;
+    let mut rules = Vec::new(alloc);
+    rules.push(rule)?;
+    Ok(Sequence::new(rules))
+}
+
+// A list of rules. `Limit` at its place where there are too many.
+fn read_rules(
+    alloc: Global,
+    table: &mut PatternTable,
+    here: &str,
+    items: &[Value],
+) -> Result<Sequence<Rule>, ConfigFault>
+    ensures { Reads (rule_list_checks here.now (map view items.now))
+        (λ rules. map texts_of_rule rules ≡ map rule_texts (map view items.now)) result }
+{
+    if items.len() > MAX_RULES {
+        return Err(ConfigFault::Limit(Text::copy(alloc, here)?));
+    }
+    read_items(alloc, table, here, items)
+}
+
+fn read_items(
+    alloc: Global,
+    table: &mut PatternTable,
+    place: &str,
+    items: &[Value],
+) -> Result<Sequence<Rule>, ConfigFault>
     ensures { Reads (each (rule_checks place.now) (map view items.now))
         (λ rules. map texts_of_rule rules ≡ map rule_texts (map view items.now)) result }
 {
     let mut rules = Vec::new(alloc);
     for (position, item) in items.iter().enumerate() {
-        let rule = read_item(alloc, place, position, item)?;
+        let rule = read_item(alloc, table, place, position, item)?;
         rules.push(rule)?;
     }
     Ok(Sequence::new(rules))
 }
 
 // The rule at this position of a list.
-fn read_item(alloc: Global, place: &str, position: usize, item: &Value) -> Result<Rule, ConfigFault>
+fn read_item(
+    alloc: Global,
+    table: &mut PatternTable,
+    place: &str,
+    position: usize,
+    item: &Value,
+) -> Result<Rule, ConfigFault>
     ensures { Reads (rule_checks place.now position (view item.now)) (λ rule. texts_of_rule rule ≡ rule_texts (view item.now)) result }
 {
     let here = item_place(alloc, place, position)?;
-    read_rule(alloc, here.as_str(), item)
+    read_rule(alloc, table, here.as_str(), item)
 }
 
 // A rule: an object of attributes, of which `event` is required.
-fn read_rule(alloc: Global, here: &str, rule: &Value) -> Result<Rule, ConfigFault>
+fn read_rule(
+    alloc: Global,
+    table: &mut PatternTable,
+    here: &str,
+    rule: &Value,
+) -> Result<Rule, ConfigFault>
     ensures { Reads (rule_checks_at here.now (view rule.now)) (λ read. texts_of_rule read ≡ rule_texts (view rule.now)) result }
 {
     check_object(alloc, here, rule)?;
     let keys = keys(alloc, Some(rule))?;
-    let read = read_attributes(alloc, here, rule, keys.as_slice())?;
+    let read = read_attributes(alloc, table, here, rule, keys.as_slice())?;
     check_listed(alloc, here, rule)?;
     Ok(read)
 }
@@ -109,6 +174,7 @@ fn read_rule(alloc: Global, here: &str, rule: &Value) -> Result<Rule, ConfigFaul
 // The attributes, in byte order.
 fn read_attributes(
     alloc: Global,
+    table: &mut PatternTable,
     here: &str,
     rule: &Value,
     keys: &[&String],
@@ -119,7 +185,7 @@ fn read_attributes(
 {
     let mut read = unlisted(alloc);
     for key in keys {
-        read_attribute(alloc, here, rule, key.as_str(), &mut read)?;
+        read_attribute(alloc, table, here, rule, key.as_str(), &mut read)?;
     }
     Ok(read)
 }
@@ -143,6 +209,7 @@ fn unlisted(alloc: Global) -> Rule
 // The attribute at this key. `Attribute` at a key that is none.
 fn read_attribute(
     alloc: Global,
+    table: &mut PatternTable,
     here: &str,
     rule: &Value,
     key: &str,
@@ -154,12 +221,12 @@ fn read_attribute(
     let place = member_place(alloc, here, key)?;
     let value = member(rule, key);
     match key {
-        "event" => read.event = read_patterns(alloc, place.as_str(), value)?,
-        "branch" => read.branch = read_patterns(alloc, place.as_str(), value)?,
-        "ref" => read.refname = read_patterns(alloc, place.as_str(), value)?,
-        "username" => read.username = read_patterns(alloc, place.as_str(), value)?,
-        "email" => read.email = read_patterns(alloc, place.as_str(), value)?,
-        "comment" => read.comment = read_patterns(alloc, place.as_str(), value)?,
+        "event" => read.event = read_patterns(alloc, table, place.as_str(), value)?,
+        "branch" => read.branch = read_patterns(alloc, table, place.as_str(), value)?,
+        "ref" => read.refname = read_patterns(alloc, table, place.as_str(), value)?,
+        "username" => read.username = read_patterns(alloc, table, place.as_str(), value)?,
+        "email" => read.email = read_patterns(alloc, table, place.as_str(), value)?,
+        "comment" => read.comment = read_patterns(alloc, table, place.as_str(), value)?,
         "approval" => read.approval = read_approvals(alloc, place.as_str(), value)?,
         "ignore-deletes" => read.ignore_deletes = read_flag(alloc, place.as_str(), value)?,
         _ => return Err(ConfigFault::Attribute(place)),

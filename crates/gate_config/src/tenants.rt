@@ -1,69 +1,130 @@
-ghost use Rattle.std.specs.Prelude.{◌≡◌, ◌∷◌, [], map, option_map, is_none, codes};
-ghost use Rattle.std.specs.List.{flat_map};
+ghost use Rattle.std.specs.Prelude.{◌≡◌, ◌∷◌, [], IfOk, not, map, option_map, codes};
+ghost use Rattle.std.specs.List.{list_any};
+ghost use Rattle.std.specs.Str.{bytes_eq};
 ghost use Rattle.serde_json.specs.View.{view};
-ghost use Rattle.gate_config.specs.Checks.{each, tenant_checks, tenant_checks_at, sources_checks, source_checks, listing_checks, list_checks, project_checks};
+ghost use Rattle.gate_config.specs.Checks.{along, each, is_taken, tenant_checks, tenant_checks_at, tenant_place, named_checks, sources_checks, source_checks, listing_checks, list_checks, project_checks};
+ghost use Rattle.gate_config.specs.Document.{names_in, sources_of, tenant_name, tenant_of};
 ghost use Rattle.gate_config.specs.Entry.{entry_view, key_view};
-ghost use Rattle.gate_config.specs.Faults.{Asks, Tests};
-ghost use Rattle.gate_config.specs.Parts.{optional};
-ghost use Rattle.gate_config.specs.declared.fault.ConfigFault.TheVariants.{Shape};
+ghost use Rattle.gate_config.specs.Faults.{Asks, Reads, Tests};
+ghost use Rattle.gate_config.specs.Names.{with_name, with_names};
+ghost use Rattle.gate_config.specs.Parts.{is_fine, is_object, optional};
+ghost use Rattle.gate_config.specs.Places.{below};
+ghost use Rattle.gate_config.specs.declared.fault.ConfigFault.TheVariants.{Repeated, Shape};
 
-use crate::document::Entry;
+use crate::document::{Entry, tenant_of};
 use crate::fault::ConfigFault;
 use crate::limits::MAX_CONNECTIONS;
+use crate::name_set::NameSet;
 use crate::parts::{
     check_object, check_optional_object, keys, member, member_of, optional_list, required_text,
+    text_at,
 };
 use crate::places::{item_place, member_place};
-use gate_record::Text;
+use crate::projects::is_entry;
+use gate_record::{Memory, Text};
 use serde_json::Value;
 use std::alloc::Global;
 
-// Each tenant, in order.
-pub(crate) fn check_tenants(alloc: Global, entries: &[Entry<'_>]) -> Result<(), ConfigFault>
-    ensures { Tests (flat_map tenant_checks (map entry_view entries.now)) result }
+// Each tenant, in order. Gives the names of the connections that they list.
+pub(crate) fn check_tenants(alloc: Global, entries: &[Entry<'_>]) -> Result<NameSet, ConfigFault>
+    ensures { Reads (along tenant_checks (map entry_view entries.now)) (λ names. names ≡ names_in (map entry_view entries.now)) result }
 {
-    for entry in entries {
-        check_entry(alloc, entry)?;
+    let mut names = NameSet::new(alloc);
+    for (rank, entry) in entries.iter().enumerate() {
+        check_entry(alloc, &entries[..rank], entry, &mut names)?;
+    }
+    Ok(names)
+}
+
+// An entry behind those before it, which list the connections of these names.
+fn check_entry(
+    alloc: Global,
+    before: &[Entry<'_>],
+    entry: &Entry<'_>,
+    names: &mut NameSet,
+) -> Result<(), ConfigFault>
+    requires { names.old ≡ names_in (map entry_view before.now) }
+    ensures { Reads (tenant_checks (map entry_view before.now) (entry_view entry.now))
+        (λ _. names.new ≡ with_names names.old (sources_of (tenant_of (entry_view entry.now).1))) result }
+{
+    let here = item_place(alloc, "tenants", entry.position)?;
+    check_wrapper(alloc, here.as_str(), entry.value)?;
+    let place = tenant_place(alloc, here.as_str(), entry.value)?;
+    check_tenant(alloc, before, place.as_str(), tenant_of(entry.value), names)
+}
+
+// `Shape` at an entry that is no object, or whose `tenant` is none.
+fn check_wrapper(alloc: Global, here: &str, entry: &Value) -> Result<(), ConfigFault>
+    ensures { Tests (Asks (is_object (view entry.now)) (Shape here.now) ∷ Asks (is_fine is_object (optional (codes "tenant") (view entry.now))) (Shape here.now) ∷ []) result }
+{
+    check_object(alloc, here, entry)?;
+    check_optional_object(alloc, here, member(entry, "tenant"))
+}
+
+// The place of the tenant of an entry.
+fn tenant_place(alloc: Global, here: &str, entry: &Value) -> Result<Text, Memory>
+    ensures { IfOk result (λ place. place ≡ tenant_place here.now (view entry.now)) }
+{
+    match member(entry, "tenant") {
+        Some(_) => member_place(alloc, here, "tenant"),
+        None => Text::copy(alloc, here),
+    }
+}
+
+// A tenant: it has a name of its own, and perhaps sources.
+fn check_tenant(
+    alloc: Global,
+    before: &[Entry<'_>],
+    here: &str,
+    tenant: &Value,
+    names: &mut NameSet,
+) -> Result<(), ConfigFault>
+    requires { names.old ≡ names_in (map entry_view before.now) }
+    ensures { Reads (named_checks (map entry_view before.now) here.now (view tenant.now))
+        (λ _. names.new ≡ with_names names.old (sources_of (view tenant.now))) result }
+{
+    let name = required_text(alloc, here, tenant, "name")?;
+    check_new(alloc, before, here, name)?;
+    check_sources(alloc, here, tenant, names)
+}
+
+// `Repeated` at a name that an earlier tenant has.
+fn check_new(alloc: Global, before: &[Entry<'_>], here: &str, name: &str) -> Result<(), ConfigFault>
+    ensures { Tests (Asks (not (is_taken (map entry_view before.now) name.now)) (Repeated (below here.now (codes "name"))) ∷ []) result }
+{
+    if is_taken(before, name) {
+        return Err(ConfigFault::Repeated(member_place(alloc, here, "name")?));
     }
     Ok(())
 }
 
-fn check_entry(alloc: Global, entry: &Entry<'_>) -> Result<(), ConfigFault>
-    ensures { Tests (tenant_checks (entry_view entry.now)) result }
+fn is_taken(before: &[Entry<'_>], name: &str) -> bool
+    ensures { result ≡ list_any (λ entry. bytes_eq (tenant_name (view entry.value.now)) name.now) before.now }
 {
-    let here = item_place(alloc, "tenants", entry.position)?;
-    check_tenant(alloc, here.as_str(), entry.value)
+    before.iter().any(|entry| tenant_name(entry.value) == name)
 }
 
-// A tenant: an object with a name, and its sources.
-fn check_tenant(alloc: Global, here: &str, tenant: &Value) -> Result<(), ConfigFault>
-    ensures { Tests (tenant_checks_at here.now (view tenant.now)) result }
+// The name of a tenant that was checked.
+pub(crate) fn tenant_name(entry: &Value) -> &str
+    ensures { result.now ≡ tenant_name (view entry.now) }
 {
-    check_object(alloc, here, tenant)?;
-    check_unwrapped(alloc, here, tenant)?;
-    required_text(alloc, here, tenant, "name")?;
-    check_sources(alloc, here, tenant)
-}
-
-// `Shape` at a tenant that is wrapped.
-fn check_unwrapped(alloc: Global, here: &str, tenant: &Value) -> Result<(), ConfigFault>
-    ensures { Tests (Asks (is_none (optional (codes "tenant") (view tenant.now))) (Shape here.now) ∷ []) result }
-{
-    match member(tenant, "tenant") {
-        None => Ok(()),
-        Some(_) => Err(ConfigFault::Shape(Text::copy(alloc, here)?)),
-    }
+    text_at(tenant_of(entry), "name")
 }
 
 // The connections of a tenant, in byte order.
-fn check_sources(alloc: Global, here: &str, tenant: &Value) -> Result<(), ConfigFault>
-    ensures { Tests (sources_checks here.now (view tenant.now)) result }
+fn check_sources(
+    alloc: Global,
+    here: &str,
+    tenant: &Value,
+    names: &mut NameSet,
+) -> Result<(), ConfigFault>
+    ensures { Reads (sources_checks names.old here.now (view tenant.now)) (λ _. names.new ≡ with_names names.old (sources_of (view tenant.now))) result }
 {
     let place = member_place(alloc, here, "source")?;
     let sources = member(tenant, "source");
     check_optional_object(alloc, place.as_str(), sources)?;
     let keys = keys(alloc, sources)?;
-    check_each_source(alloc, place.as_str(), sources, keys.as_slice())
+    check_each_source(alloc, place.as_str(), sources, keys.as_slice(), names)
 }
 
 fn check_each_source(
@@ -71,12 +132,13 @@ fn check_each_source(
     place: &str,
     sources: Option<&Value>,
     keys: &[&String],
+    names: &mut NameSet,
 ) -> Result<(), ConfigFault>
-    ensures { Tests (each (source_checks place.now (option_map (λ v. view v.now) sources.entry)) (map key_view keys.now))
-        result }
+    ensures { Reads (along (source_checks names.old place.now (option_map (λ v. view v.now) sources.entry)) (map key_view keys.now))
+        (λ _. names.new ≡ with_names names.old (map key_view keys.now)) result }
 {
-    for (position, key) in keys.iter().enumerate() {
-        check_source(alloc, place, sources, position, key.as_str())?;
+    for key in keys {
+        check_source(alloc, place, sources, key.as_str(), names)?;
     }
     Ok(())
 }
@@ -86,13 +148,15 @@ fn check_source(
     alloc: Global,
     place: &str,
     sources: Option<&Value>,
-    position: usize,
     key: &str,
+    names: &mut NameSet,
 ) -> Result<(), ConfigFault>
-    ensures { Tests (source_checks place.now (option_map (λ v. view v.now) sources.entry) position key.now) result }
+    ensures { Reads (source_checks names.old place.now (option_map (λ v. view v.now) sources.entry) [] key.now)
+        (λ _. names.new ≡ with_name key.now names.old) result }
 {
     let here = member_place(alloc, place, key)?;
-    if position >= MAX_CONNECTIONS {
+    names.insert(alloc, key)?;
+    if names.len() > MAX_CONNECTIONS {
         return Err(ConfigFault::Limit(here));
     }
     check_listing(alloc, here.as_str(), member_of(sources, key))
@@ -130,7 +194,7 @@ fn check_each_project(alloc: Global, place: &str, projects: &[Value]) -> Result<
     Ok(())
 }
 
-// `Shape` at a project that is no text.
+// `Shape` at an entry that names no project.
 fn check_project(
     alloc: Global,
     place: &str,
@@ -139,7 +203,7 @@ fn check_project(
 ) -> Result<(), ConfigFault>
     ensures { Tests (project_checks place.now position (view project.now)) result }
 {
-    if project.is_string() {
+    if is_entry(project) {
         return Ok(());
     }
     Err(ConfigFault::Shape(item_place(alloc, place, position)?))

@@ -9,6 +9,6 @@ pub mod Pushes
 pub mod Runs
 pub mod Scripts
 pub mod Shapes
-pub mod Small
 pub mod TenantSteps
 pub mod Told
+pub mod TooLarge

@@ -1,8 +1,7 @@
 -- What is printed: the answers and the report.
 use Rattle.std.specs.Prelude.{ℕ, ◌+◌, List, [], ◌∷◌, ◌++◌, Bool, codes, decimal, flat_map, if◌then◌else◌}
-use Rattle.serde_json.specs.Data.{string}
-use Rattle.serde_json.specs.Written.{compact_text}
 use Rattle.gate_record.specs.declared.ids.Stamp.{Stamp}
+use Rattle.gate_record.specs.Names.{name_text}
 use Rattle.gate_config.specs.declared.config.Config.{Config}
 use Rattle.gate_config.specs.declared.config.PipelineSpec.{PipelineSpec}
 use Rattle.gate_config.specs.declared.config.TenantSpec.{TenantSpec}
@@ -15,10 +14,6 @@ use Rattle.gate_core.specs.declared.report.EndCause.TheVariants as cause
 use Rattle.gate_core.specs.declared.report.PipelineReport.{PipelineReport}
 use Rattle.gate_core.specs.declared.report.RunReport.{RunReport}
 use Rattle.gate_core.specs.History.{numbers_from}
-
--- a name as compact JSON text
-abbrev pub name_text : List ℕ → List ℕ
-name_text name = compact_text (string name)
 
 -- ---- answers, each on a line
 

@@ -1,13 +1,12 @@
 ghost use Rattle.std.specs.Prelude.{◌≡◌, ◌++◌, ◌+◌, ◌<◌, ◌≤◌, ◌^◌, length, decimal, codes, flat_map, string_bytes, IfOk, OnOk};
-ghost use Rattle.gate_core.specs.Output.{name_text, answer_line, answer_lines, cause_word, connection_line, connection_lines, state_word, number_text, done_line, done_lines, pipeline_line, pipeline_lines, tenant_lines, report_text};
+ghost use Rattle.gate_core.specs.Output.{answer_line, answer_lines, cause_word, connection_line, connection_lines, state_word, number_text, done_line, done_lines, pipeline_line, pipeline_lines, tenant_lines, report_text};
 ghost use Rattle.gate_core.specs.History.{numbers_from};
 ghost use Rattle.gate_config.specs.Lookups.{connections_of, tenants_of};
 
 use crate::answer::Answer;
 use crate::report::{ConnectionReport, EndCause, PipelineReport, RunReport};
 use gate_config::{Config, PipelineSpec, TenantSpec};
-use gate_record::{ConnId, Memory, Sequence, Stamp, TenantId, Text};
-use serde_json::Value;
+use gate_record::{ConnId, Memory, Sequence, Stamp, TenantId, Text, name_text};
 use std::alloc::Global;
 
 /// Adds the answers to a text, each on a line.
@@ -54,13 +53,6 @@ fn turned_start(alloc: Global, conn: u64) -> Result<String, Memory>
     ensures { IfOk result (λ line. string_bytes line ≡ turned_start conn) }
 {
     Ok(format!(in alloc; "turned trigger {conn}")?)
-}
-
-// A name as compact JSON text.
-fn name_text(alloc: Global, name: &str) -> Result<String, Memory>
-    ensures { IfOk result (λ text. string_bytes text ≡ name_text name.now) }
-{
-    Ok(Value::try_from_str(alloc, name)?.to_string(alloc)?)
 }
 
 fn push_connections(

@@ -102,6 +102,7 @@ fn is_small(config: &Config) -> bool
 
 // The answers to steps, and the report of the world that they leave.
 fn play_text(alloc: Global, config: &Config, steps: Queue<Step>) -> Result<String, Memory>
+    requires small { IsSmall config.now }
     ensures { IfOk result (λ text. Plays config.now steps (string_bytes text)) }
 {
     let transcript = play(alloc, config, steps)?;

@@ -3,6 +3,7 @@ ghost use Rattle.std.specs.List.{zip};
 ghost use Rattle.gate_core.specs.Moves.{answers_to, after_all, start};
 ghost use Rattle.gate_core.specs.Promises.{Delivers, AnswersRightly};
 ghost use Rattle.gate_core.specs.Reports.{report_in, report_after};
+ghost use Rattle.gate_core.specs.Small.{IsSmall};
 
 use crate::answer::Answer;
 use crate::step::Step;
@@ -22,8 +23,11 @@ pub struct Transcript<'c> {
 
 ghost use Rattle.gate_core.specs.Worlds.{state_of, config_of};
 
-/// Takes steps in order, from the world in which nothing was offered yet. `Memory` where it is refused at any step.
+/// Takes steps in order, from the world in which nothing was offered yet. The configuration is one that a world can have.
+/// `Memory` where it is refused at any step.
 pub fn run<'c>(alloc: Global, config: &'c Config, steps: &[Step]) -> Result<Transcript<'c>, Memory>
+    requires small { IsSmall config.now }
+
     // The answers are those of the steps one after another, and the world is what they leave.
     ensures answers { IfOk result (λ t. t.answers ≡ answers_to config.entry.now (start config.entry.now) steps.now) }
     ensures left { IfOk result (λ t. state_of t.world ≡ after_all config.entry.now (start config.entry.now) steps.now) }
@@ -47,6 +51,7 @@ pub fn play<'c>(
     config: &'c Config,
     steps: Queue<Step>,
 ) -> Result<Transcript<'c>, Memory>
+    requires small { IsSmall config.now }
     ensures answers { IfOk result (λ t. t.answers ≡ answers_to config.entry.now (start config.entry.now) steps) }
     ensures left { IfOk result (λ t. state_of t.world ≡ after_all config.entry.now (start config.entry.now) steps) }
     ensures config { IfOk result (λ t. config_of t.world ≡ config.entry.now) }

@@ -1,6 +1,7 @@
 ghost use Rattle.std.specs.Prelude.{◌≡◌, ◌<◌, ◌+◌, ◌^◌, IfOk, OnErr};
 ghost use Rattle.gate_core.specs.Answers.{Does};
 ghost use Rattle.gate_core.specs.Moves.{after, start, accepted_by};
+ghost use Rattle.gate_core.specs.Small.{IsSmall};
 
 use crate::answer::Answer;
 use crate::connection::Connection;
@@ -26,8 +27,10 @@ impl<'c> World<'c> {
     ghost use Rattle.gate_core.specs.Worlds.{config_of, state_of};
     ghost use Rattle.gate_core.specs.Reports.{report_in};
 
-    /// The world in which nothing was offered yet. `Memory` where a queue finds no room.
+    /// The world in which nothing was offered yet, of a configuration with at most one connection, one tenant and one
+    /// pipeline. `Memory` where a queue finds no room.
     pub fn new(alloc: Global, config: &'c Config) -> Result<World<'c>, Memory>
+        requires small { IsSmall config.now }
         ensures config { IfOk result (λ world. config_of world ≡ config.entry.now) }
         ensures start { IfOk result (λ world. state_of world ≡ start config.entry.now) }
     {

@@ -1,5 +1,6 @@
 use gate_config::ConfigFault;
 use gate_core::ReplayFault;
+use gate_record::Memory;
 use std::alloc::{AllocError, AllocFailed};
 use std::fmt;
 
@@ -54,6 +55,21 @@ impl From<AllocError> for Fault {
 impl<T: Drop> From<AllocFailed<T>> for Fault {
     fn from(_refused: AllocFailed<T>) -> Fault {
         Fault::Memory
+    }
+}
+
+impl From<Memory> for Fault {
+    fn from(_refused: Memory) -> Fault {
+        Fault::Memory
+    }
+}
+
+impl From<ConfigFault> for Fault {
+    fn from(fault: ConfigFault) -> Fault {
+        match fault {
+            ConfigFault::Memory => Fault::Memory,
+            fault => Fault::Config(fault),
+        }
     }
 }
 

@@ -1,5 +1,6 @@
 use crate::fault::Fault;
 use crate::words::{Task, task_of};
+use gate_config::{check_text, read_config};
 use gate_core::replay;
 use std::alloc::Global;
 use std::io::{ErrorKind, Read, Write};
@@ -42,6 +43,7 @@ where
 {
     let alloc = rt.alloc();
     let text = match task_of(alloc, words)? {
+        Task::Check { config } => check(alloc, file(rt, config)?.as_slice())?,
         Task::Replay { config, script } => {
             let document = file(rt, config)?;
             let script = file(rt, script)?;
@@ -53,6 +55,12 @@ where
         Ok(()) => Ok(()),
         Err(_) => Err(Fault::Write),
     }
+}
+
+// What the configuration of a document says.
+fn check(alloc: Global, document: &[u8]) -> Result<String, Fault> {
+    let config = read_config(alloc, document)?;
+    Ok(check_text(alloc, &config)?)
 }
 
 fn write_text<O: Write>(output: &mut O, text: &str) -> io::Result<()> {

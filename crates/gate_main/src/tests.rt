@@ -1,3 +1,5 @@
+mod check;
+
 use crate::program::run_words;
 use gate_config::{Config, read_config};
 use gate_core::{Answer, Step, World, read_script, replay, report_text, run};
@@ -215,6 +217,12 @@ fn fills_its_queue(rt: HostRuntime) -> Result<(), Fail> {
 #[test]
 fn runs_steps_and_reports(rt: HostRuntime) -> Result<(), Fail> {
     let config = base(&rt, rt.alloc());
+    let is_small = config.connections().len() <= 1
+        && config.tenants().len() <= 1
+        && config.pipelines(TenantId(0)).len() <= 1;
+    if !is_small {
+        panic!(rt; "a world can have the base configuration");
+    }
     let line = b"{}".to_vec(rt.alloc())?;
     let steps = [
         Step::Offer(ConnId(0), Record::Line(Sequence::new(line))),
@@ -280,6 +288,19 @@ fn tells_faults_by_text_and_status(rt: HostRuntime) -> Result<(), Fail> {
         (
             ["gate", "check", "missing"].as_slice(),
             "",
+            1,
+            "fault: file missing\n",
+        ),
+        (["gate", "check"].as_slice(), "", 2, "fault: usage\n"),
+        (
+            ["gate", "check", "a", "b"].as_slice(),
+            "",
+            2,
+            "fault: usage\n",
+        ),
+        (
+            ["gate", "check", "--help"].as_slice(),
+            "",
             2,
             "fault: usage\n",
         ),
@@ -310,6 +331,18 @@ fn tells_faults_by_text_and_status(rt: HostRuntime) -> Result<(), Fail> {
         (
             ["gate"].as_slice(),
             "{\"tenants\":[{\"name\":\"a\"},{\"name\":\"b\"}],\"config\":{}}",
+            3,
+            "fault: limit tenants\n",
+        ),
+        (
+            ["gate"].as_slice(),
+            "{\"tenants\":[{\"name\":\"a\",\"source\":{\"g\":null,\"h\":null}}],\"config\":{}}\nno step",
+            3,
+            "fault: limit tenants\n",
+        ),
+        (
+            ["gate"].as_slice(),
+            "{\"tenants\":[{\"name\":\"a\"}],\"config\":{\"a\":[{\"pipeline\":{\"name\":\"p\",\"manager\":\"dependent\"}},{\"pipeline\":{\"name\":\"q\",\"manager\":\"dependent\"}}]}}",
             3,
             "fault: limit tenants\n",
         ),

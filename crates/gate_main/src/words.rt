@@ -7,6 +7,8 @@ use std::io;
 /// What the words of the command line ask for.
 #[derive(Debug, Drop)]
 pub enum Task {
+    /// To print what a configuration says, a path.
+    Check { config: String },
     /// To replay a script by a configuration, each a path.
     Replay { config: String, script: String },
     /// The same from standard input: its first line is the configuration, the rest the script.
@@ -24,16 +26,21 @@ pub fn task_of<'a>(alloc: Global, words: &'a [String]) -> Result<Task, Fault> {
 }
 
 fn command<'a>(alloc: Global) -> Result<Command<'a>, AllocError> {
-    let replay = Command::new(alloc, "replay")
-        .disable_help_flag(true)
-        .disable_version_flag(true)
+    let check = plain(alloc, "check").arg(path(alloc, "config"))?;
+    let replay = plain(alloc, "replay")
         .arg(path(alloc, "config"))?
         .arg(path(alloc, "script"))?;
-    Command::new(alloc, "gate")
+    plain(alloc, "gate")
+        .disable_help_subcommand(true)
+        .subcommand(check)?
+        .subcommand(replay)
+}
+
+// A command without clap's own help and version.
+fn plain<'a>(alloc: Global, name: &'a str) -> Command<'a> {
+    Command::new(alloc, name)
         .disable_help_flag(true)
         .disable_version_flag(true)
-        .disable_help_subcommand(true)
-        .subcommand(replay)
 }
 
 fn path<'a>(alloc: Global, name: &'a str) -> Arg<'a> {
@@ -45,6 +52,9 @@ fn task_in(alloc: Global, matches: &ArgMatches<'_>) -> Result<Task, Fault> {
         return Ok(Task::Input);
     };
     match (name, words.get_str("config"), words.get_str("script")) {
+        ("check", Some(config), _) => Ok(Task::Check {
+            config: String::from_str(alloc, config)?,
+        }),
         ("replay", Some(config), Some(script)) => Ok(Task::Replay {
             config: String::from_str(alloc, config)?,
             script: String::from_str(alloc, script)?,

@@ -1,7 +1,5 @@
-use Rattle.gate_config.proofs.Each.{TestedSoFar}
-use Rattle.gate_config.specs.Checks.{tenant_checks}
-use Rattle.gate_config.specs.Entry.{entry_view}
+use Rattle.gate_config.proofs.Along.{TenantsSoFar}
 use Rattle.gate_config.proofs.tenants.check_tenants.Given as goal
 
-abbrev pub invariant-loop-entry : goal.invariant-loop-entry
-invariant-loop-entry l = TestedSoFar (λ _. tenant_checks) entry_view l.entries l.entry-index
+abbrev pub invariant-loop-rank : goal.invariant-loop-rank
+invariant-loop-rank l = TenantsSoFar l.entries l.rank l.names

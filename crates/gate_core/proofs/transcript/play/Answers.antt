@@ -2,7 +2,6 @@ use Rattle.std.proofs.Common.{◌≡◌, ◌∙◌, subst}
 use Rattle.gate_config.specs.declared.config.Config.{Config}
 use Rattle.gate_core.specs.Moves.{after, after_all, answers_to, start}
 use Rattle.gate_core.specs.Worlds.{state_of}
-use Rattle.gate_core.proofs.Small.{small}
 use Rattle.gate_core.proofs.Runs.{one_more, all_answered, all_reached, run_delivers, run_rightly, run_told}
 use Rattle.gate_core.proofs.transcript.play.Goals as goal
 
@@ -34,7 +33,7 @@ pub returns-clause-delivers : goal.returns-clause-delivers
 returns-clause-delivers c = run_delivers c.args.config.now c.args.steps c.loop-step.answers (answered c)
 
 pub returns-clause-rightly : goal.returns-clause-rightly
-returns-clause-rightly c = run_rightly c.args.config.now c.args.steps c.loop-step.answers (small c.args.config.now) (answered c)
+returns-clause-rightly c = run_rightly c.args.config.now c.args.steps c.loop-step.answers c.requires.small (answered c)
 
 pub returns-clause-report : goal.returns-clause-report
-returns-clause-report c = run_told c.args.config.now c.args.steps c.loop-step.answers (state_of c.loop-step.world) (small c.args.config.now) (answered c) (reached c)
+returns-clause-report c = run_told c.args.config.now c.args.steps c.loop-step.answers (state_of c.loop-step.world) c.requires.small (answered c) (reached c)

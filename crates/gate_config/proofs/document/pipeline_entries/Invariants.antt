@@ -1,8 +1,0 @@
-use Rattle.std.proofs.Common.{◌≡◌, map, take}
-use Rattle.serde_json.specs.View.{view}
-use Rattle.gate_config.specs.Document.{pipeline_items}
-use Rattle.gate_config.specs.Entry.{entry_view}
-use Rattle.gate_config.proofs.document.pipeline_entries.Given as goal
-
-abbrev pub invariant-loop-position : goal.invariant-loop-position
-invariant-loop-position l = map entry_view l.entries.items ≡ pipeline_items (map view (take l.position l.items))

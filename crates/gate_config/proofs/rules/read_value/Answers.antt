@@ -1,0 +1,22 @@
+use Rattle.std.proofs.Common.{◌≡◌, ℕ, List, Option, Some, None, Result, map, option_map, subst}
+use Rattle.serde_json.specs.Data.{Data, Items}
+use Rattle.serde_json.specs.View.{view}
+use Rattle.gate_record.specs.Json.{items_in}
+use Rattle.gate_rule.specs.declared.rule.Rule.{Rule}
+use Rattle.gate_config.specs.declared.fault.ConfigFault.{ConfigFault}
+use Rattle.gate_config.specs.Checks.{rule_list_checks, rules_value_checks}
+use Rattle.gate_config.specs.Document.{rule_texts, rules_in}
+use Rattle.gate_config.specs.Faults.{Reads}
+use Rattle.gate_config.specs.Texts.{texts_of_rule}
+use Rattle.gate_config.proofs.rules.read_value.Goals as goal
+
+-- what was read of a list, at the value that is the list
+of_list : (here : List ℕ) (value : Data) (values : List Data) (found : Option Items) (r : Result (List Rule) ConfigFault) → Some values ≡ option_map items_in found → Reads (rule_list_checks here values) (λ rules. map texts_of_rule rules ≡ map rule_texts values) r → Reads (rules_value_checks here found value) (λ rules. map texts_of_rule rules ≡ rules_in found value) r
+of_list here value values None r e h = cc
+of_list here value values (Some items) r e h =
+    let same : values ≡ items_in items = cc in
+    subst (λ vs. Reads (rule_list_checks here vs) (λ rules. map texts_of_rule rules ≡ map rule_texts vs) r) same h
+
+pub returns-in-Some-list : goal.returns-in-Some-list
+returns-in-Some-list c =
+    rw c.in-Some.is (of_list c.args.here.now _ (map view c.in-Some-list.items.now) _ c.read_rules.result (rw c.in-Some-list.is at c.list.ensures) c.read_rules.ensures)

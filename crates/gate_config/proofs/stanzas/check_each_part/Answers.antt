@@ -1,0 +1,15 @@
+use Rattle.gate_config.proofs.Each.{flat_fault, tested_more, flat_all}
+use Rattle.gate_config.proofs.Faults.{exit}
+use Rattle.gate_config.proofs.stanzas.check_each_part.Goals as goal
+
+pub returns-in_err-check_part : goal.returns-in_err-check_part
+returns-in_err-check_part c =
+    exit _ c.from_residual.result c.from_residual.ensures.1
+    (flat_fault c.pipeline-item.result c.loop-pipeline-test.true c.pipeline-item.is c.loop-pipeline.invariant (rw c.as_str.ensures at c.in_err-check_part.ensures))
+
+pub loop-pipeline-preserved : goal.loop-pipeline-preserved
+loop-pipeline-preserved c =
+    tested_more c.pipeline-item.result c.loop-pipeline-test.true c.pipeline-item.is c.loop-pipeline.invariant (rw c.as_str.ensures at c.in_ok-check_part.ensures.0)
+
+pub returns : goal.returns
+returns c = (flat_all c.loop-pipeline-test.false c.loop-pipeline.invariant, tt)

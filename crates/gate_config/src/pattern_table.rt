@@ -1,0 +1,67 @@
+ghost use Rattle.std.specs.Prelude.{◌≡◌, IfOk, IfSome};
+ghost use Rattle.gate_rule.specs.Pattern.{text_of};
+ghost use Rattle.gate_config.specs.Keyed.{IsKeyed};
+
+use gate_record::Memory;
+use gate_rule::{Pattern, PatternFault};
+use std::alloc::Global;
+use std::collections::BTreeMap;
+
+// The patterns of a configuration by their texts, of which each is built once and then shared.
+#[derive(Drop)]
+pub(crate) struct PatternTable {
+    patterns: BTreeMap<String, Pattern>,
+    ghost keyed: { IsKeyed patterns.entries },
+}
+
+impl PatternTable {
+    // No patterns.
+    pub(crate) fn new(alloc: Global) -> PatternTable {
+        PatternTable {
+            patterns: BTreeMap::new(alloc),
+        }
+    }
+
+    // The pattern of a text: the one that was built of it, or a new one. Errors are those of `Pattern::new`.
+    pub(crate) fn pattern(&mut self, alloc: Global, text: &str) -> Result<Pattern, PatternFault>
+        ensures { IfOk result (λ pattern. text_of pattern ≡ text.now) }
+    {
+        match self.find(text) {
+            Some(pattern) => share(pattern),
+            None => self.build(alloc, text),
+        }
+    }
+
+    fn find(&self, text: &str) -> Option<&Pattern>
+        ensures { IfSome result (λ pattern. text_of pattern.now ≡ text.now) }
+    {
+        self.patterns.get(text)
+    }
+
+    fn build(&mut self, alloc: Global, text: &str) -> Result<Pattern, PatternFault>
+        ensures { IfOk result (λ pattern. text_of pattern ≡ text.now) }
+    {
+        let pattern = Pattern::new(alloc, text)?;
+        match self.keep(alloc, text, &pattern) {
+            Ok(()) => Ok(pattern),
+            Err(Memory) => Err(PatternFault::Memory),
+        }
+    }
+
+    fn keep(&mut self, alloc: Global, text: &str, pattern: &Pattern) -> Result<(), Memory>
+        requires { text_of pattern.now ≡ text.now }
+    {
+        let text = String::from_str(alloc, text)?;
+        self.patterns.insert(text, pattern.share()?)?;
+        Ok(())
+    }
+}
+
+fn share(pattern: &Pattern) -> Result<Pattern, PatternFault>
+    ensures { IfOk result (λ shared. shared ≡ pattern.now) }
+{
+    match pattern.share() {
+        Ok(shared) => Ok(shared),
+        Err(Memory) => Err(PatternFault::Memory),
+    }
+}

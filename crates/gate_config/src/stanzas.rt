@@ -1,0 +1,201 @@
+ghost use Rattle.std.specs.Prelude.{◌≡◌, ◌∷◌, [], ℕ, List, IfOk, OnOk, map, option_map, is_some};
+ghost use Rattle.std.specs.List.{flat_map};
+ghost use Rattle.serde_json.specs.View.{view};
+ghost use Rattle.gate_config.specs.Checks.{each, job_checks, jobs_checks, part_checks, parts_checks, stanza_checks, stanza_checks_at};
+ghost use Rattle.gate_config.specs.Document.{jobs_for, jobs_in, plain_name, project_items, project_of};
+ghost use Rattle.gate_config.specs.Entry.{entry_view};
+ghost use Rattle.gate_config.specs.Faults.{Reads, Tests};
+ghost use Rattle.gate_config.specs.Jobs.{with_jobs};
+ghost use Rattle.gate_config.specs.Lookups.{jobs_under, names_of};
+
+use crate::config::PipelineSpec;
+use crate::document::{Entry, entries_at};
+use crate::fault::ConfigFault;
+use crate::jobs::Jobs;
+use crate::names::name_in;
+use crate::parts::{check_object, check_optional_object, items, member, member_of, optional_list};
+use crate::places::{item_place, member_place};
+use gate_record::{Memory, Sequence};
+use serde_json::Value;
+use std::alloc::Global;
+
+// The jobs of projects in each pipeline, of the project items in a tenant's list in `config`.
+pub(crate) fn read_stanzas(
+    alloc: Global,
+    pipelines: &[PipelineSpec],
+    place: &str,
+    items: &[Value],
+) -> Result<Sequence<Jobs>, ConfigFault>
+    ensures { Reads (flat_map (stanza_checks (names_of pipelines.now) place.now) (project_items (map view items.now)))
+        (λ jobs. map jobs_under jobs ≡ map (jobs_in (project_items (map view items.now))) (names_of pipelines.now)) result }
+{
+    let entries = entries_at(alloc, items, "project")?;
+    check_stanzas(alloc, pipelines, place, entries.as_slice())?;
+    Ok(read_jobs(alloc, pipelines, entries.as_slice())?)
+}
+
+// Each project item, for these pipelines.
+fn check_stanzas(
+    alloc: Global,
+    pipelines: &[PipelineSpec],
+    place: &str,
+    entries: &[Entry<'_>],
+) -> Result<(), ConfigFault>
+    ensures { Tests (flat_map (stanza_checks (names_of pipelines.now) place.now) (map entry_view entries.now)) result }
+{
+    for entry in entries {
+        check_entry(alloc, pipelines, place, entry)?;
+    }
+    Ok(())
+}
+
+fn check_entry(
+    alloc: Global,
+    pipelines: &[PipelineSpec],
+    place: &str,
+    entry: &Entry<'_>,
+) -> Result<(), ConfigFault>
+    ensures { Tests (stanza_checks (names_of pipelines.now) place.now (entry_view entry.now)) result }
+{
+    let item = item_place(alloc, place, entry.position)?;
+    let here = member_place(alloc, item.as_str(), "project")?;
+    check_stanza(alloc, pipelines, here.as_str(), entry.value)
+}
+
+// A project item: an object. What it has for the pipelines is looked into where it is of a project.
+fn check_stanza(
+    alloc: Global,
+    pipelines: &[PipelineSpec],
+    here: &str,
+    stanza: &Value,
+) -> Result<(), ConfigFault>
+    ensures { Tests (stanza_checks_at (names_of pipelines.now) here.now (view stanza.now)) result }
+{
+    check_object(alloc, here, stanza)?;
+    check_parts(alloc, pipelines, here, stanza)
+}
+
+fn check_parts(
+    alloc: Global,
+    pipelines: &[PipelineSpec],
+    here: &str,
+    stanza: &Value,
+) -> Result<(), ConfigFault>
+    ensures { Tests (parts_checks (names_of pipelines.now) here.now (view stanza.now)) result }
+{
+    match project_of(stanza) {
+        Some(_) => check_each_part(alloc, pipelines, here, stanza),
+        None => Ok(()),
+    }
+}
+
+fn check_each_part(
+    alloc: Global,
+    pipelines: &[PipelineSpec],
+    here: &str,
+    stanza: &Value,
+) -> Result<(), ConfigFault>
+    ensures { Tests (flat_map (part_checks here.now (view stanza.now)) (names_of pipelines.now)) result }
+{
+    for pipeline in pipelines {
+        check_part(alloc, pipeline.name.as_str(), here, stanza)?;
+    }
+    Ok(())
+}
+
+// What a stanza has for a pipeline: an object with a list of jobs, both optional.
+fn check_part(alloc: Global, pipeline: &str, here: &str, stanza: &Value) -> Result<(), ConfigFault>
+    ensures { Tests (part_checks here.now (view stanza.now) pipeline.now) result }
+{
+    let place = member_place(alloc, here, pipeline)?;
+    let part = member(stanza, pipeline);
+    check_optional_object(alloc, place.as_str(), part)?;
+    let list = member_place(alloc, place.as_str(), "jobs")?;
+    check_jobs(alloc, list.as_str(), member_of(part, "jobs"))
+}
+
+// A list of jobs, if it is there.
+fn check_jobs(alloc: Global, place: &str, jobs: Option<&Value>) -> Result<(), ConfigFault>
+    ensures { Tests (jobs_checks place.now (option_map (λ v. view v.now) jobs.entry)) result }
+{
+    let jobs = optional_list(alloc, place, jobs)?;
+    check_each_job(alloc, place, jobs)
+}
+
+fn check_each_job(alloc: Global, place: &str, jobs: &[Value]) -> Result<(), ConfigFault>
+    ensures { Tests (each (job_checks place.now) (map view jobs.now)) result }
+{
+    for (position, job) in jobs.iter().enumerate() {
+        check_job(alloc, place, position, job)?;
+    }
+    Ok(())
+}
+
+// `Shape` at a job that has no name.
+fn check_job(alloc: Global, place: &str, position: usize, job: &Value) -> Result<(), ConfigFault>
+    ensures { Tests (job_checks place.now position (view job.now)) result }
+{
+    if name_in(job).is_some() {
+        return Ok(());
+    }
+    Err(ConfigFault::Shape(item_place(alloc, place, position)?))
+}
+
+// The project that a stanza is of; one without such a name is ignored.
+fn project_of(stanza: &Value) -> Option<&str>
+    ensures { option_map (λ name. name.now) result ≡ project_of (view stanza.now) }
+{
+    match stanza.get("name").and_then(Value::as_str) {
+        Some(name) => plain_name(name),
+        None => None,
+    }
+}
+
+// The name, unless it is a regular expression.
+fn plain_name(name: &str) -> Option<&str>
+    ensures { option_map (λ name. name.now) result ≡ plain_name name.now }
+{
+    match name.as_bytes().first() {
+        Some(b'^') => None,
+        _ => Some(name),
+    }
+}
+
+// The jobs of each pipeline, once the project items were checked.
+fn read_jobs(
+    alloc: Global,
+    pipelines: &[PipelineSpec],
+    entries: &[Entry<'_>],
+) -> Result<Sequence<Jobs>, Memory>
+    ensures { IfOk result (λ jobs. map jobs_under jobs ≡ map (jobs_in (map entry_view entries.now)) (names_of pipelines.now)) }
+{
+    let mut jobs = Vec::new(alloc);
+    for pipeline in pipelines {
+        jobs.push(read_pipeline_jobs(alloc, pipeline.name.as_str(), entries)?)?;
+    }
+    Ok(Sequence::new(jobs))
+}
+
+fn read_pipeline_jobs(alloc: Global, pipeline: &str, entries: &[Entry<'_>]) -> Result<Jobs, Memory>
+    ensures { IfOk result (λ jobs. (project : List ℕ) → jobs_under jobs project ≡ jobs_in (map entry_view entries.now) pipeline.now project) }
+{
+    let mut jobs = Jobs::new(alloc);
+    for entry in entries {
+        add_stanza(alloc, &mut jobs, pipeline, entry.value)?;
+    }
+    Ok(jobs)
+}
+
+// Adds the jobs that a stanza names for a pipeline.
+fn add_stanza(alloc: Global, jobs: &mut Jobs, pipeline: &str, stanza: &Value) -> Result<(), Memory>
+    ensures { OnOk result ((project : List ℕ) → jobs_under jobs.new project
+        ≡ with_jobs (jobs_under jobs.old project) (jobs_for pipeline.now project (view stanza.now))) }
+{
+    match project_of(stanza) {
+        Some(project) => {
+            let list = member_of(member(stanza, pipeline), "jobs");
+            jobs.add(alloc, project, items(list))
+        }
+        None => Ok(()),
+    }
+}
