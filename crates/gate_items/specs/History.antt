@@ -1,0 +1,39 @@
+-- What a list of actions leaves, and what is true of it whatever the actions were.
+use Rattle.std.specs.Prelude.{◌≡◌, ◌≤◌, ◌<◌, ◌++◌, ℕ, List, [], ◌∷◌, Bool, false, length}
+use Rattle.std.specs.List.{filter, list_any}
+use Rattle.gate_record.specs.declared.ids.ManagerKind.{ManagerKind}
+use Rattle.gate_items.specs.declared.action.Action.{Action}
+use Rattle.gate_items.specs.declared.action.Action.TheVariants as action
+use Rattle.gate_items.specs.declared.action.JobResult.{JobResult}
+use Rattle.gate_items.specs.declared.action.Discard.TheVariants.{NotCurrent}
+use Rattle.gate_items.specs.declared.action.Outcome.TheVariants.{Discarded}
+use Rattle.gate_items.specs.Machine.{State, apply, has_set}
+
+-- no items, and the number of the first build set
+abbrev pub start : ManagerKind → ℕ → State
+start manager first = record { manager = manager; next = first; items = []; reported = [] }
+
+-- the state after actions, one after another
+abbrev pub after : State → List Action → State
+after s [] = s
+after s (action ∷ actions) = after (apply s action).0 actions
+
+-- an item has this build set
+abbrev pub is_current : State → ℕ → Bool
+is_current s set = list_any (has_set set) s.items
+
+-- No two items have one build set.
+abbrev pub EachHasItsOwn : Type 0
+EachHasItsOwn = (manager : ManagerKind) (first : ℕ) (actions : List Action) (set : ℕ) → length (filter (has_set set) (after (start manager first) actions).items) ≤ 1
+
+-- A number that was handed out, and is no item's any more, is never handed out again.
+abbrev pub NeverAgain : Type 0
+NeverAgain = (manager : ManagerKind) (first : ℕ) (actions more : List Action) (set : ℕ) →
+    set < (after (start manager first) actions).next → is_current (after (start manager first) actions) set ≡ false →
+    is_current (after (start manager first) (actions ++ more)) set ≡ false
+
+-- A result of a build set that is no item's any more, after whatever actions, changes nothing.
+abbrev pub LateResultsAreLost : Type 0
+LateResultsAreLost = (manager : ManagerKind) (first : ℕ) (actions more : List Action) (result : JobResult) →
+    result.set < (after (start manager first) actions).next → is_current (after (start manager first) actions) result.set ≡ false →
+    apply (after (start manager first) (actions ++ more)) (action.Result result) ≡ (after (start manager first) (actions ++ more), Discarded NotCurrent)

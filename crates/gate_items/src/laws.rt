@@ -1,0 +1,19 @@
+ghost use Rattle.gate_items.specs.History.{EachHasItsOwn, NeverAgain, LateResultsAreLost};
+
+/// After any actions no two items have one build set.
+#[tactic(auto, using(crate::proofs::Histories::each_has_its_own))]
+pub fn each_item_has_its_own_build_set()
+    ensures { EachHasItsOwn }
+{}
+
+/// A build set's number that is no item's any more is no item's ever again, whatever actions come.
+#[tactic(auto, using(crate::proofs::Histories::never_again))]
+pub fn no_build_set_comes_again()
+    ensures { NeverAgain }
+{}
+
+/// A result of a build set that is no item's any more is discarded, whatever actions came, and changes nothing.
+#[tactic(auto, using(crate::proofs::Histories::late_results_are_lost))]
+pub fn late_results_change_nothing()
+    ensures { LateResultsAreLost }
+{}

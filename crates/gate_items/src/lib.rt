@@ -1,0 +1,17 @@
+//! The queue items of a pipeline, with their build sets: what triggers, results and management do to them.
+#![tactic(auto)]
+
+mod action;
+mod item;
+mod key;
+mod laws;
+#[cfg(test)]
+mod tests;
+
+pub use action::{Action, Discard, JobResult, Manage, Outcome};
+pub use gate_record::ManagerKind;
+pub use item::{QueueItem, Report};
+pub use key::Key;
+pub use laws::{
+    each_item_has_its_own_build_set, late_results_change_nothing, no_build_set_comes_again,
+};
