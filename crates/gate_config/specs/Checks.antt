@@ -54,8 +54,8 @@ listing_checks here source =
     Asks (is_fine is_object source) (Shape here)
     ∷ (list_checks here source (codes "config-projects") ++ list_checks here source (codes "untrusted-projects"))
 
--- A connection among the sources, by its key: with those that earlier tenants list and those before it, there may be so
--- many.
+-- A connection among the sources: with those that earlier tenants list and those before it there are at most
+-- `MAX_CONNECTIONS` names.
 abbrev pub source_checks : List (List ℕ) → List ℕ → Option Data → List (List ℕ) → List ℕ → List Check
 source_checks known place sources before key =
     Asks (nat_le (length (with_name key (with_names known before))) MAX_CONNECTIONS) (Limit (below place key))
@@ -113,8 +113,8 @@ abbrev pub pattern_checks : List ℕ → Option Data → List Check
 pattern_checks place None = []
 pattern_checks place (Some value) = value_checks place (as_array value) value
 
--- The vote that an object of approvals asks for at a key: there may be so many in an attribute, and it is a number.
--- `rank` votes stand before it.
+-- The vote at a key of an object of approvals: at most `MAX_ENTRIES` stand in an attribute, and it is a number. `rank` votes
+-- stand before it.
 abbrev pub vote_checks : List ℕ → List ℕ → Data → ℕ → List ℕ → List Check
 vote_checks place here labels rank key =
     Asks (nat_lt rank MAX_ENTRIES) (Limit place) ∷ Asks (is_some (vote_at labels key)) (Shape here) ∷ []
@@ -176,7 +176,7 @@ rule_checks_at here rule =
 abbrev pub rule_checks : List ℕ → ℕ → Data → List Check
 rule_checks place position rule = rule_checks_at (nth place position) rule
 
--- a list of rules, of which there may be so many
+-- a list of at most `MAX_RULES` rules
 abbrev pub rule_list_checks : List ℕ → List Data → List Check
 rule_list_checks here rules = Asks (nat_le (length rules) MAX_RULES) (Limit here) ∷ each (rule_checks here) rules
 

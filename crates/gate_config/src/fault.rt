@@ -16,15 +16,16 @@ pub enum ConfigFault {
     NotJson,
     /// A required member is missing, or a value is of another kind than stated.
     Shape(Text),
-    /// More of something than there may be.
+    /// More than there may be: tenants, at `tenants`; connections, at the key; pipelines, at the item; rules, at the
+    /// connection; patterns or approvals, at the attribute.
     Limit(Text),
     /// A manager other than `independent` and `dependent`.
     Manager(Text),
-    /// A rule attribute that isn't read.
+    /// A key of a rule that is none of the eight attributes.
     Attribute(Text),
     /// A text that `regex` refuses.
     Pattern(Text),
-    /// A name that stands already.
+    /// The name of an earlier tenant, or of an earlier pipeline of the tenant.
     Repeated(Text),
 }
 

@@ -26,9 +26,9 @@ use std::alloc::Global;
 /// from the name of a tenant to the list of its items (Zuul's documentation, "Tenant Configuration" and "Pipeline
 /// Definition", in this project's profile).
 ///
-/// A fault is the first in reading order: the document, each tenant with its connections in byte order, then each
-/// tenant's items: first the pipelines with their rules, then the projects with their jobs. `Memory` comes where memory was refused, at
-/// whichever point.
+/// A fault is the first in reading order: the document; then each tenant with its connections in byte order; then for each
+/// tenant its list in `config`: that every item is an object, the pipelines with their rules, the projects with their
+/// jobs. `Memory` comes where memory was refused, at whichever point.
 pub fn read_config(alloc: Global, bytes: &[u8]) -> Result<Config, ConfigFault>
     ensures read { IfOk result (λ config. (d : Data) × (json_of bytes.now ≡ Some d) × IsReadFrom d config) }
     ensures passed { OnOk result (AllPass (checks_of bytes.now)) }

@@ -7,7 +7,7 @@ use std::test::Fail;
 const MAIN: &str = r#"[{"name":"main","source":{"a":null}}]"#;
 
 // What stands at `tenants` and at `config`, and the fault with its place.
-const FAULTS: [(&str, &str, &str, &str); 44] = [
+const FAULTS: [(&str, &str, &str, &str); 46] = [
     ("5", "{}", "shape", "tenants"),
     ("[]", "[]", "shape", "config"),
     ("[[]]", "{}", "shape", "tenants[0]"),
@@ -129,7 +129,19 @@ const FAULTS: [(&str, &str, &str, &str); 44] = [
         "shape",
         "config.main[0].project.p.jobs[1]",
     ),
+    (
+        r#"[{"name":"main"},{"name":"y","source":{"a":null}}]"#,
+        r#"{"main":[{"pipeline":{"name":"p","manager":"dependent","trigger":{"a":5}}}]}"#,
+        "shape",
+        "config.main[0].pipeline.trigger.a",
+    ),
     // of several faults the first in reading order, which stands later in the text
+    (
+        r#"[{"name":"x","source":5},5]"#,
+        "{}",
+        "shape",
+        "tenants[0].source",
+    ),
     ("5", "5", "shape", "tenants"),
     (r#"[5]"#, "5", "shape", "config"),
     (

@@ -183,6 +183,26 @@ fn projects_have_three_forms(rt: HostRuntime) -> Result<(), Fail> {
 }
 
 #[test]
+fn a_key_projects_without_a_list_is_a_name(rt: HostRuntime) -> Result<(), Fail> {
+    let config = config_of(
+        rt.alloc(),
+        r#"[{"name":"main","source":{"a":{"config-projects":[{"projects":null}]},"b":{"config-projects":[{"projects":[{"projects":["deep"]}]}]},"c":{"config-projects":[{"projects":["x"],"y":1}]}}}]"#,
+    )?;
+    for (conn, project, listed) in [
+        (0, "projects", true),
+        (1, "projects", true),
+        (1, "deep", false),
+        (2, "projects", false),
+        (2, "x", true),
+        (2, "y", false),
+    ] {
+        let found = config.belongs(TenantId(0), ConnId(conn), project);
+        assert_eq!(rt; found, listed, "{conn} {project}");
+    }
+    Ok(())
+}
+
+#[test]
 fn connections_are_numbered_over_all_tenants(rt: HostRuntime) -> Result<(), Fail> {
     let config = config_of(
         rt.alloc(),
