@@ -14,6 +14,7 @@ use Rattle.gate_config.specs.Places.{nth}
 use Rattle.gate_config.specs.declared.fault.ConfigFault.{ConfigFault}
 use Rattle.gate_config.proofs.Each.{TestedSoFar, count, map_more, tested_all, tested_fault, tested_more, tested_none}
 use Rattle.gate_config.proofs.Faults.{fault_front, fault_rest, passed_both}
+use Rattle.gate_config.proofs.Listed.{flat_map-append}
 use Rattle.gate_config.proofs.Picked.{filter_map_more}
 
 -- the first i keys of an object pass, and their votes stand behind those from before
@@ -47,10 +48,6 @@ module _ {place here : List ℕ} {object : Data} {start : List (List ℕ × ℤ)
   votes_all {i} h v = (tested_all h v.tested, v.says ∙ ap (λ ks. start ++ filter_map (vote_at object) (map key_view ks)) (take_all i keys h))
 
 -- objects that stand behind others
-flat_map-append : {A B : Type 0} (f : A → List B) (xs ys : List A) → flat_map f (xs ++ ys) ≡ flat_map f xs ++ flat_map f ys
-flat_map-append f [] ys = refl
-flat_map-append f (x ∷ xs) ys = ap (λ rest. f x ++ rest) (flat_map-append f xs ys) ∙ sym (append_assoc (f x) (flat_map f xs) (flat_map f ys))
-
 objects-append : (place : List ℕ) (p n : ℕ) (xs ys : List Data) → objects_checks place p n (xs ++ ys) ≡ objects_checks place p n xs ++ objects_checks place (p + length xs) (n + length (flat_map votes_of xs)) ys
 objects-append place p n [] ys = (λ i. objects_checks place (sym (add-zero p) i) (sym (add-zero n) i) ys)
 objects-append place p n (x ∷ xs) ys =

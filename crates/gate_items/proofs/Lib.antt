@@ -1,5 +1,5 @@
 pub mod Chunks
+pub mod Examples
 pub mod Histories
-pub mod Rows
 pub mod Sound
 pub mod Times
