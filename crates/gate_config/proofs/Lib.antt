@@ -9,6 +9,7 @@ pub mod Listed
 pub mod NameSets
 pub mod Outcome
 pub mod Picked
+pub mod ProjectSets
 pub mod Views
 pub mod Votes
 pub mod WithinLimits

@@ -1,8 +1,7 @@
 -- Loops that add names to a set, and tests of what is seen by a view.
-use Rattle.std.proofs.Common.{Bool, option_to_list, ◌≡◌, ◌∙◌, ◌+◌, ◌<◌, ◌≤◌, ℕ, List, [], ◌∷◌, ◌++◌, map, length, get_or, take, refl, sym, ap, append_assoc, append-nil}
+use Rattle.std.proofs.Common.{Bool, option_to_list, ◌≡◌, ◌∙◌, ◌+◌, ◌<◌, ℕ, List, [], ◌∷◌, ◌++◌, map, length, get_or, take, refl, sym, ap, append_assoc, append-nil}
 use Rattle.std.specs.Prelude.{◌||◌, Option}
 use Rattle.std.specs.List.{filter_map, flat_map, list_any}
-use Rattle.std.proofs.lemmas.List.{take_all}
 use Rattle.std.specs.Str.{bytes_eq}
 use Rattle.serde_json.specs.Data.{Data}
 use Rattle.serde_json.specs.View.{view}
@@ -31,15 +30,12 @@ names_more f v start now items i x h e so_far =
     ∙ ap (with_names start) (sym (ap (flat_map f) (map_more v items i x h e) ∙ flat_map-append f (map v (take i items)) (v x ∷ [])
     ∙ ap (λ rest. flat_map f (map v (take i items)) ++ rest) (append-nil (f (v x)))))
 
-pub names_all : {X A : Type 0} (f : A → List (List ℕ)) (v : X → A) (start now : List (List ℕ)) (items : List X) (i : ℕ) → length items ≤ i → now ≡ with_names start (flat_map f (map v (take i items))) → now ≡ with_names start (flat_map f (map v items))
-names_all f v start now items i h so_far = so_far ∙ ap (λ xs. with_names start (flat_map f (map v xs))) (take_all i items h)
-
 -- one more item, which may give a name
-pub named_more : {X A : Type 0} (f : A → Option (List ℕ)) (v : X → A) (start now : List (List ℕ)) (items : List X) (i : ℕ) (x : X) → i < length items → x ≡ get_or items i x → now ≡ with_names start (filter_map f (map v (take i items))) → with_names now (option_to_list (f (v x))) ≡ with_names start (filter_map f (map v (take (i + 1) items)))
+pub named_more : {X A : Type 0} (f : A → Option (List ℕ)) (v : X → A) (start now : List (List ℕ)) (items : List X) (i : ℕ) (x : X) → i < length items → x ≡ get_or items i x → now ≡ start ++ filter_map f (map v (take i items)) → now ++ option_to_list (f (v x)) ≡ start ++ filter_map f (map v (take (i + 1) items))
 named_more f v start now items i x h e so_far =
-    ap (λ names. with_names names (option_to_list (f (v x)))) so_far
-    ∙ sym (with_names-append start (filter_map f (map v (take i items))) (option_to_list (f (v x))))
-    ∙ ap (with_names start) (sym (filter_map_more f v items i x h e))
+    ap (λ names. names ++ option_to_list (f (v x))) so_far
+    ∙ append_assoc start (filter_map f (map v (take i items))) (option_to_list (f (v x)))
+    ∙ ap (λ rest. start ++ rest) (sym (filter_map_more f v items i x h e))
 
 -- a test of what is seen by v
 any_seen : {X A : Type 0} (test : A → Bool) (v : X → A) (items : List X) → list_any (λ x. test (v x)) items ≡ list_any test (map v items)

@@ -1,5 +1,5 @@
 -- What a document says, once it was checked.
-use Rattle.std.specs.Prelude.{ℕ, ℤ, List, [], ◌∷◌, Bool, true, false, ◌&&◌, nat_eq, Option, Some, None, is_none, is_some, slice_get, unwrap_or, option_map, option_and_then, option_to_list, map, codes, if◌then◌else◌}
+use Rattle.std.specs.Prelude.{ℕ, ℤ, List, [], ◌∷◌, ◌++◌, Bool, true, false, ◌&&◌, nat_eq, Option, Some, None, is_none, is_some, slice_get, unwrap_or, option_map, option_and_then, option_to_list, map, codes, if◌then◌else◌}
 use Rattle.std.specs.List.{filter_map, flat_map, enumerate_from}
 use Rattle.std.specs.Str.{bytes_eq}
 use Rattle.serde_json.specs.Data.{Data, Items}
@@ -10,7 +10,7 @@ use Rattle.gate_record.specs.Numbers.{number_of}
 use Rattle.gate_record.specs.declared.ids.ManagerKind.{ManagerKind}
 use Rattle.gate_record.specs.declared.ids.ManagerKind.TheVariants.{Independent, Dependent}
 use Rattle.gate_config.specs.Jobs.{firsts}
-use Rattle.gate_config.specs.Names.{with_names}
+use Rattle.gate_config.specs.Names.{is_among, with_names}
 use Rattle.gate_config.specs.Parts.{is_object, is_text, items_of, keys_of, optional, optional_in, text_of_member, texts_in}
 
 -- what is picked of the values, each with the position of the value that it was picked of
@@ -81,15 +81,14 @@ entry_projects entry = names_of_group (group entry) entry
 abbrev pub listed_at : List ℕ → Data → List (List ℕ)
 listed_at key source = flat_map entry_projects (items_of (optional key source))
 
--- the projects that are listed under a connection, each once and in byte order
+-- the projects that are listed under a connection
 abbrev pub projects_in : Data → List (List ℕ)
-projects_in source =
-    with_names (with_names [] (listed_at (codes "config-projects") source)) (listed_at (codes "untrusted-projects") source)
+projects_in source = listed_at (codes "config-projects") source ++ listed_at (codes "untrusted-projects") source
 
--- the projects that a tenant lists under the connection of this name, if it lists the connection
-abbrev pub projects_under : Data → List ℕ → Option (List (List ℕ))
+-- whether a tenant lists a project under the connection of this name, if it lists the connection
+abbrev pub projects_under : Data → List ℕ → Option (List ℕ → Bool)
 projects_under tenant connection =
-    option_map projects_in (option_and_then (get connection) (optional (codes "source") tenant))
+    option_map (λ source. is_among (projects_in source)) (option_and_then (get connection) (optional (codes "source") tenant))
 
 -- ---- pipelines
 
@@ -226,10 +225,11 @@ jobs_in stanzas pipeline project = firsts (flat_map (λ (entry : ℕ × Data). j
 abbrev pub pipeline_names : List Data → List (List ℕ)
 pipeline_names items = map (λ (entry : ℕ × Data). name_of entry.1) (pipeline_items items)
 
--- a tenant as the document has it, with its sources by connection number and the jobs of a project by pipeline number
+-- a tenant as the document has it, with the projects that it lists by connection number and the jobs of a project by
+-- pipeline number
 pub record TenantTexts : Type 0 where
   pub name : List ℕ
-  pub sources : List (Option (List (List ℕ)))
+  pub sources : List (Option (List ℕ → Bool))
   pub pipelines : List PipelineTexts
   pub jobs : List (List ℕ → List (List ℕ))
 

@@ -1,13 +1,13 @@
 -- The look-ups of a configuration, by the numbers of connections, tenants and pipelines.
-use Rattle.std.specs.Prelude.{ℕ, List, [], Bool, Option, None, option_map, option_and_then, unwrap_or, is_some, map, slice_get}
+use Rattle.std.specs.Prelude.{ℕ, List, [], Bool, false, Option, None, option_map, option_and_then, unwrap_or, is_some, map, slice_get}
 use Rattle.std.specs.BTreeMap.{get_by_text}
-use Rattle.std.specs.List.{list_any}
-use Rattle.std.specs.Str.{bytes_eq}
+use Rattle.std.specs.BTreeSet.{contains_text}
 use Rattle.gate_rule.specs.declared.rule.Rule.{Rule}
 use Rattle.gate_config.specs.declared.config.Config.{Config}
 use Rattle.gate_config.specs.declared.config.TenantSpec.{TenantSpec}
 use Rattle.gate_config.specs.declared.config.PipelineSpec.{PipelineSpec}
 use Rattle.gate_config.specs.declared.jobs.Jobs.{Jobs}
+use Rattle.gate_config.specs.declared.project_set.ProjectSet.{ProjectSet}
 
 -- the names of the connections, by number
 abbrev pub connections_of : Config → List (List ℕ)
@@ -23,8 +23,12 @@ pipelines_of config t = unwrap_or (option_map (λ (tenant : TenantSpec). tenant.
 abbrev pub names_of : List PipelineSpec → List (List ℕ)
 names_of pipelines = map (λ (pipeline : PipelineSpec). pipeline.name) pipelines
 
+-- the project of this name is there, byte by byte
+abbrev pub has_project : ProjectSet → List ℕ → Bool
+has_project projects name = contains_text projects.names name
+
 -- the projects that the tenant lists under the connection, if it lists the connection
-abbrev pub projects_of : Config → ℕ → ℕ → Option (List (List ℕ))
+abbrev pub projects_of : Config → ℕ → ℕ → Option ProjectSet
 projects_of config t c = option_and_then (λ (tenant : TenantSpec). unwrap_or (slice_get tenant.sources c) None) (slice_get config.tenants t)
 
 -- the tenant lists the connection
@@ -33,7 +37,7 @@ lists config t c = is_some (projects_of config t c)
 
 -- the tenant lists the project under the connection, by the same name byte by byte
 abbrev pub belongs : Config → ℕ → ℕ → List ℕ → Bool
-belongs config t c project = list_any (λ name. bytes_eq name project) (unwrap_or (projects_of config t c) [])
+belongs config t c project = unwrap_or (option_map (λ projects. has_project projects project) (projects_of config t c)) false
 
 -- the rules by which the pipeline selects events of the connection
 abbrev pub rules_of : Config → ℕ → ℕ → ℕ → List Rule

@@ -1,12 +1,12 @@
 -- A configuration's texts: what of it a document can name.
-use Rattle.std.specs.Prelude.{◌≡◌, ℕ, List, Some, map}
+use Rattle.std.specs.Prelude.{◌≡◌, ℕ, List, Some, map, option_map}
 use Rattle.serde_json.specs.Data.{Data}
 use Rattle.gate_rule.specs.declared.rule.Rule.{Rule}
 use Rattle.gate_rule.specs.Pattern.{text_of}
 use Rattle.gate_config.specs.declared.config.Config.{Config}
 use Rattle.gate_config.specs.declared.config.TenantSpec.{TenantSpec}
 use Rattle.gate_config.specs.declared.config.PipelineSpec.{PipelineSpec}
-use Rattle.gate_config.specs.Lookups.{jobs_of, jobs_under}
+use Rattle.gate_config.specs.Lookups.{has_project, jobs_of, jobs_under}
 use Rattle.gate_config.specs.Document.{RuleTexts, PipelineTexts, TenantTexts, connection_names, jobs_among, tenants_in}
 
 abbrev pub texts_of_rule : Rule → RuleTexts
@@ -25,7 +25,7 @@ abbrev pub texts_of_pipeline : PipelineSpec → PipelineTexts
 texts_of_pipeline pipeline = record { name = pipeline.name; manager = Some pipeline.manager; rules = map (map texts_of_rule) pipeline.rules }
 
 abbrev pub texts_of_tenant : TenantSpec → TenantTexts
-texts_of_tenant tenant = record { name = tenant.name; sources = tenant.sources; pipelines = map texts_of_pipeline tenant.pipelines; jobs = map jobs_under tenant.jobs }
+texts_of_tenant tenant = record { name = tenant.name; sources = map (option_map has_project) tenant.sources; pipelines = map texts_of_pipeline tenant.pipelines; jobs = map jobs_under tenant.jobs }
 
 -- the configuration says what the document says
 pub record IsReadFrom (document : Data) (config : Config) : Type 0 where

@@ -2,7 +2,7 @@ ghost use Rattle.std.specs.Prelude.{◌≡◌, ◌≤◌, ℕ, length, IsTrue};
 ghost use Rattle.gate_config.specs.declared.limits.TheConstants.{MAX_CONNECTIONS, MAX_PIPELINES, MAX_TENANTS};
 
 use crate::jobs::Jobs;
-use crate::name_set::NameSet;
+use crate::project_set::ProjectSet;
 use gate_record::{ConnId, ManagerKind, PipelineId, Sequence, TenantId, Text};
 use gate_rule::Rule;
 
@@ -22,7 +22,7 @@ pub struct TenantSpec {
     /// The name, which no other tenant has.
     pub name: Text,
     /// By connection number: the projects that it lists there, or nothing where it doesn't list the connection.
-    pub(crate) sources: Sequence<Option<NameSet>>,
+    pub(crate) sources: Sequence<Option<ProjectSet>>,
     /// The pipelines, by number.
     pub pipelines: Sequence<PipelineSpec>,
     /// By pipeline number: the jobs of projects.
@@ -114,7 +114,7 @@ impl Config {
     ghost use Rattle.gate_config.specs.Lookups.{projects_of};
     ghost use Rattle.std.specs.Prelude.{option_map};
 
-    fn projects(&self, tenant: TenantId, conn: ConnId) -> Option<&NameSet>
+    fn projects(&self, tenant: TenantId, conn: ConnId) -> Option<&ProjectSet>
         ensures { option_map (λ p. p.now) result ≡ projects_of self.now tenant.0 conn.0 }
     {
         match self.tenants.get(tenant.0 as usize) {

@@ -16,6 +16,7 @@ mod pattern_table;
 mod patterns;
 mod pipelines;
 mod places;
+mod project_set;
 mod projects;
 mod read;
 mod rules;

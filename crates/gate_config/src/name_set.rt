@@ -1,6 +1,4 @@
 ghost use Rattle.std.specs.Prelude.{◌≡◌, ℕ, [], List, String, string_bytes, IfOk, OnOk, length, map};
-ghost use Rattle.std.specs.List.{list_any};
-ghost use Rattle.std.specs.Str.{bytes_eq};
 ghost use Rattle.gate_config.specs.Names.{with_name};
 
 use gate_record::{Memory, Sequence, Text};
@@ -35,13 +33,6 @@ impl NameSet {
         ensures { result ≡ length self.now }
     {
         self.names.len()
-    }
-
-    // Whether the name is there, byte by byte.
-    pub(crate) fn contains(&self, name: &str) -> bool
-        ensures { result ≡ list_any (λ other. bytes_eq other name.now) self.now }
-    {
-        self.names.contains(name)
     }
 
     // Adds a name, unless it is there.

@@ -1,12 +1,10 @@
-ghost use Rattle.std.specs.Prelude.{◌≡◌, OnOk, map, option_map, option_to_list};
+ghost use Rattle.std.specs.Prelude.{◌≡◌, ◌++◌, OnOk, map, option_map, option_to_list, string_bytes};
 ghost use Rattle.std.specs.List.{filter_map, flat_map, list_any};
 ghost use Rattle.serde_json.specs.View.{view};
 ghost use Rattle.gate_record.specs.Json.{items_in};
 ghost use Rattle.gate_config.specs.Checks.{is_entry, is_nameless};
 ghost use Rattle.gate_config.specs.Document.{entry_projects, group, name_in};
-ghost use Rattle.gate_config.specs.Names.{with_names};
 
-use crate::name_set::NameSet;
 use crate::names::name_in;
 use crate::parts::{list, member};
 use gate_record::Memory;
@@ -46,44 +44,44 @@ fn is_nameless(value: &Value) -> bool
     name_in(value).is_none()
 }
 
-// Adds the projects of a project list.
-pub(crate) fn add_projects(
+// Adds the names of the projects of a project list.
+pub(crate) fn push_projects(
     alloc: Global,
-    projects: &mut NameSet,
+    names: &mut Vec<String>,
     entries: &[Value],
 ) -> Result<(), Memory>
-    ensures { OnOk result (projects.new ≡ with_names projects.old (flat_map entry_projects (map view entries.now))) }
+    ensures { OnOk result (map string_bytes names.new.items ≡ map string_bytes names.old.items ++ flat_map entry_projects (map view entries.now)) }
 {
     for entry in entries {
-        add_entry(alloc, projects, entry)?;
+        push_entry(alloc, names, entry)?;
     }
     Ok(())
 }
 
-fn add_entry(alloc: Global, projects: &mut NameSet, entry: &Value) -> Result<(), Memory>
-    ensures { OnOk result (projects.new ≡ with_names projects.old (entry_projects (view entry.now))) }
+fn push_entry(alloc: Global, names: &mut Vec<String>, entry: &Value) -> Result<(), Memory>
+    ensures { OnOk result (map string_bytes names.new.items ≡ map string_bytes names.old.items ++ entry_projects (view entry.now)) }
 {
     match group(entry) {
-        Some(items) => add_group(alloc, projects, items),
-        None => add_named(alloc, projects, entry),
+        Some(items) => push_group(alloc, names, items),
+        None => push_named(alloc, names, entry),
     }
 }
 
-fn add_group(alloc: Global, projects: &mut NameSet, items: &[Value]) -> Result<(), Memory>
-    ensures { OnOk result (projects.new ≡ with_names projects.old (filter_map name_in (map view items.now))) }
+fn push_group(alloc: Global, names: &mut Vec<String>, items: &[Value]) -> Result<(), Memory>
+    ensures { OnOk result (map string_bytes names.new.items ≡ map string_bytes names.old.items ++ filter_map name_in (map view items.now)) }
 {
     for item in items {
-        add_named(alloc, projects, item)?;
+        push_named(alloc, names, item)?;
     }
     Ok(())
 }
 
-// Adds the project that a value names, if it names one.
-fn add_named(alloc: Global, projects: &mut NameSet, value: &Value) -> Result<(), Memory>
-    ensures { OnOk result (projects.new ≡ with_names projects.old (option_to_list (name_in (view value.now)))) }
+// Adds the name that a value gives, if it gives one.
+fn push_named(alloc: Global, names: &mut Vec<String>, value: &Value) -> Result<(), Memory>
+    ensures { OnOk result (map string_bytes names.new.items ≡ map string_bytes names.old.items ++ option_to_list (name_in (view value.now))) }
 {
-    match name_in(value) {
-        Some(name) => projects.insert(alloc, name),
-        None => Ok(()),
+    if let Some(name) = name_in(value) {
+        names.push(String::from_str(alloc, name)?)?;
     }
+    Ok(())
 }

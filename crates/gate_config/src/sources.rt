@@ -1,12 +1,14 @@
-ghost use Rattle.std.specs.Prelude.{◌≡◌, IfOk, map, option_map, option_and_then, codes};
+ghost use Rattle.std.specs.Prelude.{◌≡◌, IfOk, map, option_map, option_and_then, codes, string_bytes};
 ghost use Rattle.serde_json.specs.Find.{get};
 ghost use Rattle.serde_json.specs.View.{view};
 ghost use Rattle.gate_config.specs.Document.{projects_in, projects_under};
+ghost use Rattle.gate_config.specs.Lookups.{has_project};
+ghost use Rattle.gate_config.specs.Names.{is_among};
 ghost use Rattle.gate_config.specs.Parts.{optional};
 
-use crate::name_set::NameSet;
 use crate::parts::{items, member};
-use crate::projects::add_projects;
+use crate::project_set::ProjectSet;
+use crate::projects::push_projects;
 use gate_record::{Memory, Sequence, Text};
 use serde_json::Value;
 use std::alloc::Global;
@@ -16,8 +18,8 @@ pub(crate) fn read_sources(
     alloc: Global,
     tenant: &Value,
     connections: &[Text],
-) -> Result<Sequence<Option<NameSet>>, Memory>
-    ensures { IfOk result (λ sources. sources ≡ map (projects_under (view tenant.now)) connections.now) }
+) -> Result<Sequence<Option<ProjectSet>>, Memory>
+    ensures { IfOk result (λ sources. map (option_map has_project) sources ≡ map (projects_under (view tenant.now)) connections.now) }
 {
     let mut sources = Vec::new(alloc);
     for connection in connections {
@@ -27,8 +29,12 @@ pub(crate) fn read_sources(
 }
 
 // The projects that a tenant lists under a connection, if it lists the connection.
-fn projects_at(alloc: Global, tenant: &Value, connection: &str) -> Result<Option<NameSet>, Memory>
-    ensures { IfOk result (λ projects. projects ≡ projects_under (view tenant.now) connection.now) }
+fn projects_at(
+    alloc: Global,
+    tenant: &Value,
+    connection: &str,
+) -> Result<Option<ProjectSet>, Memory>
+    ensures { IfOk result (λ projects. option_map has_project projects ≡ projects_under (view tenant.now) connection.now) }
 {
     match source_at(tenant, connection) {
         Some(source) => Ok(Some(projects_of_source(alloc, source)?)),
@@ -46,19 +52,22 @@ fn source_at<'v>(tenant: &'v Value, connection: &str) -> Option<&'v Value>
     }
 }
 
-fn projects_of_source(alloc: Global, source: &Value) -> Result<NameSet, Memory>
-    ensures { IfOk result (λ projects. projects ≡ projects_in (view source.now)) }
+fn projects_of_source(alloc: Global, source: &Value) -> Result<ProjectSet, Memory>
+    ensures { IfOk result (λ projects. has_project projects ≡ is_among (projects_in (view source.now))) }
 {
-    let mut projects = NameSet::new(alloc);
-    add_projects(
+    let names = names_of_source(alloc, source)?;
+    ProjectSet::new(alloc, names)
+}
+
+fn names_of_source(alloc: Global, source: &Value) -> Result<Vec<String>, Memory>
+    ensures { IfOk result (λ names. map string_bytes names.items ≡ projects_in (view source.now)) }
+{
+    let mut names = Vec::new(alloc);
+    push_projects(alloc, &mut names, items(member(source, "config-projects")))?;
+    push_projects(
         alloc,
-        &mut projects,
-        items(member(source, "config-projects")),
-    )?;
-    add_projects(
-        alloc,
-        &mut projects,
+        &mut names,
         items(member(source, "untrusted-projects")),
     )?;
-    Ok(projects)
+    Ok(names)
 }

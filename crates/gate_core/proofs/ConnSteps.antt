@@ -1,10 +1,8 @@
 -- The steps of a connection and its forwarder keep what holds.
 use Rattle.std.proofs.Common.{◌≡◌, ◌∙◌, sym, ap, refl, subst, ℕ, suc, ◌+◌, ◌≤◌, ◌<◌, List, [], ◌∷◌, ◌++◌, length, map, Bool, true, false, cond, Option, Some, None, append-nil, append_assoc, arith, add-zero, length-append, eqb-true}
-use Rattle.std.specs.Prelude.{◌&&◌, ◌||◌, ◌==◌, ◌⊎◌, count_by, is_some, option_and_then, unwrap_or}
+use Rattle.std.specs.Prelude.{◌&&◌, ◌||◌, ◌==◌, ◌⊎◌, count_by, is_some, option_and_then, option_map, unwrap_or}
 use Rattle.std.proofs.Common.{inl, inr}
 use Rattle.std.specs.Option.{option_to_list}
-use Rattle.std.specs.List.{list_any}
-use Rattle.std.specs.Str.{bytes_eq}
 use Rattle.std.proofs.lemmas.List.{map-append}
 use Rattle.gate_record.specs.declared.ids.ConnId.{ConnId}
 use Rattle.gate_record.specs.declared.ids.Stamp.{Stamp}
@@ -18,7 +16,8 @@ use Rattle.gate_record.specs.declared.transit.TenantItem.TheVariants as tenant
 use Rattle.gate_record.specs.declared.transit.PipelineItem.{PipelineItem}
 use Rattle.gate_record.specs.Reading.{reading_of}
 use Rattle.gate_config.specs.declared.config.Config.{Config}
-use Rattle.gate_config.specs.Lookups.{lists, projects_of}
+use Rattle.gate_config.specs.declared.project_set.ProjectSet.{ProjectSet}
+use Rattle.gate_config.specs.Lookups.{has_project, lists, projects_of}
 use Rattle.gate_config.specs.Selection.{is_listed, selects}
 use Rattle.gate_core.specs.declared.answer.Answer.{Answer}
 use Rattle.gate_core.specs.declared.answer.Answer.TheVariants.{Accepted, Moved}
@@ -37,13 +36,13 @@ use Rattle.gate_core.specs.Moves.{accepted_of}
 
 -- ---- what an entry brings to the tenant
 
-none_named : (projects : Option (List (List ℕ))) (test : List ℕ → Bool) → is_some projects ≡ false → list_any test (unwrap_or projects []) ≡ false
+none_named : (projects : Option ProjectSet) (test : ProjectSet → Bool) → is_some projects ≡ false → unwrap_or (option_map test projects) false ≡ false
 none_named None test e = refl
 none_named (Some names) test e = absurd (cc)
 
 unlisted : (config : Config) (project : Option (List ℕ)) → lists config 0 0 ≡ false → is_listed config 0 0 project ≡ false
 unlisted config None e = refl
-unlisted config (Some name) e = none_named (projects_of config 0 0) (λ listed. bytes_eq listed name) e
+unlisted config (Some name) e = none_named (projects_of config 0 0) (λ projects. has_project projects name) e
 
 none_reading : (config : Config) (n : ℕ) (r : Reading) → lists config 0 0 ≡ false → forwarded_reading config 0 0 n r ≡ None
 none_reading config n (reading.Event event) e = ap (λ b. cond b (Some (tenant.Event (stamped 0 n event))) None) (unlisted config event.project e)
