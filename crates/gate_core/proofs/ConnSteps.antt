@@ -25,7 +25,7 @@ use Rattle.gate_core.specs.declared.connection.Connection.{Connection}
 use Rattle.gate_core.specs.declared.tenant.Tenant.{Tenant}
 use Rattle.gate_core.specs.declared.step.Step.{Step}
 use Rattle.gate_core.specs.declared.step.Step.TheVariants.{Offer, Close, Take, Send}
-use Rattle.gate_core.specs.Delivery.{conn_id, stamped, forwarded, forwarded_entry, forwarded_reading}
+use Rattle.gate_forward.specs.Forwarding.{conn_id, stamped, forwarded, forwarded_entry, forwarded_reading}
 use Rattle.gate_core.specs.History.{History, accepted, wanted, done, numbers_from, number_where, finished, closed, is_put, is_taking}
 use Rattle.gate_core.proofs.Ends.{EndsAt, is_end, is_end_given, ends_event, ends_close}
 use Rattle.gate_core.proofs.Flow.{picked, picked_number, given_numbers, number_of_record, pick_forwarded, wanted_push}

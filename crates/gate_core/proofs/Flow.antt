@@ -17,7 +17,8 @@ use Rattle.gate_rule.specs.Rule.{meets}
 use Rattle.gate_config.specs.declared.config.Config.{Config}
 use Rattle.gate_config.specs.Lookups.{rules_of}
 use Rattle.gate_config.specs.Selection.{is_listed, selects, selects_event, selects_reading}
-use Rattle.gate_core.specs.Delivery.{conn_id, stamped, forwarded_entry, forwarded_reading, chosen, chosen_item}
+use Rattle.gate_forward.specs.Forwarding.{conn_id, stamped, forwarded_entry, forwarded_reading}
+use Rattle.gate_core.specs.Delivery.{chosen, chosen_item}
 use Rattle.gate_core.specs.History.{number_from, wanted, number_where}
 use Rattle.gate_core.proofs.Maps.{filter_map_push, filter_map-filter_map, filter_map_same, filter_map_none, enumerate_from-append}
 

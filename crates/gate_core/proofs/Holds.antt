@@ -15,7 +15,7 @@ use Rattle.gate_core.specs.declared.connection.Connection.{Connection}
 use Rattle.gate_core.specs.declared.pipeline.Pipeline.{Pipeline}
 use Rattle.gate_core.specs.declared.tenant.Tenant.{Tenant}
 use Rattle.gate_core.specs.declared.step.Step.{Step}
-use Rattle.gate_core.specs.Delivery.{forwarded}
+use Rattle.gate_forward.specs.Forwarding.{forwarded}
 use Rattle.gate_core.specs.History.{History, accepted, wanted, done, numbers_from, finished, closed, is_put, is_taking}
 use Rattle.gate_core.specs.Moves.{accepted_of}
 use Rattle.gate_core.proofs.Ends.{EndsAt, is_end, is_end_given}

@@ -21,7 +21,8 @@ use Rattle.gate_core.specs.declared.pass.Pass.{Pass}
 use Rattle.gate_core.specs.declared.tenant.Tenant.{Tenant}
 use Rattle.gate_core.specs.declared.step.Step.{Step}
 use Rattle.gate_core.specs.declared.step.Step.TheVariants.{Fetch, Match, Give, Turn}
-use Rattle.gate_core.specs.Delivery.{forwarded, chosen}
+use Rattle.gate_forward.specs.Forwarding.{forwarded}
+use Rattle.gate_core.specs.Delivery.{chosen}
 use Rattle.gate_core.specs.History.{History, accepted, wanted, done, numbers_from, number_from, finished, is_put, is_taking}
 use Rattle.gate_core.specs.Tenants.{hand_for, with_item}
 use Rattle.gate_core.proofs.ConnSteps.{moves_holds}

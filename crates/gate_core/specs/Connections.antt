@@ -10,7 +10,7 @@ use Rattle.gate_core.specs.declared.answer.Answer.TheVariants.{Accepted, Closed,
 use Rattle.gate_core.specs.declared.connection.Connection.{Connection}
 use Rattle.gate_core.specs.declared.tenant.Tenant.{Tenant}
 use Rattle.gate_core.specs.declared.TheConstants.{PLACES}
-use Rattle.gate_core.specs.Delivery.{forwarded_entry}
+use Rattle.gate_forward.specs.Forwarding.{forwarded_entry}
 
 abbrev pub fresh_connection : Connection
 fresh_connection = record { accepted = 0; closed = false; queue = []; hand = None }

@@ -115,7 +115,7 @@ pub fn send(connection: &mut Connection, tenant: &mut Tenant) -> Result<Answer, 
     }
 }
 
-ghost use Rattle.gate_core.specs.Delivery.{forwarded_entry, forwarded_reading};
+ghost use Rattle.gate_forward.specs.Forwarding.{forwarded_entry, forwarded_reading};
 ghost use Rattle.gate_record.specs.Reading.{reading_of};
 
 // What the tenant gets of an entry.

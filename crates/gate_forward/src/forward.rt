@@ -1,0 +1,217 @@
+ghost use Rattle.std.specs.Prelude.{◌≡◌, ◌==◌, ◌&&◌, [], true, false, length, is_some, None, IfErr, IfOk, OnOk};
+ghost use Rattle.gate_config.specs.Selection.{is_listed};
+ghost use Rattle.gate_forward.specs.Forwarding.{forwarded_entry, forwarded_reading, sends, sends_reading};
+ghost use Rattle.gate_forward.specs.Hands.{config_of, conn_of, empty_hand, hand_of, held, moved_out, put_back};
+ghost use Rattle.gate_record.specs.declared.reading.Reading.TheVariants as reading;
+ghost use Rattle.gate_record.specs.declared.transit.ConnEntry.TheVariants as entry;
+
+use crate::places::{Places, no_items};
+use gate_config::{Config, MAX_TENANTS};
+use gate_record::{
+    ConnId, Event, Memory, Reading, Record, Shared, Stamp, Stamped, TenantId, TenantItem,
+    read_record,
+};
+use std::alloc::{AllocFailed, Global};
+
+/// The hand of the forwarder of one connection: one entry at a time is loaded, and what each tenant gets of it is moved
+/// out, tenant by tenant in rising number. An event goes to the tenants that list its project under the connection, the
+/// end mark to those that list the connection.
+///
+/// An item that was moved out leaves its place open: [`sent`](Forward::sent) closes the place,
+/// [`unsent`](Forward::unsent) fills it again. Until then nothing else may be asked of the hand.
+#[derive(Drop)]
+pub struct Forward<'c> {
+    pub(crate) config: &'c Config,
+    pub(crate) conn: ConnId,
+    pub(crate) places: Places,
+    // Whether the end mark was loaded.
+    pub(crate) marked: bool,
+}
+
+impl<'c> Forward<'c> {
+    /// The empty hand of the forwarder of a connection. It takes no memory.
+    pub fn new(config: &'c Config, conn: ConnId) -> Forward<'c>
+        ensures config { config_of result ≡ config.entry.now }
+        ensures conn { conn_of result ≡ conn.0 }
+        ensures hand { hand_of result ≡ empty_hand }
+    {
+        Forward {
+            config,
+            conn,
+            places: Places::new(no_items()),
+            marked: false,
+        }
+    }
+
+    /// Loads a record with its number: reads it, once, and shares the event among the tenants that get it. A record that
+    /// is no event leaves the hand empty. Where memory is refused the record comes back, and all is as before.
+    pub fn load(
+        &mut self,
+        alloc: Global,
+        number: u64,
+        line: Record,
+    ) -> Result<(), AllocFailed<Record>>
+        requires empty { (hand_of self.old).items ≡ [] }
+        requires in_hand { (hand_of self.old).out ≡ None }
+        ensures config { config_of self.new ≡ config_of self.old }
+        ensures conn { conn_of self.new ≡ conn_of self.old }
+        ensures loads { OnOk result (hand_of self.new ≡ record (hand_of self.old) { items = sends (config_of self.old) (conn_of self.old) (entry.Numbered number line) }) }
+        ensures refused { IfErr result (λ refused. (self.new ≡ self.old) × (refused.value ≡ line)) }
+    {
+        match self.read(alloc, number, &line) {
+            Ok(items) => {
+                self.places = Places::new(items);
+                Ok(())
+            }
+            Err(Memory) => Err(AllocFailed { value: line }),
+        }
+    }
+
+    /// Loads the end mark of the connection, behind which nothing is loaded. It takes no memory.
+    pub fn load_end(&mut self)
+        requires empty { (hand_of self.old).items ≡ [] }
+        requires in_hand { (hand_of self.old).out ≡ None }
+        ensures config { config_of self.new ≡ config_of self.old }
+        ensures conn { conn_of self.new ≡ conn_of self.old }
+        ensures loads { hand_of self.new ≡ record { items = sends (config_of self.old) (conn_of self.old) entry.End; out = None; marked = true } }
+    {
+        self.places = Places::new(self.end_marks());
+        self.marked = true;
+    }
+
+    /// Moves the first item out, with the tenant that is to get it, and leaves its place open. Nothing comes of an empty
+    /// hand.
+    pub fn next(&mut self) -> Option<(TenantId, TenantItem)>
+        requires in_hand { (hand_of self.old).out ≡ None }
+        ensures config { config_of self.new ≡ config_of self.old }
+        ensures conn { conn_of self.new ≡ conn_of self.old }
+        ensures moves { (hand_of self.new, result) ≡ moved_out (hand_of self.old).items (hand_of self.old) }
+    {
+        self.places.next()
+    }
+
+    /// The item that was moved out was sent: its place is closed.
+    pub fn sent(&mut self)
+        requires out { is_some (hand_of self.old).out ≡ true }
+        ensures config { config_of self.new ≡ config_of self.old }
+        ensures conn { conn_of self.new ≡ conn_of self.old }
+        ensures closes { hand_of self.new ≡ record (hand_of self.old) { out = None } }
+    {
+        self.places.close();
+    }
+
+    /// The item that was moved out wasn't sent: its place gets this one, which is the first again.
+    pub fn unsent(&mut self, item: TenantItem)
+        requires out { is_some (hand_of self.old).out ≡ true }
+        ensures config { config_of self.new ≡ config_of self.old }
+        ensures conn { conn_of self.new ≡ conn_of self.old }
+        ensures fills { hand_of self.new ≡ put_back item (hand_of self.old).out (hand_of self.old) }
+    {
+        self.places.put_back(item);
+    }
+
+    /// Whether nothing is left to be sent.
+    pub fn is_empty(&self) -> bool
+        ensures { result ≡ (length (hand_of self.now).items == 0) }
+    {
+        self.places.is_empty()
+    }
+
+    /// Whether an item was moved out of which nobody said yet what became of it.
+    pub fn is_out(&self) -> bool
+        ensures { result ≡ is_some (hand_of self.now).out }
+    {
+        self.places.is_out()
+    }
+
+    /// Whether the end mark went to all that get it.
+    pub fn ended(&self) -> bool
+        requires in_hand { (hand_of self.now).out ≡ None }
+        ensures { result ≡ ((hand_of self.now).marked && (length (hand_of self.now).items == 0)) }
+    {
+        self.marked && self.places.is_empty()
+    }
+
+    // What the tenants get of a record.
+    fn read(
+        &self,
+        alloc: Global,
+        number: u64,
+        line: &Record,
+    ) -> Result<[Option<TenantItem>; MAX_TENANTS], Memory>
+        ensures { IfOk result (λ items. held 0 items ≡ sends (config_of self.now) (conn_of self.now) (entry.Numbered number line.now)) }
+    {
+        match read_record(alloc, line)? {
+            Reading::Event(event) => self.share(alloc, number, event),
+            Reading::Nothing(_) => Ok(no_items()),
+        }
+    }
+
+    // The event of a record, shared among the tenants that list its project.
+    fn share(
+        &self,
+        alloc: Global,
+        number: u64,
+        event: Event,
+    ) -> Result<[Option<TenantItem>; MAX_TENANTS], Memory>
+        ensures { IfOk result (λ items. held 0 items ≡ sends_reading (config_of self.now) (conn_of self.now) number (reading.Event event)) }
+    {
+        let event = Shared::new(alloc, event)?;
+        let mut items = no_items();
+        for tenant in 0..self.config.tenants().len() {
+            items[tenant] = self.event_for(TenantId(tenant as u32), number, &event)?;
+        }
+        Ok(items)
+    }
+
+    // The event for a tenant, if it lists the project.
+    fn event_for(
+        &self,
+        tenant: TenantId,
+        number: u64,
+        event: &Shared<Event>,
+    ) -> Result<Option<TenantItem>, Memory>
+        ensures { IfOk result (λ item. item ≡ forwarded_reading (config_of self.now) tenant.0 (conn_of self.now) number (reading.Event event.now)) }
+    {
+        if !self.is_listed(tenant, event.get()) {
+            return Ok(None);
+        }
+        let stamp = Stamp {
+            conn: self.conn,
+            number,
+        };
+        let event = event.share()?;
+        Ok(Some(TenantItem::Event(Stamped { stamp, event })))
+    }
+
+    // Whether a tenant lists the project of an event under the connection.
+    fn is_listed(&self, tenant: TenantId, event: &Event) -> bool
+        ensures { result ≡ is_listed (config_of self.now) tenant.0 (conn_of self.now) event.now.project }
+    {
+        match &event.project {
+            Some(project) => self.config.belongs(tenant, self.conn, project.as_str()),
+            None => false,
+        }
+    }
+
+    // The end mark, for the tenants that list the connection.
+    fn end_marks(&self) -> [Option<TenantItem>; MAX_TENANTS]
+        ensures { held 0 result ≡ sends (config_of self.now) (conn_of self.now) entry.End }
+    {
+        let mut items = no_items();
+        for tenant in 0..self.config.tenants().len() {
+            items[tenant] = self.end_mark_for(TenantId(tenant as u32));
+        }
+        items
+    }
+
+    // The end mark for a tenant, if it lists the connection.
+    fn end_mark_for(&self, tenant: TenantId) -> Option<TenantItem>
+        ensures { result ≡ forwarded_entry (config_of self.now) tenant.0 (conn_of self.now) entry.End }
+    {
+        if !self.config.listed(tenant, self.conn) {
+            return None;
+        }
+        Some(TenantItem::End(self.conn))
+    }
+}
