@@ -1,5 +1,10 @@
 pub mod Chunks
 pub mod Examples
 pub mod Histories
+pub mod Leaving
+pub mod Parts
+pub mod Plans
+pub mod Renewal
+pub mod Standing
 pub mod Sound
 pub mod Times

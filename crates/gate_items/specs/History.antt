@@ -22,6 +22,18 @@ after s (action ∷ actions) = after (apply s action).0 actions
 abbrev pub is_current : State → ℕ → Bool
 is_current s set = list_any (has_set set) s.items
 
+-- the action is a result of a build set that is no item's
+abbrev pub IsLate : State → Action → Type 0
+IsLate s (action.Result result) = is_current s result.set ≡ false
+IsLate s (action.Trigger key patchset jobs) = ⊥
+IsLate s (action.Manage manage) = ⊥
+
+-- the action asks for an item
+abbrev pub IsTrigger : Action → Type 0
+IsTrigger (action.Trigger key patchset jobs) = Unit {0}
+IsTrigger (action.Result result) = ⊥
+IsTrigger (action.Manage manage) = ⊥
+
 -- No two items have one build set.
 abbrev pub EachHasItsOwn : Type 0
 EachHasItsOwn = (manager : ManagerKind) (first : ℕ) (actions : List Action) (set : ℕ) → length (filter (has_set set) (after (start manager first) actions).items) ≤ 1

@@ -2,16 +2,25 @@
 #![tactic(auto)]
 
 mod action;
+mod build_set;
 mod item;
+mod items;
 mod key;
 mod laws;
+mod outcome;
+mod places;
+mod queue_items;
+mod report;
 #[cfg(test)]
 mod tests;
+mod trigger;
 
 pub use action::{Action, Discard, JobResult, Manage, Outcome};
 pub use gate_record::ManagerKind;
 pub use item::{QueueItem, Report};
+pub use items::Items;
 pub use key::Key;
 pub use laws::{
     each_item_has_its_own_build_set, late_results_change_nothing, no_build_set_comes_again,
 };
+pub use queue_items::QueueItems;

@@ -1,7 +1,27 @@
+mod causes;
+mod examples;
+mod keys;
+
 use super::*;
-use gate_record::{ConnId, Text};
-use std::alloc::Global;
+use gate_record::{ConnId, Sequence, Text};
+use std::alloc::{AllocError, Global};
+use std::process::Abort;
 use std::test::Fail;
+
+// An action on changes of connection 0.
+#[derive(Clone, Copy, Debug)]
+enum Act {
+    // A trigger without a key.
+    Keyless,
+    // A trigger of a change without a job to run.
+    Jobless(i64),
+    // A trigger of a change and its patch set, with the jobs of the table.
+    Trigger(i64, i64),
+    // A result: build set, job, success.
+    Ended(u64, &'static str, bool),
+    Dequeue(i64),
+    Reset(i64),
+}
 
 fn change(conn: u32, number: i64) -> Key {
     Key::Change {
@@ -10,53 +30,85 @@ fn change(conn: u32, number: i64) -> Key {
     }
 }
 
-fn ref_of(alloc: Global, project: &str, refname: &str, newrev: &str) -> Result<Key, Fail> {
-    Ok(Key::Ref {
-        conn: ConnId(0),
-        project: Text::copy(alloc, project)?,
-        refname: Text::copy(alloc, refname)?,
-        newrev: Text::copy(alloc, newrev)?,
+fn texts(alloc: Global, names: &[&str]) -> Result<Sequence<Text>, Fail> {
+    let mut texts = Vec::new(alloc);
+    for name in names {
+        texts.push(Text::copy(alloc, name)?)?;
+    }
+    Ok(Sequence::new(texts))
+}
+
+fn action_of(alloc: Global, jobs: &[&str], act: Act) -> Result<Action, Fail> {
+    Ok(match act {
+        Act::Keyless => Action::Trigger(None, 1, texts(alloc, jobs)?),
+        Act::Jobless(number) => Action::Trigger(Some(change(0, number)), 1, texts(alloc, &[])?),
+        Act::Trigger(number, patchset) => {
+            Action::Trigger(Some(change(0, number)), patchset, texts(alloc, jobs)?)
+        }
+        Act::Ended(set, job, success) => Action::Result(JobResult {
+            set,
+            job: Text::copy(alloc, job)?,
+            success,
+        }),
+        Act::Dequeue(number) => Action::Manage(Manage::Dequeue(change(0, number))),
+        Act::Reset(number) => Action::Manage(Manage::Reset(change(0, number))),
     })
 }
 
-#[test]
-fn changes_are_compared_field_by_field(rt: HostRuntime) -> Result<(), Fail> {
-    let key = change(0, 7);
-    for (conn, number, same) in [
-        (0, 7, true),
-        (0, 8, false),
-        (1, 7, false),
-        (0, -7, false),
-        (7, 0, false),
-    ] {
-        assert_eq!(rt; key.is_same(&change(conn, number)), same, "{conn} {number}");
+fn number_of(key: &Key) -> i64 {
+    match key {
+        Key::Change { conn: _, number } => *number,
+        _ => 0,
     }
-    assert!(rt; !key.is_same(&ref_of(rt.alloc(), "demo", "refs/heads/master", "0123")?));
+}
+
+fn word(success: bool) -> &'static str {
+    if success { "success" } else { "failure" }
+}
+
+// The items and the reports, a line each.
+fn shown(alloc: Global, items: &Items) -> Result<String, AllocError> {
+    let mut text = String::new(alloc);
+    for item in items.items() {
+        let number = number_of(&item.key);
+        let patchset = item.patchset;
+        let set = item.set;
+        text.push_str("item ")?;
+        text.push_str(format!(in alloc; "{number} {patchset} set {set}")?.as_str())?;
+        for job in item.jobs.as_slice() {
+            let name = job.0.as_str();
+            let state = job.1.map_or("waiting", |success| word(success));
+            text.push_str(format!(in alloc; " {name} {state}")?.as_str())?;
+        }
+        text.push_str("\n")?;
+    }
+    for report in items.reported() {
+        let number = number_of(&report.key);
+        let patchset = report.patchset;
+        let set = report.set;
+        let state = word(report.success);
+        text.push_str("report ")?;
+        text.push_str(format!(in alloc; "{number} {patchset} set {set} {state}\n")?.as_str())?;
+    }
+    Ok(text)
+}
+
+// Takes an action, and compares what comes of it.
+fn take(
+    rt: &impl Abort,
+    alloc: Global,
+    items: &mut Items,
+    jobs: &[&str],
+    act: Act,
+    wanted: Outcome,
+) -> Result<(), Fail> {
+    let action = action_of(alloc, jobs, act)?;
+    assert_eq!(rt; items.apply(&action)?, wanted, "{act:?}");
     Ok(())
 }
 
-#[test]
-fn refs_are_compared_field_by_field(rt: HostRuntime) -> Result<(), Fail> {
-    let key = ref_of(rt.alloc(), "demo", "refs/heads/master", "0123")?;
-    for (project, refname, newrev, same) in [
-        ("demo", "refs/heads/master", "0123", true),
-        ("Demo", "refs/heads/master", "0123", false),
-        ("demo", "refs/heads/maste", "0123", false),
-        ("demo", "refs/heads/master", "4567", false),
-        ("demo", "0123", "refs/heads/master", false),
-    ] {
-        let other = ref_of(rt.alloc(), project, refname, newrev)?;
-        assert_eq!(rt; key.is_same(&other), same, "{project} {refname} {newrev}");
-        assert_eq!(rt; other.is_same(&key), same, "{project} {refname} {newrev}");
-    }
-    assert!(rt; !key.is_same(&change(0, 7)));
-    Ok(())
-}
-
-#[test]
-fn a_copy_is_the_same(rt: HostRuntime) -> Result<(), Fail> {
-    let key = ref_of(rt.alloc(), "demo", "refs/heads/master", "0123")?;
-    assert!(rt; key.copy(rt.alloc())?.is_same(&key));
-    assert!(rt; change(3, -1).copy(rt.alloc())?.is_same(&change(3, -1)));
+// Compares the items and the reports.
+fn left(rt: &impl Abort, alloc: Global, items: &Items, wanted: &str) -> Result<(), Fail> {
+    assert_eq!(rt; shown(alloc, items)?.as_str(), wanted);
     Ok(())
 }

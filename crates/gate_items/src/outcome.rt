@@ -1,0 +1,83 @@
+ghost use Rattle.std.specs.Prelude.{◌≡◌, ◌<◌, ℕ, Bool, List, Option, option_map, map, slice_set, slice_index_or, vec_len};
+ghost use Rattle.std.specs.List.{find, list_any};
+ghost use Rattle.gate_items.specs.Machine.{has_failed, is_complete, is_first_failure, is_job, record_at, with_outcome};
+ghost use Rattle.gate_items.specs.declared.item.QueueItem.{QueueItem as Item};
+
+use crate::action::JobResult;
+use crate::item::QueueItem;
+use gate_record::{Sequence, Text};
+use std::mem;
+
+impl QueueItem {
+    // Whether a job has failed.
+    pub(crate) fn has_failed(&self) -> bool
+        ensures { result ≡ list_any has_failed self.now.jobs }
+    {
+        self.jobs.as_slice().iter().any(|job| job.1 == Some(false))
+    }
+
+    // What is known of the job of a name: nothing where there is none, and else its outcome, if it has one.
+    pub(crate) fn state_of(&self, name: &str) -> Option<Option<bool>>
+        ensures { result ≡ option_map (λ (job : List ℕ × Option Bool). job.1) (find (is_job name.now) self.now.jobs) }
+    {
+        let job = self
+            .jobs
+            .as_slice()
+            .iter()
+            .find(|job| job.0.as_str() == name)?;
+        Some(job.1)
+    }
+
+    // Whether each job has an outcome.
+    pub(crate) fn is_complete(&self) -> bool
+        ensures { result ≡ is_complete self.now }
+    {
+        self.jobs.as_slice().iter().all(|job| job.1.is_some())
+    }
+
+    // Whether this outcome is the first failure of the build set.
+    pub(crate) fn is_first_failure(&self, success: bool) -> bool
+        ensures { result ≡ is_first_failure success self.now }
+    {
+        !success && !self.has_failed()
+    }
+}
+
+// The outcome that a job has once the job of a name has one.
+fn outcome_after(job: &(Text, Option<bool>), name: &str, success: bool) -> Option<bool>
+    ensures { (job.now.0, result) ≡ record_at name.now success job.now }
+{
+    if job.0.as_str() == name {
+        Some(success)
+    } else {
+        job.1
+    }
+}
+
+// The jobs, those of a name with an outcome.
+fn recorded(
+    jobs: Sequence<(Text, Option<bool>)>,
+    name: &str,
+    success: bool,
+) -> Sequence<(Text, Option<bool>)>
+    ensures { result ≡ map (record_at name.now success) jobs }
+{
+    let mut jobs = jobs.into_vec();
+    for place in 0..jobs.len() {
+        let job = &mut jobs[place];
+        job.1 = outcome_after(job, name, success);
+    }
+    Sequence::new(jobs)
+}
+
+// Records an outcome in the item at a place, without memory.
+pub(crate) fn record_outcome(items: &mut Vec<QueueItem>, place: usize, outcome: &JobResult)
+    requires { place < vec_len items.old }
+    ensures items { (d : Item) → items.new.items ≡ slice_set items.old.items place (with_outcome outcome.now.job outcome.now.success (slice_index_or items.old.items place d)) }
+    ensures len { vec_len items.new ≡ vec_len items.old }
+{
+    let alloc = *items.allocator();
+    let item = &mut items[place];
+    let jobs = mem::replace(&mut item.jobs, Sequence::empty(alloc));
+    item.jobs = recorded(jobs, outcome.job.as_str(), outcome.success);
+}

@@ -1,0 +1,57 @@
+ghost use Rattle.std.specs.Prelude.{◌≡◌, IfOk, map};
+ghost use Rattle.gate_items.specs.Machine.{new_item};
+ghost use Rattle.gate_items.specs.Steps.{why_not};
+
+use crate::action::Discard;
+use crate::item::QueueItem;
+use crate::key::Key;
+use gate_record::{Memory, Sequence, Text};
+use std::alloc::Global;
+
+impl QueueItem {
+    // Why a trigger for the item's key is discarded, if it is.
+    pub(crate) fn why_not(&self, patchset: i64) -> Option<Discard>
+        ensures { result ≡ why_not patchset self.now.patchset }
+    {
+        if patchset == self.patchset {
+            return Some(Discard::Known);
+        }
+        if patchset < self.patchset {
+            return Some(Discard::Older);
+        }
+        None
+    }
+}
+
+// An item whose jobs have no outcome.
+pub(crate) fn new_item(
+    alloc: Global,
+    key: &Key,
+    patchset: i64,
+    set: u64,
+    names: &Sequence<Text>,
+) -> Result<QueueItem, Memory>
+    ensures { IfOk result (λ item. item ≡ new_item key.now patchset set names.now) }
+{
+    Ok(QueueItem {
+        key: key.copy(alloc)?,
+        patchset,
+        set,
+        jobs: open_jobs(alloc, names)?,
+    })
+}
+
+// A job for each name, without an outcome.
+fn open_jobs(
+    alloc: Global,
+    names: &Sequence<Text>,
+) -> Result<Sequence<(Text, Option<bool>)>, Memory>
+    ensures { IfOk result (λ jobs. jobs ≡ map (λ name. (name, None)) names.now) }
+{
+    let mut jobs = Vec::new(alloc);
+    for name in names.as_slice() {
+        let name = Text::copy(alloc, name.as_str())?;
+        jobs.push((name, None))?;
+    }
+    Ok(Sequence::new(jobs))
+}
