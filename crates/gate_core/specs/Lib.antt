@@ -12,5 +12,6 @@ pub mod Replays
 pub mod Reports
 pub mod Script
 pub mod Small
+pub mod Ways
 pub mod Worlds
 pub mod Tenants

@@ -3,6 +3,7 @@
 
 mod answer;
 mod connection;
+mod laws;
 mod output;
 mod pass;
 mod pipeline;
@@ -16,6 +17,7 @@ mod transcript;
 mod world;
 
 pub use answer::Answer;
+pub use laws::what_is_wanted_arrives;
 pub use output::report_text;
 pub use replaying::{ReplayFault, replay};
 pub use report::{ConnectionReport, EndCause, PipelineReport, RunReport};

@@ -144,9 +144,9 @@ fn sixteen_tenants_get_an_event(rt: HostRuntime) -> Result<(), Fail> {
     for number in 0..16 {
         let source = r#""source":{"eclipse":null,"gerrit":{"untrusted-projects":["demo"]}}"#;
         let comma = if number > 0 { "," } else { "" };
-        tenants.push_str(
-            format!(in alloc; "{comma}{{\"name\":\"t{number}\",{source}}}")?.as_str(),
-        )?;
+        tenants.push_str(format!(in alloc;
+            "{comma}{{\"name\":\"t{number}\",{source}}}"
+        )?.as_str())?;
     }
     let document = format!(in alloc; "{{\"tenants\":[{tenants}],\"config\":{{}}}}")?;
     let config = read_config(alloc, document.as_bytes())?;

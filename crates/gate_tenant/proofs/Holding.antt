@@ -1,0 +1,144 @@
+-- What is true after any history of calls.
+use Rattle.std.proofs.Common.{◌≡◌, ◌∙◌, refl, sym, ap, subst, ℕ, ◌<◌, ◌==◌, ◌-◌, List, [], ◌∷◌, ◌++◌, Bool, true, false, not, ◌&&◌, length, flat_map, Some, None, if◌then◌else◌, append-nil, arith}
+use Rattle.std.specs.List.{filter_map}
+use Rattle.std.specs.Option.{option_to_list}
+use Rattle.std.proofs.Math.Dec.{eqb-suc-zero}
+use Rattle.std.proofs.lemmas.List.{append_assoc}
+use Rattle.std.proofs.lemmas.List.Sums.{fold-append}
+use Rattle.gate_record.specs.declared.transit.TenantItem.{TenantItem}
+use Rattle.gate_record.specs.declared.transit.PipelineItem.TheVariants as pipeline
+use Rattle.gate_config.specs.declared.config.Config.{Config}
+use Rattle.gate_config.specs.Lookups.{pipelines_of}
+use Rattle.gate_tenant.specs.declared.TheConstants.{MAX_GATHERED}
+use Rattle.gate_tenant.specs.Dispatching.{all_marked, by_pipeline, chosen, chosen_item, holds_ends, marks_after, no_marks, with_mark}
+use Rattle.gate_tenant.specs.Histories.{EachGetsItsOwn, Happens, History, NothingIsLost, beginning, begins, comes_back, gathers, gives, item_for, items_for, matches, moves}
+use Rattle.gate_tenant.specs.States.{State, has_ended, last_marks, matched, room_of}
+use Rattle.gate_tenant.proofs.Ends.{ends_are}
+use Rattle.gate_tenant.proofs.Shares.{filter_map-append, of_items, of_marks}
+
+pub record Holds (config : Config) (t : ℕ) (h : History) : Type 0 where
+  -- the marks are those of all that was matched
+  pub marks : h.state.marks ≡ marks_after h.done no_marks
+  -- while something is gathered the hand is empty, and some end mark is missing
+  pub turn : (length h.state.gathered == 0) ≡ false → (all_marked config t h.state.marks ≡ false) × (h.state.items ≡ []) × (h.out ≡ None)
+  pub share : (p : ℕ) → p < length (pipelines_of config t) → items_for p (h.given ++ (option_to_list h.out ++ h.state.items)) ≡ chosen config t p h.done
+  pub taken : h.done ++ h.state.gathered ≡ h.taken
+
+and_true : (b : Bool) → (b && true) ≡ b
+and_true false = refl
+and_true true = refl
+
+room_empty : {A B : Type 0} (gathered : List A) (items : List B) → 0 < (if length items == 0 then MAX_GATHERED - length gathered else 0) → items ≡ []
+room_empty gathered [] h = refl
+room_empty gathered (item ∷ items) h =
+    let none : 0 < 0 = subst (λ b. 0 < (if b then MAX_GATHERED - length gathered else 0)) (eqb-suc-zero (length items)) h in
+    absurd (omega (arith, none))
+
+-- the hand is empty, so some end mark is missing
+goes_on : (config : Config) (t : ℕ) (s : State) → s.items ≡ [] → has_ended config t s ≡ false → all_marked config t s.marks ≡ false
+goes_on config t s empty e = sym (and_true (all_marked config t s.marks)) ∙ subst (λ items. (all_marked config t s.marks && (length items == 0)) ≡ false) empty e
+
+module _ (config : Config) (t : ℕ) where
+  starts : Holds config t (beginning config t)
+  starts = record {
+    marks = refl;
+    turn = λ e. absurd (cc);
+    share = λ p few. of_marks config t p (all_marked config t no_marks) few ∙ ap (λ b. if b then pipeline.End ∷ [] else []) (ends_are config t []);
+    taken = refl;
+  }
+
+  gathered : {h : History} (item : TenantItem) → Holds config t h → h.out ≡ None → 0 < room_of h.state → has_ended config t h.state ≡ false →
+      Holds config t (record h { state = record h.state { gathered = h.state.gathered ++ item ∷ [] }; taken = h.taken ++ item ∷ [] })
+  gathered {h} item was no_out room e =
+      let empty : h.state.items ≡ [] = room_empty h.state.gathered h.state.items room in
+      record {
+        marks = was.marks;
+        turn = λ some. (goes_on config t h.state empty e, empty, no_out);
+        share = was.share;
+        taken = sym (append_assoc h.done h.state.gathered (item ∷ [])) ∙ ap (λ xs. xs ++ item ∷ []) was.taken;
+      }
+
+  module _ {h : History} (was : Holds config t h) (some : (length h.state.gathered == 0) ≡ false) where
+    unmarked : all_marked config t h.state.marks ≡ false
+    unmarked = (was.turn some).0
+
+    more_marks : marks_after h.state.gathered h.state.marks ≡ marks_after (h.done ++ h.state.gathered) no_marks
+    more_marks = ap (marks_after h.state.gathered) was.marks ∙ sym (fold-append with_mark no_marks h.done h.state.gathered)
+
+    -- the end marks come if all are there now
+    now_ended : (all_marked config t (marks_after h.state.gathered h.state.marks) && not (all_marked config t h.state.marks)) ≡ holds_ends config t (h.done ++ h.state.gathered)
+    now_ended =
+        ap (λ b. all_marked config t (marks_after h.state.gathered h.state.marks) && not b) unmarked
+        ∙ and_true (all_marked config t (marks_after h.state.gathered h.state.marks))
+        ∙ ap (all_marked config t) more_marks ∙ ends_are config t (h.done ++ h.state.gathered)
+
+    missing : holds_ends config t h.done ≡ false
+    missing = sym (ends_are config t h.done) ∙ ap (all_marked config t) (sym was.marks) ∙ unmarked
+
+    -- all that was matched was given
+    given_so_far : (p : ℕ) → p < length (pipelines_of config t) → items_for p h.given ≡ filter_map (chosen_item config t p) h.done
+    given_so_far p few =
+        sym (ap (items_for p) (ap (λ o. h.given ++ (option_to_list o ++ h.state.items)) (was.turn some).2 ∙ ap (λ items. h.given ++ items) (was.turn some).1 ∙ append-nil h.given))
+        ∙ was.share p few
+        ∙ ap (λ b. filter_map (chosen_item config t p) h.done ++ (if b then pipeline.End ∷ [] else [])) missing
+        ∙ append-nil (filter_map (chosen_item config t p) h.done)
+
+    new_share : (p : ℕ) → p < length (pipelines_of config t) → items_for p (h.given ++ (option_to_list h.out ++ (matched config t h.state).items)) ≡ chosen config t p (h.done ++ h.state.gathered)
+    new_share p few =
+        let events = flat_map (by_pipeline config t) h.state.gathered in
+        let marks = last_marks config t h.state.gathered h.state.marks in
+        let ends = if holds_ends config t (h.done ++ h.state.gathered) then pipeline.End ∷ [] else [] in
+        ap (λ o. items_for p (h.given ++ (option_to_list o ++ (events ++ marks)))) (was.turn some).2
+        ∙ filter_map-append (item_for p) h.given (events ++ marks)
+        ∙ ap (λ xs. xs ++ items_for p (events ++ marks)) (given_so_far p few)
+        ∙ ap (λ xs. filter_map (chosen_item config t p) h.done ++ xs)
+        (filter_map-append (item_for p) events marks
+        ∙ ap (λ xs. xs ++ items_for p marks) (of_items config t p h.state.gathered few)
+        ∙ ap (λ xs. filter_map (chosen_item config t p) h.state.gathered ++ xs)
+        (of_marks config t p (all_marked config t (marks_after h.state.gathered h.state.marks) && not (all_marked config t h.state.marks)) few
+        ∙ ap (λ b. if b then pipeline.End ∷ [] else []) now_ended))
+        ∙ sym (append_assoc (filter_map (chosen_item config t p) h.done) (filter_map (chosen_item config t p) h.state.gathered) ends)
+        ∙ ap (λ xs. xs ++ ends) (sym (filter_map-append (chosen_item config t p) h.done h.state.gathered))
+
+    all_matched : Holds config t (record h { state = matched config t h.state; done = h.done ++ h.state.gathered })
+    all_matched = record {
+      marks = more_marks;
+      turn = λ e. absurd (cc);
+      share = new_share;
+      taken = append-nil (h.done ++ h.state.gathered) ∙ was.taken;
+    }
+
+  pub holds : {h : History} → Happens config t h → Holds config t h
+  holds begins = starts
+  holds (gathers item before no_out room e) = gathered item (holds before) no_out room e
+  holds (matches before some) = all_matched (holds before) some
+  holds (moves {h} {first} {items} before no_out is) =
+      let was = holds before in
+      record {
+        marks = was.marks;
+        turn = λ e. let none : first ∷ items ≡ [] = sym is ∙ (was.turn e).1 in absurd (cc);
+        share = λ p few. ap (λ xs. items_for p (h.given ++ xs)) (sym (ap (λ o. option_to_list o ++ h.state.items) no_out ∙ is)) ∙ was.share p few;
+        taken = was.taken;
+      }
+  holds (gives {h} {item} before out) =
+      let was = holds before in
+      record {
+        marks = was.marks;
+        turn = λ e. let none : Some item ≡ None = sym out ∙ (was.turn e).2 in absurd (cc);
+        share = λ p few. ap (items_for p) (append_assoc h.given (item ∷ []) h.state.items ∙ ap (λ o. h.given ++ (option_to_list o ++ h.state.items)) (sym out)) ∙ was.share p few;
+        taken = was.taken;
+      }
+  holds (comes_back {h} {item} before out) =
+      let was = holds before in
+      record {
+        marks = was.marks;
+        turn = λ e. let none : Some item ≡ None = sym out ∙ (was.turn e).2 in absurd (cc);
+        share = λ p few. ap (λ o. items_for p (h.given ++ (option_to_list o ++ h.state.items))) (sym out) ∙ was.share p few;
+        taken = was.taken;
+      }
+
+pub each_gets_its_own : EachGetsItsOwn
+each_gets_its_own config t p h few happens = (holds config t happens).share p few
+
+pub nothing_is_lost : NothingIsLost
+nothing_is_lost config t h happens = (holds config t happens).taken

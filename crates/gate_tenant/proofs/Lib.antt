@@ -1,0 +1,5 @@
+pub mod Ends
+pub mod Getting
+pub mod Holding
+pub mod Ranges
+pub mod Shares

@@ -1,0 +1,82 @@
+-- What a pipeline has of what was made for all.
+use Rattle.std.proofs.Common.{◌≡◌, ◌∙◌, refl, sym, ap, ℕ, zero, suc, ◌+◌, ◌<◌, ◌==◌, List, [], ◌∷◌, ◌++◌, Bool, true, false, length, map, flat_map, Option, Some, None, option_map, if◌then◌else◌, append-nil, arith}
+use Rattle.std.proofs.lemmas.Bool.{eq-eqb, eqb-true}
+use Rattle.std.specs.List.{cons_option, filter_map, range_with_len}
+use Rattle.std.specs.Option.{option_to_list}
+use Rattle.gate_record.specs.declared.ids.PipelineId.{PipelineId}
+use Rattle.gate_record.specs.declared.transit.TenantItem.{TenantItem}
+use Rattle.gate_record.specs.declared.transit.PipelineItem.{PipelineItem}
+use Rattle.gate_record.specs.declared.transit.PipelineItem.TheVariants as pipeline
+use Rattle.gate_config.specs.declared.config.Config.{Config}
+use Rattle.gate_config.specs.Lookups.{pipelines_of}
+use Rattle.gate_tenant.specs.Dispatching.{by_pipeline, chosen_item, end_marks, for_pipeline}
+use Rattle.gate_tenant.specs.Histories.{item_for, items_for}
+
+cons_option-append : {Y : Type 0} (o : Option Y) (ys zs : List Y) → cons_option o (ys ++ zs) ≡ cons_option o ys ++ zs
+cons_option-append None ys zs = refl
+cons_option-append (Some y) ys zs = refl
+
+cons_option_is : {Y : Type 0} (o : Option Y) (ys : List Y) → cons_option o ys ≡ option_to_list o ++ ys
+cons_option_is None ys = refl
+cons_option_is (Some y) ys = refl
+
+pub filter_map-append : {X Y : Type 0} (f : X → Option Y) (xs ys : List X) → filter_map f (xs ++ ys) ≡ filter_map f xs ++ filter_map f ys
+filter_map-append f [] ys = refl
+filter_map-append f (x ∷ xs) ys = ap (cons_option (f x)) (filter_map-append f xs ys) ∙ cons_option-append (f x) (filter_map f xs) (filter_map f ys)
+
+differs : (a p : ℕ) → (a ≡ p → ⊥) → (a == p) ≡ false
+differs a p other = by (a == p) refl
+  where
+    by : (b : Bool) → (a == p) ≡ b → (a == p) ≡ false
+    by true e = absurd (other (eqb-true a p e))
+    by false e = e
+
+module _ (gets : ℕ → Option PipelineItem) where
+  mine : (p q : ℕ) (o : Option PipelineItem) (rest : List (PipelineId × PipelineItem)) → (q == p) ≡ true → items_for p (cons_option (option_map (for_pipeline q) o) rest) ≡ option_to_list o ++ items_for p rest
+  mine p q None rest e = refl
+  mine p q (Some item) rest e = ap (λ b. cons_option (if b then Some item else None) (items_for p rest)) e
+
+  others : (p q : ℕ) (o : Option PipelineItem) (rest : List (PipelineId × PipelineItem)) → (q == p) ≡ false → items_for p (cons_option (option_map (for_pipeline q) o) rest) ≡ items_for p rest
+  others p q None rest e = refl
+  others p q (Some item) rest e = ap (λ b. cons_option (if b then Some item else None) (items_for p rest)) e
+
+  behind : (p a n : ℕ) → p < a → items_for p (filter_map (λ q. option_map (for_pipeline q) (gets q)) (range_with_len a n)) ≡ []
+  behind p a zero h = refl
+  behind p a (suc n) h =
+      others p a (gets a) (filter_map (λ q. option_map (for_pipeline q) (gets q)) (range_with_len (a + 1) n)) (differs a p (λ e. absurd (omega (arith, e, h))))
+      ∙ behind p (a + 1) n (omega (arith, h))
+
+  among : (p a k n : ℕ) → a + k ≡ p → k < n → items_for p (filter_map (λ q. option_map (for_pipeline q) (gets q)) (range_with_len a n)) ≡ option_to_list (gets p)
+  among p a k zero e h = absurd (omega (arith, h))
+  among p a zero (suc n) e h =
+      let at : a ≡ p = omega (arith, e) in
+      mine p a (gets a) (filter_map (λ q. option_map (for_pipeline q) (gets q)) (range_with_len (a + 1) n)) (eq-eqb a p at)
+      ∙ ap (λ xs. option_to_list (gets a) ++ xs) (behind p (a + 1) n (omega (arith, at)))
+      ∙ append-nil (option_to_list (gets a)) ∙ ap (λ q. option_to_list (gets q)) at
+  among p a (suc k) (suc n) e h =
+      others p a (gets a) (filter_map (λ q. option_map (for_pipeline q) (gets q)) (range_with_len (a + 1) n)) (differs a p (λ same. absurd (omega (arith, same, e))))
+      ∙ among p (a + 1) k n (omega (arith, e)) (omega (arith, h))
+
+-- of one item
+of_item : (config : Config) (t p : ℕ) (item : TenantItem) → p < length (pipelines_of config t) → items_for p (by_pipeline config t item) ≡ option_to_list (chosen_item config t p item)
+of_item config t p item h = among (λ q. chosen_item config t q item) p 0 p (length (pipelines_of config t)) (omega arith) h
+
+-- of a list of items
+pub of_items : (config : Config) (t p : ℕ) (items : List TenantItem) → p < length (pipelines_of config t) → items_for p (flat_map (by_pipeline config t) items) ≡ filter_map (chosen_item config t p) items
+of_items config t p [] h = refl
+of_items config t p (item ∷ items) h =
+    filter_map-append (item_for p) (by_pipeline config t item) (flat_map (by_pipeline config t) items)
+    ∙ ap (λ xs. xs ++ items_for p (flat_map (by_pipeline config t) items)) (of_item config t p item h)
+    ∙ ap (λ xs. option_to_list (chosen_item config t p item) ++ xs) (of_items config t p items h)
+    ∙ sym (cons_option_is (chosen_item config t p item) (filter_map (chosen_item config t p) items))
+
+each_has : (a n : ℕ) → map (λ p. for_pipeline p pipeline.End) (range_with_len a n) ≡ filter_map (λ q. option_map (for_pipeline q) (Some pipeline.End)) (range_with_len a n)
+each_has a zero = refl
+each_has a (suc n) = ap (λ xs. for_pipeline a pipeline.End ∷ xs) (each_has (a + 1) n)
+
+-- of the end marks, if they are there
+pub of_marks : (config : Config) (t p : ℕ) (there : Bool) → p < length (pipelines_of config t) → items_for p (if there then end_marks config t else []) ≡ (if there then pipeline.End ∷ [] else [])
+of_marks config t p false h = refl
+of_marks config t p true h =
+    ap (items_for p) (each_has 0 (length (pipelines_of config t)))
+    ∙ among (λ q. Some pipeline.End) p 0 p (length (pipelines_of config t)) (omega arith) h

@@ -1,0 +1,70 @@
+-- What pipelines get of a tenant's items.
+use Rattle.std.specs.Prelude.{ℕ, List, [], ◌∷◌, ◌++◌, Bool, true, false, not, ◌||◌, ◌==◌, Option, Some, None, fold, get_or, length, map, option_map, replicate, slice_set, if◌then◌else◌}
+use Rattle.std.specs.List.{filter_map, list_all, list_any, range_with_len}
+use Rattle.gate_record.specs.declared.ids.PipelineId.{PipelineId}
+use Rattle.gate_record.specs.declared.transit.TenantItem.{TenantItem}
+use Rattle.gate_record.specs.declared.transit.TenantItem.TheVariants as tenant
+use Rattle.gate_record.specs.declared.transit.PipelineItem.{PipelineItem}
+use Rattle.gate_record.specs.declared.transit.PipelineItem.TheVariants as pipeline
+use Rattle.gate_config.specs.declared.config.Config.{Config}
+use Rattle.gate_config.specs.declared.limits.TheConstants.{MAX_CONNECTIONS}
+use Rattle.gate_config.specs.Lookups.{connections_of, lists, pipelines_of}
+use Rattle.gate_config.specs.Selection.{selects_event}
+
+abbrev pub pipeline_id : ℕ → PipelineId
+pipeline_id p = record { 0 = p }
+
+-- what pipeline p of tenant t gets of an item: an event that it selects
+abbrev pub chosen_item : Config → ℕ → ℕ → TenantItem → Option PipelineItem
+chosen_item config t p (tenant.Event s) = if selects_event config t p s.stamp.conn.0 s.event then Some (pipeline.Event s) else None
+chosen_item config t p (tenant.End conn) = None
+
+-- the item is the end mark of connection c
+abbrev pub is_end_of : ℕ → TenantItem → Bool
+is_end_of c (tenant.Event s) = false
+is_end_of c (tenant.End conn) = conn.0 == c
+
+-- the list holds the end mark of each connection that tenant t lists
+abbrev pub holds_ends : Config → ℕ → List TenantItem → Bool
+holds_ends config t items = list_all (λ c. not (lists config t c) || list_any (is_end_of c) items) (range_with_len 0 (length (connections_of config)))
+
+-- What pipeline p of tenant t gets of a list of items: the events that it selects, in order, followed by the end mark if
+-- the list holds the end mark of each connection that the tenant lists.
+abbrev pub chosen : Config → ℕ → ℕ → List TenantItem → List PipelineItem
+chosen config t p items = filter_map (chosen_item config t p) items ++ (if holds_ends config t items then pipeline.End ∷ [] else [])
+
+-- an item for pipeline p
+abbrev pub for_pipeline : ℕ → PipelineItem → PipelineId × PipelineItem
+for_pipeline p item = (pipeline_id p, item)
+
+-- the numbers of the pipelines of tenant t
+abbrev pub numbers_of : Config → ℕ → List ℕ
+numbers_of config t = range_with_len 0 (length (pipelines_of config t))
+
+-- what the pipelines of tenant t get of an item, in rising number of the pipelines
+abbrev pub by_pipeline : Config → ℕ → TenantItem → List (PipelineId × PipelineItem)
+by_pipeline config t item = filter_map (λ p. option_map (for_pipeline p) (chosen_item config t p item)) (numbers_of config t)
+
+-- the end marks of all pipelines of tenant t, in rising number of the pipelines
+abbrev pub end_marks : Config → ℕ → List (PipelineId × PipelineItem)
+end_marks config t = map (λ p. for_pipeline p pipeline.End) (numbers_of config t)
+
+-- The marks of connections, by number: whether the connection's end mark was matched.
+abbrev pub no_marks : List Bool
+no_marks = replicate MAX_CONNECTIONS false
+
+abbrev pub with_mark : List Bool → TenantItem → List Bool
+with_mark marks (tenant.Event s) = marks
+with_mark marks (tenant.End conn) = slice_set marks conn.0 true
+
+-- the marks with those of a list of items
+abbrev pub marks_after : List TenantItem → List Bool → List Bool
+marks_after items marks = fold with_mark marks items
+
+-- tenant t doesn't list connection c, or its end mark is among these
+abbrev pub is_marked : Config → ℕ → List Bool → ℕ → Bool
+is_marked config t marks c = not (lists config t c) || get_or marks c false
+
+-- each connection that tenant t lists has its end mark among these
+abbrev pub all_marked : Config → ℕ → List Bool → Bool
+all_marked config t marks = list_all (is_marked config t marks) (range_with_len 0 (length (connections_of config)))

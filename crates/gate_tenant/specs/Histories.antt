@@ -1,0 +1,53 @@
+-- Histories of calls, and what is true of each of them.
+use Rattle.std.specs.Prelude.{◌≡◌, ◌<◌, ◌==◌, ℕ, List, [], ◌∷◌, ◌++◌, false, Option, Some, None, length, if◌then◌else◌}
+use Rattle.std.specs.List.{filter_map}
+use Rattle.std.specs.Option.{option_to_list}
+use Rattle.gate_record.specs.declared.ids.PipelineId.{PipelineId}
+use Rattle.gate_record.specs.declared.transit.TenantItem.{TenantItem}
+use Rattle.gate_record.specs.declared.transit.PipelineItem.{PipelineItem}
+use Rattle.gate_config.specs.declared.config.Config.{Config}
+use Rattle.gate_config.specs.Lookups.{pipelines_of}
+use Rattle.gate_tenant.specs.Dispatching.{chosen}
+use Rattle.gate_tenant.specs.States.{State, first_state, has_ended, matched, put_back, room_of}
+
+-- the state, and all that was gathered, matched and given so far; and the item that is out, with its pipeline
+pub record History : Type 0 where
+  pub state : State
+  pub taken : List TenantItem
+  pub done : List TenantItem
+  pub given : List (PipelineId × PipelineItem)
+  pub out : Option (PipelineId × PipelineItem)
+
+abbrev pub beginning : Config → ℕ → History
+beginning config t = record { state = first_state config t; taken = []; done = []; given = []; out = None }
+
+-- Histories of calls that went well. What isn't given comes back as it was moved out.
+pub data Happens (config : Config) (t : ℕ) : History → Type 0 where
+  begins : Happens config t (beginning config t)
+  gathers : {h : History} (item : TenantItem) → Happens config t h → h.out ≡ None → 0 < room_of h.state → has_ended config t h.state ≡ false →
+      Happens config t (record h { state = record h.state { gathered = h.state.gathered ++ item ∷ [] }; taken = h.taken ++ item ∷ [] })
+  matches : {h : History} → Happens config t h → (length h.state.gathered == 0) ≡ false →
+      Happens config t (record h { state = matched config t h.state; done = h.done ++ h.state.gathered })
+  moves : {h : History} {first : PipelineId × PipelineItem} {items : List (PipelineId × PipelineItem)} → Happens config t h → h.out ≡ None → h.state.items ≡ first ∷ items →
+      Happens config t (record h { state = record h.state { items = items; out = Some first.0 }; out = Some first })
+  gives : {h : History} {item : PipelineId × PipelineItem} → Happens config t h → h.out ≡ Some item →
+      Happens config t (record h { state = record h.state { out = None }; given = h.given ++ item ∷ []; out = None })
+  comes_back : {h : History} {item : PipelineId × PipelineItem} → Happens config t h → h.out ≡ Some item →
+      Happens config t (record h { state = put_back item.1 (Some item.0) h.state; out = None })
+
+abbrev pub item_for : ℕ → PipelineId × PipelineItem → Option PipelineItem
+item_for p item = if item.0.0 == p then Some item.1 else None
+
+-- what pipeline p has of a list of items
+abbrev pub items_for : ℕ → List (PipelineId × PipelineItem) → List PipelineItem
+items_for p items = filter_map (item_for p) items
+
+-- What was given to a pipeline, followed by its item that is out and by what the hand holds for it, is what it gets of all
+-- that was matched.
+abbrev pub EachGetsItsOwn : Type 0
+EachGetsItsOwn = (config : Config) (t p : ℕ) (h : History) → p < length (pipelines_of config t) → Happens config t h →
+    items_for p (h.given ++ (option_to_list h.out ++ h.state.items)) ≡ chosen config t p h.done
+
+-- What was matched, followed by what is gathered, is all that was taken in.
+abbrev pub NothingIsLost : Type 0
+NothingIsLost = (config : Config) (t : ℕ) (h : History) → Happens config t h → h.done ++ h.state.gathered ≡ h.taken

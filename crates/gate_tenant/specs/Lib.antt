@@ -1,0 +1,3 @@
+pub mod Dispatching
+pub mod Histories
+pub mod States

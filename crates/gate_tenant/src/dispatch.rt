@@ -1,0 +1,159 @@
+ghost use Rattle.std.specs.Prelude.{◌≡◌, ◌==◌, ◌∷◌, ◌++◌, ◌<◌, [], true, false, length, is_some, None, not, IfErr, IfOk, OnErr, OnOk};
+
+use crate::MAX_GATHERED;
+use crate::hand::Hand;
+use crate::marks::Marks;
+use crate::matching::{all_marked, match_items, push_end_marks};
+use gate_config::Config;
+use gate_record::{Memory, PipelineId, PipelineItem, TenantId, TenantItem};
+use std::alloc::{AllocFailed, Global};
+use std::collections::VecDeque;
+
+/// The dispatch of the worker of one tenant: its items are gathered, up to 256 of them, and matched together; what came
+/// of that is moved out, event by event in the order of gathering, and for each event to the pipelines that select it in
+/// rising number. When the end mark of each connection that the tenant lists was matched, the end mark of each pipeline
+/// follows as the last. A tenant that lists no connection begins with these.
+///
+/// An item that was moved out leaves its place open: [`given`](Dispatch::given) closes the place,
+/// [`ungiven`](Dispatch::ungiven) fills it again. Until then nothing else may be asked.
+#[derive(Drop)]
+pub struct Dispatch<'c> {
+    pub(crate) config: &'c Config,
+    pub(crate) tenant: TenantId,
+    pub(crate) gathered: Vec<TenantItem>,
+    pub(crate) hand: Hand,
+    pub(crate) marks: Marks,
+    /// Items are gathered while the hand is empty.
+    pub ghost in_turn: { (length gathered.items == 0) ≡ false → (hand.items.items ≡ []) × (hand.out ≡ None) },
+}
+
+impl<'c> Dispatch<'c> {
+    ghost use Rattle.gate_tenant.specs.States.{config_of, first_state, has_ended, matched, moved_out, put_back, room_of, state_of, tenant_of};
+
+    /// The dispatch of a tenant, with nothing gathered. `Memory` where the end marks of a tenant that lists no connection
+    /// find no room.
+    pub fn new(alloc: Global, config: &'c Config, tenant: TenantId) -> Result<Dispatch<'c>, Memory>
+        ensures config { IfOk result (λ dispatch. config_of dispatch ≡ config.entry.now) }
+        ensures tenant { IfOk result (λ dispatch. tenant_of dispatch ≡ tenant.0) }
+        ensures state { IfOk result (λ dispatch. state_of dispatch ≡ first_state config.entry.now tenant.0) }
+    {
+        let marks = Marks::none();
+        let mut items = VecDeque::new(alloc);
+        if all_marked(config, tenant, &marks.seen) {
+            push_end_marks(config, tenant, &mut items)?;
+        }
+        Ok(Dispatch {
+            config,
+            tenant,
+            gathered: Vec::new(alloc),
+            hand: Hand::new(items),
+            marks,
+        })
+    }
+
+    /// Gathers an item, behind those that are gathered. Where memory is refused the item comes back, and all is as
+    /// before.
+    pub fn gather(&mut self, item: TenantItem) -> Result<(), AllocFailed<TenantItem>>
+        requires in_hand { (state_of self.old).out ≡ None }
+        requires room { 0 < room_of (state_of self.old) }
+        requires goes_on { has_ended (config_of self.old) (tenant_of self.old) (state_of self.old) ≡ false }
+        ensures config { config_of self.new ≡ config_of self.old }
+        ensures tenant { tenant_of self.new ≡ tenant_of self.old }
+        ensures gathers { OnOk result (state_of self.new ≡ record (state_of self.old) { gathered = (state_of self.old).gathered ++ item ∷ [] }) }
+        ensures refused { IfErr result (λ refused. (state_of self.new ≡ state_of self.old) × (refused.value ≡ item)) }
+    {
+        self.gathered.push(item)
+    }
+
+    /// How many items may be gathered: 256 less those that are, and none while the hand isn't empty.
+    pub fn room(&self) -> usize
+        requires in_hand { (state_of self.now).out ≡ None }
+        ensures { result ≡ room_of (state_of self.now) }
+    {
+        if !self.hand.is_empty() {
+            return 0;
+        }
+        MAX_GATHERED.saturating_sub(self.gathered.len())
+    }
+
+    /// Whether something is gathered, and so can be matched.
+    pub fn has_gathered(&self) -> bool
+        ensures { result ≡ not (length (state_of self.now).gathered == 0) }
+    {
+        !self.gathered.is_empty()
+    }
+
+    /// Matches what is gathered: the hand gets what came of it. On `Memory` it stays gathered, and all is as before.
+    pub fn match_batch(&mut self, alloc: Global) -> Result<(), Memory>
+        requires gathered { (length (state_of self.old).gathered == 0) ≡ false }
+        ensures config { config_of self.new ≡ config_of self.old }
+        ensures tenant { tenant_of self.new ≡ tenant_of self.old }
+        ensures matches { OnOk result (state_of self.new ≡ matched (config_of self.old) (tenant_of self.old) (state_of self.old)) }
+        ensures refused { OnErr result (state_of self.new ≡ state_of self.old) }
+    {
+        let mut items = match_items(alloc, self.config, self.tenant, self.gathered.as_slice())?;
+        let marks = self.marks.after(self.gathered.as_slice());
+        if all_marked(self.config, self.tenant, &marks.seen)
+            && !all_marked(self.config, self.tenant, &self.marks.seen)
+        {
+            push_end_marks(self.config, self.tenant, &mut items)?;
+        }
+        self.hand = Hand::new(items);
+        self.marks = marks;
+        self.gathered.clear();
+        Ok(())
+    }
+
+    /// Moves the first item of the hand out, with the pipeline that is to get it, and leaves its place open. Nothing comes
+    /// of an empty hand.
+    pub fn next(&mut self) -> Option<(PipelineId, PipelineItem)>
+        requires in_hand { (state_of self.old).out ≡ None }
+        ensures config { config_of self.new ≡ config_of self.old }
+        ensures tenant { tenant_of self.new ≡ tenant_of self.old }
+        ensures moves { (state_of self.new, result) ≡ moved_out (state_of self.old).items (state_of self.old) }
+    {
+        self.hand.next()
+    }
+
+    /// The item that was moved out was given: its place is closed.
+    pub fn given(&mut self)
+        requires out { is_some (state_of self.old).out ≡ true }
+        ensures config { config_of self.new ≡ config_of self.old }
+        ensures tenant { tenant_of self.new ≡ tenant_of self.old }
+        ensures closes { state_of self.new ≡ record (state_of self.old) { out = None } }
+    {
+        self.hand.close();
+    }
+
+    /// The item that was moved out wasn't given: its place gets this one, which is the first again.
+    pub fn ungiven(&mut self, item: PipelineItem)
+        requires out { is_some (state_of self.old).out ≡ true }
+        ensures config { config_of self.new ≡ config_of self.old }
+        ensures tenant { tenant_of self.new ≡ tenant_of self.old }
+        ensures fills { state_of self.new ≡ put_back item (state_of self.old).out (state_of self.old) }
+    {
+        self.hand.put_back(item);
+    }
+
+    /// Whether nothing is left to be given.
+    pub fn is_empty(&self) -> bool
+        ensures { result ≡ (length (state_of self.now).items == 0) }
+    {
+        self.hand.is_empty()
+    }
+
+    /// Whether an item was moved out of which nobody said yet what became of it.
+    pub fn is_out(&self) -> bool
+        ensures { result ≡ is_some (state_of self.now).out }
+    {
+        self.hand.out.is_some()
+    }
+
+    /// Whether each end mark was matched and the hand is empty.
+    pub fn ended(&self) -> bool
+        requires in_hand { (state_of self.now).out ≡ None }
+        ensures { result ≡ has_ended (config_of self.now) (tenant_of self.now) (state_of self.now) }
+    {
+        all_marked(self.config, self.tenant, &self.marks.seen) && self.hand.is_empty()
+    }
+}

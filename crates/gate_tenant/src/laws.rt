@@ -1,0 +1,15 @@
+ghost use Rattle.gate_tenant.specs.Histories.{EachGetsItsOwn, NothingIsLost};
+
+/// What was given to a pipeline, followed by its item that is out and by what the hand holds for it, is what it gets of
+/// all that was matched, whatever calls came: the events that it selects, in order, and the end mark once each connection
+/// that the tenant lists has had its own matched.
+#[tactic(auto, using(crate::proofs::Holding::each_gets_its_own))]
+pub fn each_pipeline_gets_its_own()
+    ensures { EachGetsItsOwn }
+{}
+
+/// What was matched, followed by what is gathered, is all that was taken in, whatever calls came.
+#[tactic(auto, using(crate::proofs::Holding::nothing_is_lost))]
+pub fn nothing_that_was_gathered_is_lost()
+    ensures { NothingIsLost }
+{}

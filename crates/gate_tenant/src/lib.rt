@@ -1,0 +1,16 @@
+//! The worker of a tenant: what the tenant's items are matched to, and the hand from which its pipelines are given it.
+#![tactic(auto)]
+
+mod dispatch;
+mod hand;
+mod laws;
+mod marks;
+mod matching;
+#[cfg(test)]
+mod tests;
+
+pub use dispatch::Dispatch;
+pub use laws::{each_pipeline_gets_its_own, nothing_that_was_gathered_is_lost};
+
+/// How many items of a tenant may be gathered and matched together (this project's profile).
+pub const MAX_GATHERED: usize = 256;
