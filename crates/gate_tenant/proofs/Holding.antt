@@ -1,5 +1,5 @@
 -- What is true after any history of calls.
-use Rattle.std.proofs.Common.{◌≡◌, ◌∙◌, refl, sym, ap, subst, ℕ, ◌<◌, ◌==◌, ◌-◌, List, [], ◌∷◌, ◌++◌, Bool, true, false, not, ◌&&◌, length, flat_map, Some, None, if◌then◌else◌, append-nil, arith}
+use Rattle.std.proofs.Common.{◌≡◌, ◌∙◌, refl, sym, ap, subst, ℕ, suc, ◌<◌, ◌==◌, ◌-◌, List, [], ◌∷◌, ◌++◌, Bool, true, false, not, ◌&&◌, length, flat_map, Some, None, if◌then◌else◌, append-nil, arith}
 use Rattle.std.specs.List.{filter_map}
 use Rattle.std.specs.Option.{option_to_list}
 use Rattle.std.proofs.Math.Dec.{eqb-suc-zero}
@@ -11,7 +11,7 @@ use Rattle.gate_config.specs.declared.config.Config.{Config}
 use Rattle.gate_config.specs.Lookups.{pipelines_of}
 use Rattle.gate_tenant.specs.declared.TheConstants.{MAX_GATHERED}
 use Rattle.gate_tenant.specs.Dispatching.{all_marked, by_pipeline, chosen, chosen_item, holds_ends, marks_after, no_marks, with_mark}
-use Rattle.gate_tenant.specs.Histories.{EachGetsItsOwn, Happens, History, NothingIsLost, beginning, begins, comes_back, gathers, gives, item_for, items_for, matches, moves}
+use Rattle.gate_tenant.specs.Histories.{AllWasGiven, EachGetsItsOwn, Happens, History, NothingIsLost, beginning, begins, comes_back, gathers, gives, item_for, items_for, matches, moves}
 use Rattle.gate_tenant.specs.States.{State, has_ended, last_marks, matched, room_of}
 use Rattle.gate_tenant.proofs.Ends.{ends_are}
 use Rattle.gate_tenant.proofs.Shares.{filter_map-append, of_items, of_marks}
@@ -142,3 +142,31 @@ each_gets_its_own config t p h few happens = (holds config t happens).share p fe
 
 pub nothing_is_lost : NothingIsLost
 nothing_is_lost config t h happens = (holds config t happens).taken
+
+nil_of : {A : Type 0} (xs : List A) → (length xs == 0) ≡ true → xs ≡ []
+nil_of [] e = refl
+nil_of (x ∷ xs) e = let some : (suc (length xs) == 0) ≡ false = eqb-suc-zero (length xs) in absurd (cc)
+
+and_left : (a b : Bool) → (a && b) ≡ true → a ≡ true
+and_left false b e = e
+and_left true b e = refl
+
+and_right : (a b : Bool) → (a && b) ≡ true → b ≡ true
+and_right false b e = absurd (cc)
+and_right true b e = e
+
+none_gathered : (config : Config) (t : ℕ) (h : History) → Holds config t h → all_marked config t h.state.marks ≡ true → h.state.gathered ≡ []
+none_gathered config t h was marked = by (length h.state.gathered == 0) refl
+  where
+    by : (b : Bool) → (length h.state.gathered == 0) ≡ b → h.state.gathered ≡ []
+    by true e = nil_of h.state.gathered e
+    by false e = let missing : all_marked config t h.state.marks ≡ false = (was.turn e).0 in absurd (cc)
+
+pub all_was_given : AllWasGiven
+all_was_given config t p h few happens no_out e =
+    let was : Holds config t h = holds config t happens in
+    let marked : all_marked config t h.state.marks ≡ true = and_left (all_marked config t h.state.marks) (length h.state.items == 0) e in
+    let empty : h.state.items ≡ [] = nil_of h.state.items (and_right (all_marked config t h.state.marks) (length h.state.items == 0) e) in
+    let all : h.done ≡ h.taken = sym (append-nil h.done) ∙ ap (λ items. h.done ++ items) (sym (none_gathered config t h was marked)) ∙ was.taken in
+    ap (items_for p) (sym (ap (λ o. h.given ++ (option_to_list o ++ h.state.items)) no_out ∙ ap (λ items. h.given ++ items) empty ∙ append-nil h.given))
+    ∙ was.share p few ∙ ap (chosen config t p) all

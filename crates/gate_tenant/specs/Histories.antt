@@ -1,5 +1,5 @@
 -- Histories of calls, and what is true of each of them.
-use Rattle.std.specs.Prelude.{◌≡◌, ◌<◌, ◌==◌, ℕ, List, [], ◌∷◌, ◌++◌, false, Option, Some, None, length, if◌then◌else◌}
+use Rattle.std.specs.Prelude.{◌≡◌, ◌<◌, ◌==◌, ℕ, List, [], ◌∷◌, ◌++◌, true, false, Option, Some, None, length, if◌then◌else◌}
 use Rattle.std.specs.List.{filter_map}
 use Rattle.std.specs.Option.{option_to_list}
 use Rattle.gate_record.specs.declared.ids.PipelineId.{PipelineId}
@@ -51,3 +51,8 @@ EachGetsItsOwn = (config : Config) (t p : ℕ) (h : History) → p < length (pip
 -- What was matched, followed by what is gathered, is all that was taken in.
 abbrev pub NothingIsLost : Type 0
 NothingIsLost = (config : Config) (t : ℕ) (h : History) → Happens config t h → h.done ++ h.state.gathered ≡ h.taken
+
+-- Once it has ended, each pipeline was given what it gets of all that was taken in.
+abbrev pub AllWasGiven : Type 0
+AllWasGiven = (config : Config) (t p : ℕ) (h : History) → p < length (pipelines_of config t) → Happens config t h → h.out ≡ None → has_ended config t h.state ≡ true →
+    items_for p h.given ≡ chosen config t p h.taken

@@ -1,4 +1,4 @@
-ghost use Rattle.gate_tenant.specs.Histories.{EachGetsItsOwn, NothingIsLost};
+ghost use Rattle.gate_tenant.specs.Histories.{AllWasGiven, EachGetsItsOwn, NothingIsLost};
 
 /// What was given to a pipeline, followed by its item that is out and by what the hand holds for it, is what it gets of
 /// all that was matched, whatever calls came: the events that it selects, in order, and the end mark once each connection
@@ -12,4 +12,11 @@ pub fn each_pipeline_gets_its_own()
 #[tactic(auto, using(crate::proofs::Holding::nothing_is_lost))]
 pub fn nothing_that_was_gathered_is_lost()
     ensures { NothingIsLost }
+{}
+
+/// Once the dispatch has ended, each pipeline was given what it gets of all that was taken in, whatever calls came: its
+/// end mark is the last.
+#[tactic(auto, using(crate::proofs::Holding::all_was_given))]
+pub fn all_was_given_once_it_ended()
+    ensures { AllWasGiven }
 {}

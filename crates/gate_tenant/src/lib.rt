@@ -10,7 +10,9 @@ mod matching;
 mod tests;
 
 pub use dispatch::Dispatch;
-pub use laws::{each_pipeline_gets_its_own, nothing_that_was_gathered_is_lost};
+pub use laws::{
+    all_was_given_once_it_ended, each_pipeline_gets_its_own, nothing_that_was_gathered_is_lost,
+};
 
 /// How many items of a tenant may be gathered and matched together (this project's profile).
 pub const MAX_GATHERED: usize = 256;
