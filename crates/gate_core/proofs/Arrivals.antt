@@ -23,16 +23,16 @@ use Rattle.gate_core.specs.History.{number_from, number_where, wanted}
 use Rattle.gate_core.specs.Ways.{WantedArrive, arrives, entries_of, number_of_item, numbered}
 use Rattle.gate_core.proofs.Maps.{filter_map-append, filter_map-filter_map, filter_map_still}
 
-same_as_itself : (n : ℕ) → (n == n) ≡ true
+pub same_as_itself : (n : ℕ) → (n == n) ≡ true
 same_as_itself n = search rules
 
 module _ (config : Config) (t p c : ℕ) where
   -- the number that an item brings
-  abbrev brought : TenantItem → Option ℕ
+  abbrev pub brought : TenantItem → Option ℕ
   brought item = option_and_then (number_of_item c) (chosen_item config t p item)
 
   -- and that an entry does
-  abbrev number_brought : ConnEntry → Option ℕ
+  abbrev pub number_brought : ConnEntry → Option ℕ
   number_brought e = option_and_then brought (forwarded_entry config t c e)
 
   no_marks : (b : Bool) → filter_map (number_of_item c) (if b then pipeline.End ∷ [] else []) ≡ []
@@ -40,14 +40,15 @@ module _ (config : Config) (t p c : ℕ) where
   no_marks false = refl
 
   -- end marks have no numbers
-  by_entry : (entries : List ConnEntry) → arrives config t p c entries ≡ filter_map number_brought entries
-  by_entry entries =
-      let items = forwarded config t c entries in
+  pub by_items : (items : List TenantItem) → filter_map (number_of_item c) (chosen config t p items) ≡ filter_map brought items
+  by_items items =
       filter_map-append (number_of_item c) (filter_map (chosen_item config t p) items) (if holds_ends config t items then pipeline.End ∷ [] else [])
       ∙ ap (λ rest. filter_map (number_of_item c) (filter_map (chosen_item config t p) items) ++ rest) (no_marks (holds_ends config t items))
       ∙ append-nil (filter_map (number_of_item c) (filter_map (chosen_item config t p) items))
       ∙ filter_map-filter_map (number_of_item c) (chosen_item config t p) items
-      ∙ filter_map-filter_map brought (forwarded_entry config t c) entries
+
+  by_entry : (entries : List ConnEntry) → arrives config t p c entries ≡ filter_map number_brought entries
+  by_entry entries = by_items (forwarded config t c entries) ∙ filter_map-filter_map brought (forwarded_entry config t c) entries
 
   same_number : (n : ℕ) → number_from c (record { conn = conn_id c; number = n }) ≡ Some n
   same_number n = ap (λ b. cond b (Some n) None) (same_as_itself c)

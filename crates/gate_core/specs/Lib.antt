@@ -12,6 +12,8 @@ pub mod Replays
 pub mod Reports
 pub mod Script
 pub mod Small
+pub mod States
+pub mod Steps
 pub mod Ways
 pub mod Worlds
 pub mod Tenants

@@ -7,6 +7,7 @@ use Rattle.gate_core.specs.declared.answer.Answer.TheVariants.{Accepted, Closed,
 use Rattle.gate_core.specs.declared.step.Step.{Step}
 use Rattle.gate_core.specs.declared.step.Step.TheVariants.{Offer, Close, Take, Send, Fetch, Match, Give, Turn}
 use Rattle.gate_core.specs.declared.TheConstants.{PLACES}
+use Rattle.gate_core.specs.Steps.{first, run_from}
 use Rattle.gate_core.specs.History.{History, accepted, wanted, done, numbers_from, finished, closed, waiting}
 
 abbrev pub IsPrefixOf : List ℕ → List ℕ → Type 0
@@ -44,3 +45,9 @@ abbrev pub AnswersRightly : Config → History → History → Type 0
 AnswersRightly config before [] = Unit {0}
 AnswersRightly config before (event ∷ history) =
     IsRightAnswer config before event.0 event.1 × AnswersRightly config (before ++ event ∷ []) history
+
+-- For every configuration, with any number of connections, tenants and pipelines, and for every list of steps: what was
+-- processed is what was wanted, and offers and closes are answered by what came before them.
+pub record EveryRunDelivers : Type 0 where
+  pub delivers : (config : Config) (steps : List Step) → Delivers config (run_from config (first config) steps)
+  pub rightly : (config : Config) (steps : List Step) → AnswersRightly config [] (run_from config (first config) steps)

@@ -1,0 +1,252 @@
+-- Each step keeps what holds.
+use Rattle.std.proofs.Common.{◌≡◌, ◌∙◌, refl, sym, ap, subst, ℕ, zero, suc, ◌+◌, ◌==◌, List, [], ◌∷◌, ◌++◌, Bool, true, false, length, Option, Some, None, slice_set, arith, if◌then◌else◌}
+use Rattle.std.specs.Prelude.{◌&&◌, nat_lt, not, slice_get}
+use Rattle.std.proofs.lemmas.Bool.{ltb-true}
+use Rattle.gate_record.specs.declared.ids.ConnId.{ConnId}
+use Rattle.gate_record.specs.declared.ids.PipelineId.{PipelineId}
+use Rattle.gate_record.specs.declared.ids.TenantId.{TenantId}
+use Rattle.gate_record.specs.declared.record.Record.{Record}
+use Rattle.gate_record.specs.declared.transit.ConnEntry.{ConnEntry}
+use Rattle.gate_record.specs.declared.transit.ConnEntry.TheVariants as entry
+use Rattle.gate_record.specs.declared.transit.TenantItem.{TenantItem}
+use Rattle.gate_record.specs.declared.transit.PipelineItem.{PipelineItem}
+use Rattle.gate_record.specs.declared.transit.PipelineItem.TheVariants as item
+use Rattle.gate_config.specs.declared.config.Config.{Config}
+use Rattle.gate_tenant.specs.States.{has_ended, room_of}
+use Rattle.gate_core.specs.declared.answer.Answer.{Answer}
+use Rattle.gate_core.specs.declared.answer.Answer.TheVariants.{Accepted, Closed, Full, Idle, Moved, Passed, Turned}
+use Rattle.gate_core.specs.declared.pass.Phase.{Phase}
+use Rattle.gate_core.specs.declared.pass.Phase.TheVariants.{Management, Result, Trigger}
+use Rattle.gate_core.specs.declared.pass.Taking.TheVariants.{Value, Nothing}
+use Rattle.gate_core.specs.declared.pipeline.Pipeline.{Pipeline}
+use Rattle.gate_core.specs.declared.step.Step.{Step}
+use Rattle.gate_core.specs.declared.step.Step.TheVariants as step
+use Rattle.gate_core.specs.History.{History}
+use Rattle.gate_core.specs.Passes.{after_taking}
+use Rattle.gate_core.specs.Pipelines.{took_trigger, turned_in}
+use Rattle.gate_core.specs.States.{ConnectionState, TenantState, State}
+use Rattle.gate_core.specs.Steps.{close, fetch, fetch_from, give, give_from, give_to, match_from, match_gathered, may_gather, offer, send_from, send_of, send_to, step_of, take, take_from, turn, turn_of, with_connection, with_tenant}
+use Rattle.gate_core.proofs.Going.{closed_holds, offered_holds, taken_holds}
+use Rattle.gate_core.proofs.Holds.{quiet_closed, quiet_full, quiet_idle}
+use Rattle.gate_core.proofs.Pushes.{IsQuiet, puts_quiet, same_quiet, takes_quiet}
+use Rattle.gate_core.proofs.SendSteps.{sent_holds}
+use Rattle.gate_core.proofs.Sendings.{differs}
+use Rattle.gate_core.proofs.Streams.{ConnSame, Holds, PipeHolds, PipeSame, conn_same, conn_untouched, pipe_untouched, put_same, tenant_same}
+use Rattle.gate_core.proofs.Turning.{pipe_end, pipe_event, pipe_quiet, turn_goes}
+use Rattle.gate_core.proofs.Working.{fetched_holds, given_holds, matched_holds}
+use Rattle.gate_forward.specs.Forwarding.{forwarded}
+
+set_same : {X : Type 0} (xs : List X) (i : ℕ) (x : X) → slice_get xs i ≡ Some x → slice_set xs i x ≡ xs
+set_same [] i x e = refl
+set_same (y ∷ ys) zero x e = ap (λ z. z ∷ ys) (sym (ap (λ (o : Option _). first_or o x) e))
+  where
+    first_or : {X : Type 0} → Option X → X → X
+    first_or None d = d
+    first_or (Some z) d = z
+set_same (y ∷ ys) (suc i) x e = ap (λ zs. y ∷ zs) (set_same ys i x e)
+
+-- ---- answers that leave the state as it is
+
+pub quiet : (config : Config) (h : History) (state : State) (s : Step) (a : Answer) → IsQuiet a → Holds config h state → Holds config (h ++ (s, a) ∷ []) state
+quiet config h state s a q holds =
+    let same = same_quiet h s a q in
+    let conns : (c : ℕ) → ConnSame c h (h ++ (s, a) ∷ []) = λ c. record { accepts = same.accepts c; closes = same.closes c; puts = puts_quiet c h s a q; takes = takes_quiet c h s a q } in
+    let pipes : (t p : ℕ) → PipeSame t p h (h ++ (s, a) ∷ []) = λ t p. record { does = same.does t p; finishes = same.finishes t p } in
+    record {
+      count = holds.count;
+      conn_count = holds.conn_count;
+      conns = λ c. conn_same config h (h ++ (s, a) ∷ []) c (slice_get state.connections c) (conns c) (holds.conns c);
+      tenants = λ t ten at. tenant_same config h (h ++ (s, a) ∷ []) state.connections state.connections t ten (pipes t)
+          (λ c rest kept. kept ∙ ap (forwarded config t c) (put_same c h (h ++ (s, a) ∷ []) (conns c))) (holds.tenants t ten at);
+      others = λ t p none. ((pipes t p).does ∙ (holds.others t p none).0, (pipes t p).finishes ∙ (holds.others t p none).1);
+    }
+
+-- what holds once a step gave a state and an answer
+abbrev pub Goes : Config → History → Step → State × Answer → Type 0
+Goes config h s next = Holds config (h ++ (s, next.1) ∷ []) next.0
+
+conn_quiet : (config : Config) (h : History) (state : State) (s : Step) (a : Answer) (c : ℕ) (conn : ConnectionState) → slice_get state.connections c ≡ Some conn → IsQuiet a → Holds config h state →
+    Goes config h s (record state { connections = slice_set state.connections c conn }, a)
+conn_quiet config h state s a c conn at q holds =
+    subst (λ conns. Holds config (h ++ (s, a) ∷ []) (record state { connections = conns })) (sym (set_same state.connections c conn at)) (quiet config h state s a q holds)
+
+tenant_quiet : (config : Config) (h : History) (state : State) (s : Step) (a : Answer) (t : ℕ) (ten : TenantState) → slice_get state.tenants t ≡ Some ten → IsQuiet a → Holds config h state →
+    Goes config h s (record state { tenants = slice_set state.tenants t ten }, a)
+tenant_quiet config h state s a t ten at q holds =
+    subst (λ tens. Holds config (h ++ (s, a) ∷ []) (record state { tenants = tens })) (sym (set_same state.tenants t ten at)) (quiet config h state s a q holds)
+
+module _ (config : Config) (h : History) (state : State) (holds : Holds config h state) where
+  -- ---- connections
+
+  abbrev ConnGoes : Step → ℕ → ConnectionState × Answer → Type 0
+  ConnGoes s c next = Goes config h s (record state { connections = slice_set state.connections c next.0 }, next.1)
+
+  offer_by : (d : ConnId) (line : Record) (k : ConnectionState) → slice_get state.connections d.0 ≡ Some k → (closed room : Bool) → k.closed ≡ closed → nat_lt (length k.queue) 4096 ≡ room →
+      ConnGoes (step.Offer d line) d.0
+      (if closed then (k, Closed) else (if room then (record k { accepted = k.accepted + 1; queue = k.queue ++ entry.Numbered k.accepted line ∷ [] }, Accepted k.accepted) else (k, Full)))
+  offer_by d line k at true room e f = conn_quiet config h state (step.Offer d line) Closed d.0 k at quiet_closed holds
+  offer_by d line k at false true e f = offered_holds config h state d line k at e (ltb-true (length k.queue) 4096 f) holds
+  offer_by d line k at false false e f = conn_quiet config h state (step.Offer d line) Full d.0 k at quiet_full holds
+
+  offer_goes : (d : ConnId) (line : Record) (o : Option ConnectionState) → slice_get state.connections d.0 ≡ o → Goes config h (step.Offer d line) (with_connection (offer line) d.0 o state)
+  offer_goes d line None at = quiet config h state (step.Offer d line) Idle quiet_idle holds
+  offer_goes d line (Some k) at = offer_by d line k at k.closed (nat_lt (length k.queue) 4096) refl refl
+
+  close_by : (d : ConnId) (k : ConnectionState) → slice_get state.connections d.0 ≡ Some k → (closed room : Bool) → k.closed ≡ closed → nat_lt (length k.queue) 4096 ≡ room →
+      ConnGoes (step.Close d) d.0 (if closed then (k, Closed) else (if room then (record k { closed = true; queue = k.queue ++ entry.End ∷ [] }, Moved) else (k, Full)))
+  close_by d k at true room e f = conn_quiet config h state (step.Close d) Closed d.0 k at quiet_closed holds
+  close_by d k at false true e f = closed_holds config h state d k at e (ltb-true (length k.queue) 4096 f) holds
+  close_by d k at false false e f = conn_quiet config h state (step.Close d) Full d.0 k at quiet_full holds
+
+  close_goes : (d : ConnId) (o : Option ConnectionState) → slice_get state.connections d.0 ≡ o → Goes config h (step.Close d) (with_connection close d.0 o state)
+  close_goes d None at = quiet config h state (step.Close d) Idle quiet_idle holds
+  close_goes d (Some k) at = close_by d k at k.closed (nat_lt (length k.queue) 4096) refl refl
+
+  take_by : (d : ConnId) (k : ConnectionState) → slice_get state.connections d.0 ≡ Some k → (hand : List (TenantId × TenantItem)) (queue : List ConnEntry) → k.hand ≡ hand → k.queue ≡ queue →
+      ConnGoes (step.Take d) d.0 (take_from config d.0 hand queue k)
+  take_by d k at (first ∷ hand) queue e f = conn_quiet config h state (step.Take d) Idle d.0 k at quiet_idle holds
+  take_by d k at [] [] e f = conn_quiet config h state (step.Take d) Idle d.0 k at quiet_idle holds
+  take_by d k at [] (x ∷ queue) e f = taken_holds config h state d k x queue at e f holds
+
+  take_goes : (d : ConnId) (o : Option ConnectionState) → slice_get state.connections d.0 ≡ o → Goes config h (step.Take d) (with_connection (take config d.0) d.0 o state)
+  take_goes d None at = quiet config h state (step.Take d) Idle quiet_idle holds
+  take_goes d (Some k) at = take_by d k at k.hand k.queue refl refl
+
+  -- ---- from connections to tenants
+
+  send_by : (d : ConnId) (k : ConnectionState) (first : TenantId × TenantItem) (hand : List (TenantId × TenantItem)) → slice_get state.connections d.0 ≡ Some k → k.hand ≡ first ∷ hand →
+      (ten : TenantState) → slice_get state.tenants first.0.0 ≡ Some ten → (room : Bool) →
+      Goes config h (step.Send d) (if room then (record { connections = slice_set state.connections d.0 (record k { hand = hand }); tenants = slice_set state.tenants first.0.0 (record ten { queue = ten.queue ++ first.1 ∷ [] }) }, Moved) else (state, Full))
+  send_by d k first hand at front ten whose true = sent_holds config h state d k first hand ten at front whose holds
+  send_by d k first hand at front ten whose false = quiet config h state (step.Send d) Full quiet_full holds
+
+  send_to_goes : (d : ConnId) (k : ConnectionState) (first : TenantId × TenantItem) (hand : List (TenantId × TenantItem)) → slice_get state.connections d.0 ≡ Some k → k.hand ≡ first ∷ hand →
+      (o : Option TenantState) → slice_get state.tenants first.0.0 ≡ o → Goes config h (step.Send d) (send_to d.0 k first.0.0 first.1 hand o state)
+  send_to_goes d k first hand at front None whose = quiet config h state (step.Send d) Idle quiet_idle holds
+  send_to_goes d k first hand at front (Some ten) whose = send_by d k first hand at front ten whose (nat_lt (length ten.queue) 4096)
+
+  send_from_goes : (d : ConnId) (k : ConnectionState) → slice_get state.connections d.0 ≡ Some k → (hand : List (TenantId × TenantItem)) → k.hand ≡ hand → Goes config h (step.Send d) (send_from d.0 k hand state)
+  send_from_goes d k at [] e = quiet config h state (step.Send d) Idle quiet_idle holds
+  send_from_goes d k at (first ∷ hand) e = send_to_goes d k first hand at e (slice_get state.tenants first.0.0) refl
+
+  send_goes : (d : ConnId) (o : Option ConnectionState) → slice_get state.connections d.0 ≡ o → Goes config h (step.Send d) (send_of d.0 o state)
+  send_goes d None at = quiet config h state (step.Send d) Idle quiet_idle holds
+  send_goes d (Some k) at = send_from_goes d k at k.hand refl
+
+  -- ---- tenants
+
+  abbrev TenantGoes : Step → ℕ → TenantState × Answer → Type 0
+  TenantGoes s t next = Goes config h s (record state { tenants = slice_set state.tenants t next.0 }, next.1)
+
+  idle : (s : Step) (t : ℕ) (ten : TenantState) → slice_get state.tenants t ≡ Some ten → TenantGoes s t (ten, Idle)
+  idle s t ten at = tenant_quiet config h state s Idle t ten at quiet_idle holds
+
+  both : (a b : Bool) → (a && b) ≡ true → (a ≡ true) × (b ≡ true)
+  both true b e = (refl, e)
+  both false b e = absurd (cc)
+
+  is_not : (b : Bool) → not b ≡ true → b ≡ false
+  is_not false e = refl
+  is_not true e = absurd (cc)
+
+  fetch_by : (tid : TenantId) (n : ℕ) (ten : TenantState) → slice_get state.tenants tid.0 ≡ Some ten → (may : Bool) → ((n == 1) && may_gather config tid.0 ten) ≡ may → (queue : List TenantItem) → ten.queue ≡ queue →
+      TenantGoes (step.Fetch tid n) tid.0 (if may then fetch_from queue ten else (ten, Idle))
+  fetch_by tid n ten at false e queue f = idle (step.Fetch tid n) tid.0 ten at
+  fetch_by tid n ten at true e [] f = idle (step.Fetch tid n) tid.0 ten at
+  fetch_by tid n ten at true e (x ∷ queue) f =
+      let may = both (nat_lt 0 (room_of ten.dispatch)) (not (has_ended config tid.0 ten.dispatch)) (both (n == 1) (may_gather config tid.0 ten) e).1 in
+      fetched_holds config h state (step.Fetch tid n) Moved tid.0 ten at
+      (λ past. ((λ c. conn_untouched c past (step.Fetch tid n) Moved refl refl refl), (λ t p. pipe_untouched t p past (step.Fetch tid n) Moved refl)))
+      x queue f (ltb-true 0 (room_of ten.dispatch) may.0) (is_not (has_ended config tid.0 ten.dispatch) may.1) holds
+
+  fetch_goes : (tid : TenantId) (n : ℕ) (o : Option TenantState) → slice_get state.tenants tid.0 ≡ o → Goes config h (step.Fetch tid n) (with_tenant (fetch config tid.0 n) tid.0 o state)
+  fetch_goes tid n None at = quiet config h state (step.Fetch tid n) Idle quiet_idle holds
+  fetch_goes tid n (Some ten) at = fetch_by tid n ten at ((n == 1) && may_gather config tid.0 ten) refl ten.queue refl
+
+  match_by : (tid : TenantId) (ten : TenantState) → slice_get state.tenants tid.0 ≡ Some ten → (items : List TenantItem) → ten.dispatch.gathered ≡ items → TenantGoes (step.Match tid) tid.0 (match_from config tid.0 items ten)
+  match_by tid ten at [] e = idle (step.Match tid) tid.0 ten at
+  match_by tid ten at (x ∷ items) e =
+      matched_holds config h state (step.Match tid) Moved tid.0 ten at
+      (λ past. ((λ c. conn_untouched c past (step.Match tid) Moved refl refl refl), (λ t p. pipe_untouched t p past (step.Match tid) Moved refl)))
+      (ap (λ xs. length xs == 0) e ∙ differs (suc (length items)) 0 (λ no_such. absurd (omega (arith, no_such)))) holds
+
+  match_goes : (tid : TenantId) (o : Option TenantState) → slice_get state.tenants tid.0 ≡ o → Goes config h (step.Match tid) (with_tenant (match_gathered config tid.0) tid.0 o state)
+  match_goes tid None at = quiet config h state (step.Match tid) Idle quiet_idle holds
+  match_goes tid (Some ten) at = match_by tid ten at ten.dispatch.gathered refl
+
+  give_by : (tid : TenantId) (ten : TenantState) → slice_get state.tenants tid.0 ≡ Some ten → (first : PipelineId × PipelineItem) (hand : List (PipelineId × PipelineItem)) → ten.dispatch.items ≡ first ∷ hand →
+      (pipe : Pipeline) → slice_get ten.pipelines first.0.0 ≡ Some pipe → (room : Bool) →
+      TenantGoes (step.Give tid) tid.0
+      (if room then (record ten { dispatch = record ten.dispatch { items = hand; out = None }; pipelines = slice_set ten.pipelines first.0.0 (record pipe { queue = pipe.queue ++ first.1 ∷ [] }) }, Moved) else (ten, Full))
+  give_by tid ten at first hand front pipe whose true =
+      given_holds config h state (step.Give tid) Moved tid.0 ten at
+      (λ past. ((λ c. conn_untouched c past (step.Give tid) Moved refl refl refl), (λ t p. pipe_untouched t p past (step.Give tid) Moved refl)))
+      first hand pipe front whose holds
+  give_by tid ten at first hand front pipe whose false = tenant_quiet config h state (step.Give tid) Full tid.0 ten at quiet_full holds
+
+  give_to_goes : (tid : TenantId) (ten : TenantState) → slice_get state.tenants tid.0 ≡ Some ten → (first : PipelineId × PipelineItem) (hand : List (PipelineId × PipelineItem)) → ten.dispatch.items ≡ first ∷ hand →
+      (o : Option Pipeline) → slice_get ten.pipelines first.0.0 ≡ o → TenantGoes (step.Give tid) tid.0 (give_to first.0 first.1 hand o ten)
+  give_to_goes tid ten at first hand front None whose = idle (step.Give tid) tid.0 ten at
+  give_to_goes tid ten at first hand front (Some pipe) whose = give_by tid ten at first hand front pipe whose (nat_lt (length pipe.queue) 4096)
+
+  give_from_goes : (tid : TenantId) (ten : TenantState) → slice_get state.tenants tid.0 ≡ Some ten → (hand : List (PipelineId × PipelineItem)) → ten.dispatch.items ≡ hand → TenantGoes (step.Give tid) tid.0 (give_from hand ten)
+  give_from_goes tid ten at [] e = idle (step.Give tid) tid.0 ten at
+  give_from_goes tid ten at (first ∷ hand) e = give_to_goes tid ten at first hand e (slice_get ten.pipelines first.0.0) refl
+
+  give_goes : (tid : TenantId) (o : Option TenantState) → slice_get state.tenants tid.0 ≡ o → Goes config h (step.Give tid) (with_tenant give tid.0 o state)
+  give_goes tid None at = quiet config h state (step.Give tid) Idle quiet_idle holds
+  give_goes tid (Some ten) at = give_from_goes tid ten at ten.dispatch.items refl
+
+  -- ---- pipelines
+
+  abbrev PipeGoes : TenantId → PipelineId → TenantState → Pipeline × Answer → Type 0
+  PipeGoes tid pid ten next = TenantGoes (step.Turn tid pid) tid.0 (record ten { pipelines = slice_set ten.pipelines pid.0 next.0 }, next.1)
+
+  module _ (tid : TenantId) (pid : PipelineId) (ten : TenantState) (pipe : Pipeline) (at : slice_get state.tenants tid.0 ≡ Some ten) (whose : slice_get ten.pipelines pid.0 ≡ Some pipe) where
+    old : PipeHolds h tid.0 pid.0 (holds.tenants tid.0 ten at).past.given pipe
+    old = (holds.tenants tid.0 ten at).pipes pid.0 pipe whose
+
+    pass_goes : (next : Pipeline) (a : Answer) → IsQuiet a → next.queue ≡ pipe.queue → next.done ≡ pipe.done → next.finished ≡ pipe.finished → PipeGoes tid pid ten (next, a)
+    pass_goes next a q queue stamps ending =
+        turn_goes config h state tid pid a ten pipe next at whose holds
+        (pipe_quiet h tid.0 pid.0 tid pid a (holds.tenants tid.0 ten at).past.given pipe next q.not_processed q.not_moved queue stamps ending old)
+
+    quiet_passed : IsQuiet Passed
+    quiet_passed = record { not_accepted = refl; not_moved = refl; not_processed = refl }
+
+    trigger_goes : (queue : List PipelineItem) → pipe.queue ≡ queue → PipeGoes tid pid ten (took_trigger queue pipe)
+    trigger_goes [] e = pass_goes (record pipe { pass = after_taking pipe.pass Nothing }) Passed quiet_passed refl refl refl
+    trigger_goes (item.Event s ∷ queue) e =
+        turn_goes config h state tid pid (Turned s.stamp) ten pipe (record pipe { queue = queue; pass = after_taking pipe.pass Value; done = pipe.done ++ s.stamp ∷ [] }) at whose holds
+        (pipe_event h tid pid s queue (after_taking pipe.pass Value) (holds.tenants tid.0 ten at).past.given pipe e old)
+    trigger_goes (item.End ∷ queue) e =
+        turn_goes config h state tid pid Moved ten pipe (record pipe { queue = queue; pass = after_taking pipe.pass Value; finished = true }) at whose holds
+        (pipe_end h tid pid queue (after_taking pipe.pass Value) (holds.tenants tid.0 ten at).past.given pipe e old)
+
+    phase_goes : (phase : Phase) → PipeGoes tid pid ten (turned_in phase pipe)
+    phase_goes Management = pass_goes (record pipe { pass = after_taking pipe.pass Nothing }) Passed quiet_passed refl refl refl
+    phase_goes Result = pass_goes (record pipe { pass = after_taking pipe.pass Nothing }) Passed quiet_passed refl refl refl
+    phase_goes Trigger = trigger_goes pipe.queue refl
+
+    turned_goes : (finished : Bool) → PipeGoes tid pid ten (if finished then (pipe, Idle) else turned_in pipe.pass.phase pipe)
+    turned_goes true = pass_goes pipe Idle quiet_idle refl refl refl
+    turned_goes false = phase_goes pipe.pass.phase
+
+  turn_of_goes : (tid : TenantId) (pid : PipelineId) (ten : TenantState) → slice_get state.tenants tid.0 ≡ Some ten → (o : Option Pipeline) → slice_get ten.pipelines pid.0 ≡ o → TenantGoes (step.Turn tid pid) tid.0 (turn_of pid.0 o ten)
+  turn_of_goes tid pid ten at None whose = idle (step.Turn tid pid) tid.0 ten at
+  turn_of_goes tid pid ten at (Some pipe) whose = turned_goes tid pid ten pipe at whose pipe.finished
+
+  turn_step_goes : (tid : TenantId) (pid : PipelineId) (o : Option TenantState) → slice_get state.tenants tid.0 ≡ o → Goes config h (step.Turn tid pid) (with_tenant (turn pid.0) tid.0 o state)
+  turn_step_goes tid pid None at = quiet config h state (step.Turn tid pid) Idle quiet_idle holds
+  turn_step_goes tid pid (Some ten) at = turn_of_goes tid pid ten at (slice_get ten.pipelines pid.0) refl
+
+-- what holds, holds after a step
+pub holds_on : (config : Config) (h : History) (state : State) (s : Step) → Holds config h state → Goes config h s (step_of config state s)
+holds_on config h state (step.Offer d line) holds = offer_goes config h state holds d line (slice_get state.connections d.0) refl
+holds_on config h state (step.Close d) holds = close_goes config h state holds d (slice_get state.connections d.0) refl
+holds_on config h state (step.Take d) holds = take_goes config h state holds d (slice_get state.connections d.0) refl
+holds_on config h state (step.Send d) holds = send_goes config h state holds d (slice_get state.connections d.0) refl
+holds_on config h state (step.Fetch tid n) holds = fetch_goes config h state holds tid n (slice_get state.tenants tid.0) refl
+holds_on config h state (step.Match tid) holds = match_goes config h state holds tid (slice_get state.tenants tid.0) refl
+holds_on config h state (step.Give tid) holds = give_goes config h state holds tid (slice_get state.tenants tid.0) refl
+holds_on config h state (step.Turn tid pid) holds = turn_step_goes config h state holds tid pid (slice_get state.tenants tid.0) refl

@@ -1,0 +1,79 @@
+-- What holds in the beginning.
+use Rattle.std.proofs.Common.{◌≡◌, ◌∙◌, refl, sym, ap, subst, ℕ, zero, suc, ◌+◌, ◌<◌, List, [], ◌∷◌, ◌++◌, true, length, map, Option, Some, None, arith, add-zero}
+use Rattle.std.specs.Prelude.{slice_get, is_some}
+use Rattle.std.specs.List.{range_with_len}
+use Rattle.std.proofs.lemmas.List.{length-map}
+use Rattle.std.proofs.lemmas.List.FromFn.{length-map-range_with_len}
+use Rattle.std.proofs.lemmas.Option.{slice_get-get_or}
+use Rattle.gate_config.specs.declared.config.Config.{Config}
+use Rattle.gate_config.specs.declared.config.PipelineSpec.{PipelineSpec}
+use Rattle.gate_config.specs.Lookups.{connections_of, pipelines_of, tenants_of}
+use Rattle.gate_forward.specs.Forwarding.{forwarded}
+use Rattle.gate_tenant.specs.Histories.{begins, beginning}
+use Rattle.gate_core.specs.declared.pipeline.Pipeline.{Pipeline}
+use Rattle.gate_core.specs.Pipelines.{fresh_pipeline}
+use Rattle.gate_core.specs.States.{ConnectionState}
+use Rattle.gate_core.specs.Steps.{first, new_connection, new_tenant}
+use Rattle.gate_core.proofs.Sendings.{items_to}
+use Rattle.gate_core.proofs.Streams.{ConnHolds, Holds, PipeHolds, TenantHolds, hand_of, queue_of}
+use Rattle.gate_core.proofs.Working.{the_same}
+
+-- what is looked up where all values are the same
+pub data AllSame {X : Type 0} (x : X) : Option X → Type 0 where
+  nothing : AllSame x None
+  that : AllSame x (Some x)
+
+all_same : {X Y : Type 0} (x : X) (ys : List Y) (i : ℕ) → AllSame x (slice_get (map (λ _. x) ys) i)
+all_same x [] i = nothing
+all_same x (y ∷ ys) zero = that
+all_same x (y ∷ ys) (suc i) = all_same x ys i
+
+found_in_range : {X : Type 0} (f : ℕ → X) (a n i : ℕ) (x : X) → slice_get (map f (range_with_len a n)) i ≡ Some x → x ≡ f (a + i)
+found_in_range f a zero i x e = absurd (cc)
+found_in_range f a (suc n) zero x e = sym (the_same (f a) x e) ∙ ap f (sym (add-zero a))
+found_in_range f a (suc n) (suc i) x e = found_in_range f (a + 1) n i x e ∙ ap f (omega arith)
+
+module _ (config : Config) where
+  conns : List ConnectionState
+  conns = map (λ _. new_connection) (connections_of config)
+
+  conn_there : (c : ℕ) → c < length (connections_of config) → is_some (slice_get conns c) ≡ true
+  unfolding conns
+  conn_there c inside =
+      let long : length conns ≡ length (connections_of config) = length-map (connections_of config) (λ _. new_connection) in
+      ap is_some (slice_get-get_or conns c new_connection (omega (arith, inside, long)))
+
+  new_conn : (c : ℕ) (o : Option ConnectionState) → AllSame new_connection o → (c < length (connections_of config) → is_some o ≡ true) → ConnHolds config [] c o
+  new_conn c None nothing there = record { count = refl; closing = refl; waits = refl; within = omega arith; there = there; own = tt }
+  new_conn c (Some k) that there = record { count = refl; closing = refl; waits = refl; within = omega arith; there = there; own = tt }
+
+  nothing_put : (t c : ℕ) (o : Option ConnectionState) → AllSame new_connection o → items_to t (hand_of o) ++ forwarded config t c (queue_of o) ≡ []
+  nothing_put t c None nothing = refl
+  nothing_put t c (Some k) that = refl
+
+  new_pipe : (t p : ℕ) (pipe : Pipeline) (o : Option Pipeline) → AllSame fresh_pipeline o → o ≡ Some pipe → PipeHolds [] t p [] pipe
+  new_pipe t p pipe None nothing e = absurd (cc)
+  new_pipe t p pipe (Some q) that e = subst (PipeHolds [] t p []) (the_same fresh_pipeline pipe e) (record { taken = []; parts = refl; stamps = refl; marked = refl; does = refl; finishes = refl })
+
+  new_tenant_holds : (t : ℕ) → TenantHolds config [] conns t (new_tenant config t)
+  unfolding conns
+  new_tenant_holds t = record {
+    past = beginning config t;
+    happens = begins;
+    now = refl;
+    in_hand = refl;
+    count = length-map (pipelines_of config t) (λ (_ : PipelineSpec). fresh_pipeline);
+    pipes = λ p pipe at. new_pipe t p pipe (slice_get (map (λ _. fresh_pipeline) (pipelines_of config t)) p) (all_same fresh_pipeline (pipelines_of config t) p) at;
+    ways = λ c. nothing_put t c (slice_get conns c) (all_same new_connection (connections_of config) c);
+  }
+
+  pub first_holds : Holds config [] (first config)
+  unfolding conns
+  first_holds = record {
+    count = length-map-range_with_len (new_tenant config) 0 (length (tenants_of config));
+    conn_count = length-map (connections_of config) (λ _. new_connection);
+    conns = λ c. new_conn c (slice_get conns c) (all_same new_connection (connections_of config) c) (conn_there c);
+    tenants = λ t ten at.
+        subst (TenantHolds config [] conns t) (ap (new_tenant config) (sym (omega arith)) ∙ sym (found_in_range (new_tenant config) 0 (length (tenants_of config)) t ten at)) (new_tenant_holds t);
+    others = λ t p none. (refl, refl);
+  }

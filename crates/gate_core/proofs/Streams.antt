@@ -1,0 +1,193 @@
+-- What holds of the state of a world with any number of connections, tenants and pipelines, after any history.
+use Rattle.std.proofs.Common.{◌≡◌, ◌∙◌, refl, sym, ap, ℕ, ◌+◌, ◌<◌, ◌≤◌, ◌==◌, List, [], ◌∷◌, ◌++◌, Bool, true, false, length, Option, Some, None, cond, add-zero, append-nil}
+use Rattle.std.specs.Prelude.{◌&&◌, ◌||◌, slice_get, count_by, is_some}
+use Rattle.std.specs.Option.{option_to_list}
+use Rattle.std.specs.List.{filter, filter_map, list_any}
+use Rattle.gate_record.specs.declared.ids.Stamp.{Stamp}
+use Rattle.gate_record.specs.declared.ids.PipelineId.{PipelineId}
+use Rattle.gate_record.specs.declared.ids.TenantId.{TenantId}
+use Rattle.gate_record.specs.declared.transit.ConnEntry.{ConnEntry}
+use Rattle.gate_record.specs.declared.transit.ConnEntry.TheVariants as entry
+use Rattle.gate_record.specs.declared.transit.TenantItem.{TenantItem}
+use Rattle.gate_record.specs.declared.transit.TenantItem.TheVariants as tenant
+use Rattle.gate_record.specs.declared.transit.PipelineItem.{PipelineItem}
+use Rattle.gate_record.specs.declared.transit.PipelineItem.TheVariants as pipeline
+use Rattle.gate_config.specs.declared.config.Config.{Config}
+use Rattle.gate_config.specs.Lookups.{connections_of, pipelines_of, tenants_of}
+use Rattle.gate_forward.specs.Forwarding.{forwarded}
+use Rattle.gate_tenant.specs.Histories.{History as Past, Happens, items_for}
+use Rattle.gate_core.specs.declared.pipeline.Pipeline.{Pipeline}
+use Rattle.gate_core.specs.declared.answer.Answer.{Answer}
+use Rattle.gate_core.specs.declared.step.Step.{Step}
+use Rattle.gate_core.specs.declared.step.Step.TheVariants as step
+use Rattle.gate_core.specs.History.{History, accepted, done, finished, closed, is_put, is_taking, is_turn, is_close, is_take, is_offer, is_moved, is_accepted, offered_to, processed}
+use Rattle.gate_core.specs.States.{ConnectionState, TenantState, State}
+use Rattle.gate_core.specs.Ways.{entries_of}
+use Rattle.gate_core.proofs.Pushes.{accepted_push, closed_push, cond_none, count_push, done_push, finished_push, or_false}
+use Rattle.gate_core.proofs.Sendings.{items_to}
+
+-- ---- connections
+
+abbrev pub queue_of : Option ConnectionState → List ConnEntry
+queue_of None = []
+queue_of (Some conn) = conn.queue
+
+abbrev pub hand_of : Option ConnectionState → List (TenantId × TenantItem)
+hand_of None = []
+hand_of (Some conn) = conn.hand
+
+abbrev pub count_of : Option ConnectionState → ℕ
+count_of None = 0
+count_of (Some conn) = conn.accepted
+
+abbrev pub closed_of : Option ConnectionState → Bool
+closed_of None = false
+closed_of (Some conn) = conn.closed
+
+-- the connection of an item
+abbrev pub conn_of_item : TenantItem → ℕ
+conn_of_item (tenant.Event s) = s.stamp.conn.0
+conn_of_item (tenant.End d) = d.0
+
+abbrev pub is_from : ℕ → TenantItem → Bool
+is_from c item = conn_of_item item == c
+
+-- all items are of this connection
+abbrev pub AreOf : ℕ → List (TenantId × TenantItem) → Type 0
+AreOf c [] = Unit {0}
+AreOf c (item ∷ items) = (conn_of_item item.1 ≡ c) × AreOf c items
+
+pub record ConnHolds (config : Config) (h : History) (c : ℕ) (o : Option ConnectionState) : Type 0 where
+  pub count : count_of o ≡ length (accepted c h)
+  pub closing : closed_of o ≡ closed c h
+  pub waits : length (queue_of o) + count_by (is_taking c) h ≡ count_by (is_put c) h
+  pub within : length (queue_of o) ≤ 4096
+  pub there : c < length (connections_of config) → is_some o ≡ true
+  pub own : AreOf c (hand_of o)
+
+-- all that was put into a connection's queue
+abbrev pub mark : Bool → List ConnEntry
+mark true = entry.End ∷ []
+mark false = []
+
+abbrev pub put_by : ℕ → History → List ConnEntry
+put_by c h = entries_of (accepted c h) ++ mark (closed c h)
+
+-- ---- tenants
+
+abbrev pub stamp_in : PipelineItem → Option Stamp
+stamp_in (pipeline.Event s) = Some s.stamp
+stamp_in pipeline.End = None
+
+abbrev pub is_end : PipelineItem → Bool
+is_end (pipeline.Event s) = false
+is_end pipeline.End = true
+
+abbrev pub pipe_of : ℕ → Option TenantState → Option Pipeline
+pipe_of p None = None
+pipe_of p (Some ten) = slice_get ten.pipelines p
+
+abbrev pub pipe_at : ℕ → ℕ → State → Option Pipeline
+pipe_at t p state = pipe_of p (slice_get state.tenants t)
+
+-- what a pipeline took, and what waits for it, is what it was given
+pub record PipeHolds (h : History) (t p : ℕ) (given : List (PipelineId × PipelineItem)) (pipe : Pipeline) : Type 0 where
+  pub taken : List PipelineItem
+  pub parts : items_for p given ≡ taken ++ pipe.queue
+  pub stamps : filter_map stamp_in taken ≡ pipe.done
+  pub marked : list_any is_end taken ≡ pipe.finished
+  pub does : pipe.done ≡ done t p h
+  pub finishes : pipe.finished ≡ finished t p h
+
+-- what a tenant took of a connection, and what is on its way to it, is what is forwarded of all that was put
+pub record TenantHolds (config : Config) (h : History) (conns : List ConnectionState) (t : ℕ) (ten : TenantState) : Type 0 where
+  pub past : Past
+  pub happens : Happens config t past
+  pub now : past.state ≡ ten.dispatch
+  pub in_hand : past.out ≡ None
+  pub count : length ten.pipelines ≡ length (pipelines_of config t)
+  pub pipes : (p : ℕ) (pipe : Pipeline) → slice_get ten.pipelines p ≡ Some pipe → PipeHolds h t p past.given pipe
+  pub ways : (c : ℕ) → filter (is_from c) (past.taken ++ ten.queue) ++ (items_to t (hand_of (slice_get conns c)) ++ forwarded config t c (queue_of (slice_get conns c))) ≡ forwarded config t c (put_by c h)
+
+pub record Holds (config : Config) (h : History) (state : State) : Type 0 where
+  pub count : length state.tenants ≡ length (tenants_of config)
+  pub conn_count : length state.connections ≡ length (connections_of config)
+  pub conns : (c : ℕ) → ConnHolds config h c (slice_get state.connections c)
+  pub tenants : (t : ℕ) (ten : TenantState) → slice_get state.tenants t ≡ Some ten → TenantHolds config h state.connections t ten
+  -- nothing is processed out of range
+  pub others : (t p : ℕ) → is_some (pipe_at t p state) ≡ false → (done t p h ≡ []) × (finished t p h ≡ false)
+
+-- ---- what a step says of another connection or pipeline than its own
+
+pub record ConnSame (c : ℕ) (h h' : History) : Type 0 where
+  pub accepts : accepted c h' ≡ accepted c h
+  pub closes : closed c h' ≡ closed c h
+  pub puts : count_by (is_put c) h' ≡ count_by (is_put c) h
+  pub takes : count_by (is_taking c) h' ≡ count_by (is_taking c) h
+
+pub record PipeSame (t p : ℕ) (h h' : History) : Type 0 where
+  pub does : done t p h' ≡ done t p h
+  pub finishes : finished t p h' ≡ finished t p h
+
+no_offer : (c : ℕ) (s : Step) → is_offer c s ≡ false → offered_to c s ≡ None
+no_offer c (step.Offer d line) e = ap (λ b. cond b (Some line) None) e
+no_offer c (step.Close d) e = refl
+no_offer c (step.Take d) e = refl
+no_offer c (step.Send d) e = refl
+no_offer c (step.Fetch t n) e = refl
+no_offer c (step.Match t) e = refl
+no_offer c (step.Give t) e = refl
+no_offer c (step.Turn t p) e = refl
+
+pub conn_untouched : (c : ℕ) (h : History) (s : Step) (a : Answer) → is_offer c s ≡ false → is_close c s ≡ false → is_take c s ≡ false → ConnSame c h (h ++ (s, a) ∷ [])
+conn_untouched c h s a o k g = record {
+  accepts = accepted_push c h (s, a) ∙ ap (λ x. accepted c h ++ option_to_list (cond (is_accepted a) x None)) (no_offer c s o) ∙ ap (λ x. accepted c h ++ option_to_list x) (cond_none (is_accepted a)) ∙ append-nil (accepted c h);
+  closes = closed_push c h (s, a) ∙ ap (λ b. closed c h || ((b && is_moved a) || false)) k ∙ or_false (closed c h);
+  puts = count_push (is_put c) h (s, a) ∙ ap (λ b. count_by (is_put c) h + (0 + cond ((b && is_accepted a) || (is_close c s && is_moved a)) 1 0)) o
+      ∙ ap (λ b. count_by (is_put c) h + (0 + cond (b && is_moved a) 1 0)) k ∙ add-zero (count_by (is_put c) h);
+  takes = count_push (is_taking c) h (s, a) ∙ ap (λ b. count_by (is_taking c) h + (0 + cond (b && is_moved a) 1 0)) g ∙ add-zero (count_by (is_taking c) h);
+}
+
+pub pipe_untouched : (t p : ℕ) (h : History) (s : Step) (a : Answer) → is_turn t p s ≡ false → PipeSame t p h (h ++ (s, a) ∷ [])
+pipe_untouched t p h s a e = record {
+  does = done_push t p h (s, a) ∙ ap (λ b. done t p h ++ option_to_list (cond b (processed a) None)) e ∙ append-nil (done t p h);
+  finishes = finished_push t p h (s, a) ∙ ap (λ b. finished t p h || ((b && is_moved a) || false)) e ∙ or_false (finished t p h);
+}
+
+pub conn_same : (config : Config) (h h' : History) (c : ℕ) (o : Option ConnectionState) → ConnSame c h h' → ConnHolds config h c o → ConnHolds config h' c o
+conn_same config h h' c o same holds = record {
+  count = holds.count ∙ ap length (sym same.accepts);
+  closing = holds.closing ∙ sym same.closes;
+  waits = ap (λ n. length (queue_of o) + n) same.takes ∙ holds.waits ∙ sym same.puts;
+  within = holds.within;
+  there = holds.there;
+  own = holds.own;
+}
+
+pub put_same : (c : ℕ) (h h' : History) → ConnSame c h h' → put_by c h ≡ put_by c h'
+put_same c h h' same = λ i. entries_of (sym same.accepts i) ++ mark (sym same.closes i)
+
+pub pipe_same : (h h' : History) (t p : ℕ) (given : List (PipelineId × PipelineItem)) (pipe : Pipeline) → PipeSame t p h h' → PipeHolds h t p given pipe → PipeHolds h' t p given pipe
+pipe_same h h' t p given pipe same holds = record {
+  taken = holds.taken;
+  parts = holds.parts;
+  stamps = holds.stamps;
+  marked = holds.marked;
+  does = holds.does ∙ sym same.does;
+  finishes = holds.finishes ∙ sym same.finishes;
+}
+
+-- a tenant that the step leaves, where what the connections have for it stays the same
+pub tenant_same : (config : Config) (h h' : History) (conns conns' : List ConnectionState) (t : ℕ) (ten : TenantState) → ((p : ℕ) → PipeSame t p h h') →
+    ((c : ℕ) → (rest : List TenantItem) → rest ++ (items_to t (hand_of (slice_get conns c)) ++ forwarded config t c (queue_of (slice_get conns c))) ≡ forwarded config t c (put_by c h) →
+    rest ++ (items_to t (hand_of (slice_get conns' c)) ++ forwarded config t c (queue_of (slice_get conns' c))) ≡ forwarded config t c (put_by c h')) →
+    TenantHolds config h conns t ten → TenantHolds config h' conns' t ten
+tenant_same config h h' conns conns' t ten pipes ways holds = record {
+  past = holds.past;
+  happens = holds.happens;
+  now = holds.now;
+  in_hand = holds.in_hand;
+  count = holds.count;
+  pipes = λ p pipe at. pipe_same h h' t p holds.past.given pipe (pipes p) (holds.pipes p pipe at);
+  ways = λ c. ways c (filter (is_from c) (holds.past.taken ++ ten.queue)) (holds.ways c);
+}

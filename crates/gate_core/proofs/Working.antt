@@ -1,0 +1,172 @@
+-- The steps of a tenant keep what holds.
+use Rattle.std.proofs.Common.{◌≡◌, ◌∙◌, refl, sym, ap, subst, ℕ, ◌<◌, ◌==◌, List, [], ◌∷◌, ◌++◌, false, length, Option, Some, None, slice_set, if◌then◌else◌, append_assoc}
+use Rattle.std.specs.Prelude.{slice_get, is_some, unwrap_or}
+use Rattle.std.specs.List.{filter}
+use Rattle.std.specs.Option.{option_to_list}
+use Rattle.std.proofs.lemmas.List.{length-set}
+use Rattle.gate_record.specs.declared.ids.PipelineId.{PipelineId}
+use Rattle.gate_record.specs.declared.transit.TenantItem.{TenantItem}
+use Rattle.gate_record.specs.declared.transit.PipelineItem.{PipelineItem}
+use Rattle.gate_config.specs.declared.config.Config.{Config}
+use Rattle.gate_forward.specs.Forwarding.{forwarded}
+use Rattle.gate_tenant.specs.Histories.{gathers, gives, item_for, matches, moves}
+use Rattle.gate_tenant.specs.States.{State as DispatchState, has_ended, matched, room_of}
+use Rattle.gate_core.specs.declared.answer.Answer.{Answer}
+use Rattle.gate_core.specs.declared.pipeline.Pipeline.{Pipeline}
+use Rattle.gate_core.specs.declared.step.Step.{Step}
+use Rattle.gate_core.specs.History.{History, done, finished}
+use Rattle.gate_core.specs.States.{TenantState, State}
+use Rattle.gate_core.specs.Steps.{with_item}
+use Rattle.gate_core.proofs.Arrivals.{same_as_itself}
+use Rattle.gate_core.proofs.Maps.{filter_map_push, filter_map_still}
+use Rattle.gate_core.proofs.Sendings.{differs, items_to}
+use Rattle.gate_core.proofs.Spots.{AfterSet, after_set, another, it}
+use Rattle.gate_core.proofs.Streams.{ConnSame, Holds, PipeHolds, PipeSame, TenantHolds, conn_same, hand_of, is_from, pipe_of, pipe_same, put_same, queue_of, tenant_same}
+
+pub the_same : {X : Type 0} (x y : X) → Some x ≡ Some y → x ≡ y
+the_same x y e = ap (λ (o : Option _). unwrap_or o x) e
+
+-- a tenant that changes, where nothing else does
+module _ (config : Config) (h h' : History) (state : State) (t0 : ℕ) (ten ten' : TenantState) (at : slice_get state.tenants t0 ≡ Some ten)
+    (conns : (c : ℕ) → ConnSame c h h') (pipes : (t p : ℕ) → (t0 ≡ t → ⊥) → PipeSame t p h h') where
+  tenant_goes : (t : ℕ) (found : TenantState) → AfterSet state.tenants t0 ten' t → slice_get (slice_set state.tenants t0 ten') t ≡ Some found →
+      TenantHolds config h' state.connections t0 ten' → Holds config h state → TenantHolds config h' state.connections t found
+  tenant_goes t found (it e g) there new holds =
+      subst (TenantHolds config h' state.connections t) (the_same ten' found (sym g ∙ there)) (subst (λ n. TenantHolds config h' state.connections n ten') e new)
+  tenant_goes t found (another differ g) there new holds =
+      tenant_same config h h' state.connections state.connections t found (λ p. pipes t p differ)
+      (λ c rest kept. kept ∙ ap (forwarded config t c) (put_same c h h' (conns c)))
+      (holds.tenants t found (sym g ∙ there))
+
+  none_goes : (t p : ℕ) → AfterSet state.tenants t0 ten' t → is_some (pipe_of p (slice_get (slice_set state.tenants t0 ten') t)) ≡ false →
+      ((q : ℕ) → is_some (slice_get ten'.pipelines q) ≡ false → (done t0 q h' ≡ []) × (finished t0 q h' ≡ false)) → Holds config h state → (done t p h' ≡ []) × (finished t p h' ≡ false)
+  none_goes t p (it e g) none new holds =
+      subst (λ n. (done n p h' ≡ []) × (finished n p h' ≡ false)) e (new p (subst (λ o. is_some (pipe_of p o) ≡ false) g none))
+  none_goes t p (another differ g) none new holds =
+      let old = holds.others t p (subst (λ o. is_some (pipe_of p o) ≡ false) g none) in
+      ((pipes t p differ).does ∙ old.0, (pipes t p differ).finishes ∙ old.1)
+
+  pub tenant_goes_on : TenantHolds config h' state.connections t0 ten' → ((q : ℕ) → is_some (slice_get ten'.pipelines q) ≡ false → (done t0 q h' ≡ []) × (finished t0 q h' ≡ false)) →
+      Holds config h state → Holds config h' (record state { tenants = slice_set state.tenants t0 ten' })
+  tenant_goes_on new none holds = record {
+    count = length-set state.tenants t0 ten' ∙ holds.count;
+    conn_count = holds.conn_count;
+    conns = λ c. conn_same config h h' c (slice_get state.connections c) (conns c) (holds.conns c);
+    tenants = λ t found there. tenant_goes t found (after_set state.tenants t0 t ten ten' at) there new holds;
+    others = λ t p none'. none_goes t p (after_set state.tenants t0 t ten ten' at) none' none holds;
+  }
+
+-- a step of a tenant by which its pipelines process nothing
+abbrev IsInside : Step → Answer → Type 0
+IsInside s a = (h : History) → ((c : ℕ) → ConnSame c h (h ++ (s, a) ∷ [])) × ((t p : ℕ) → PipeSame t p h (h ++ (s, a) ∷ []))
+
+pub none_before : (config : Config) (h : History) (state : State) (t : ℕ) (ten : TenantState) → slice_get state.tenants t ≡ Some ten → Holds config h state →
+    (p : ℕ) → is_some (slice_get ten.pipelines p) ≡ false → (done t p h ≡ []) × (finished t p h ≡ false)
+none_before config h state t ten at holds p none = holds.others t p (subst (λ o. is_some (pipe_of p o) ≡ false) (sym at) none)
+
+module _ (config : Config) (h : History) (state : State) (s : Step) (a : Answer) (t : ℕ) (ten : TenantState) (at : slice_get state.tenants t ≡ Some ten) (inside : IsInside s a) where
+  abbrev h1 : History
+  h1 = h ++ (s, a) ∷ []
+
+  -- the dispatch changes, or its tenant's queue
+  dispatch_goes : (ten' : TenantState) → ten'.pipelines ≡ ten.pipelines → TenantHolds config h1 state.connections t ten' → Holds config h state →
+      Holds config h1 (record state { tenants = slice_set state.tenants t ten' })
+  dispatch_goes ten' same new holds =
+      tenant_goes_on config h h1 state t ten ten' at (inside h).0 (λ u p differ. (inside h).1 u p) new
+      (λ q none.
+      let old = none_before config h state t ten at holds q (subst (λ ps. is_some (slice_get ps q) ≡ false) same none) in
+      (((inside h).1 t q).does ∙ old.0, ((inside h).1 t q).finishes ∙ old.1)) holds
+
+  pub fetched_holds : (item : TenantItem) (queue : List TenantItem) → ten.queue ≡ item ∷ queue → 0 < room_of ten.dispatch → has_ended config t ten.dispatch ≡ false → Holds config h state →
+      Holds config h1 (record state { tenants = slice_set state.tenants t (record ten { queue = queue; dispatch = record ten.dispatch { gathered = ten.dispatch.gathered ++ item ∷ [] } }) })
+  fetched_holds item queue front room goes_on holds =
+      let old = holds.tenants t ten at in
+      dispatch_goes (record ten { queue = queue; dispatch = record ten.dispatch { gathered = ten.dispatch.gathered ++ item ∷ [] } }) refl
+      (record {
+        past = record old.past { state = record old.past.state { gathered = old.past.state.gathered ++ item ∷ [] }; taken = old.past.taken ++ item ∷ [] };
+        happens = gathers item old.happens old.in_hand (subst (λ (d : DispatchState). 0 < room_of d) (sym old.now) room) (subst (λ (d : DispatchState). has_ended config t d ≡ false) (sym old.now) goes_on);
+        now = ap (λ (d : DispatchState). record d { gathered = d.gathered ++ item ∷ [] }) old.now;
+        in_hand = old.in_hand;
+        count = old.count;
+        pipes = λ p pipe there. pipe_same h h1 t p old.past.given pipe ((inside h).1 t p) (old.pipes p pipe there);
+        ways = λ c.
+            ap (λ xs. filter (is_from c) xs ++ (items_to t (hand_of (slice_get state.connections c)) ++ forwarded config t c (queue_of (slice_get state.connections c))))
+            (append_assoc old.past.taken (item ∷ []) queue ∙ ap (λ xs. old.past.taken ++ xs) (sym front))
+            ∙ old.ways c ∙ ap (forwarded config t c) (put_same c h h1 ((inside h).0 c));
+      }) holds
+
+  pub matched_holds : (length ten.dispatch.gathered == 0) ≡ false → Holds config h state → Holds config h1 (record state { tenants = slice_set state.tenants t (record ten { dispatch = matched config t ten.dispatch }) })
+  matched_holds some holds =
+      let old = holds.tenants t ten at in
+      dispatch_goes (record ten { dispatch = matched config t ten.dispatch }) refl
+      (record {
+        past = record old.past { state = matched config t old.past.state; done = old.past.done ++ old.past.state.gathered };
+        happens = matches old.happens (subst (λ (d : DispatchState). (length d.gathered == 0) ≡ false) (sym old.now) some);
+        now = ap (matched config t) old.now;
+        in_hand = old.in_hand;
+        count = old.count;
+        pipes = λ p pipe there. pipe_same h h1 t p old.past.given pipe ((inside h).1 t p) (old.pipes p pipe there);
+        ways = λ c. old.ways c ∙ ap (forwarded config t c) (put_same c h h1 ((inside h).0 c));
+      }) holds
+
+-- the first item of the hand is given
+module _ (config : Config) (h : History) (state : State) (s : Step) (a : Answer) (t : ℕ) (ten : TenantState) (at : slice_get state.tenants t ≡ Some ten) (inside : IsInside s a)
+    (first : PipelineId × PipelineItem) (items : List (PipelineId × PipelineItem)) (pipe : Pipeline) (front : ten.dispatch.items ≡ first ∷ items) (whose : slice_get ten.pipelines first.0.0 ≡ Some pipe) where
+  abbrev pipe' : Pipeline
+  pipe' = with_item pipe first.1
+
+  abbrev after_giving : TenantState
+  after_giving = record ten { dispatch = record ten.dispatch { items = items; out = None }; pipelines = slice_set ten.pipelines first.0.0 pipe' }
+
+  for_it : (p : ℕ) → first.0.0 ≡ p → item_for p first ≡ Some first.1
+  for_it p e = subst (λ n. item_for n first ≡ Some first.1) e (ap (λ b. if b then Some first.1 else None) (same_as_itself first.0.0))
+
+  for_another : (p : ℕ) → (first.0.0 ≡ p → ⊥) → item_for p first ≡ None
+  for_another p differ = ap (λ b. if b then Some first.1 else None) (differs first.0.0 p differ)
+
+  given_pipe : (h' : History) (given : List (PipelineId × PipelineItem)) (p : ℕ) (found : Pipeline) → AfterSet ten.pipelines first.0.0 pipe' p → slice_get (slice_set ten.pipelines first.0.0 pipe') p ≡ Some found →
+      PipeSame t p h h' → ((q : ℕ) (old : Pipeline) → slice_get ten.pipelines q ≡ Some old → PipeHolds h t q given old) → PipeHolds h' t p (given ++ first ∷ []) found
+  given_pipe h' given p found (it e g) there same holds =
+      let old = holds p pipe (subst (λ n. slice_get ten.pipelines n ≡ Some pipe) e whose) in
+      subst (PipeHolds h' t p (given ++ first ∷ [])) (the_same pipe' found (sym g ∙ there))
+      (record {
+        taken = old.taken;
+        parts = filter_map_push (item_for p) given first ∙ (λ i. old.parts i ++ option_to_list (for_it p e i)) ∙ append_assoc old.taken pipe.queue (first.1 ∷ []);
+        stamps = old.stamps;
+        marked = old.marked;
+        does = old.does ∙ sym same.does;
+        finishes = old.finishes ∙ sym same.finishes;
+      })
+  given_pipe h' given p found (another differ g) there same holds =
+      let old = holds p found (sym g ∙ there) in
+      record {
+        taken = old.taken;
+        parts = filter_map_still (item_for p) given first (for_another p differ) ∙ old.parts;
+        stamps = old.stamps;
+        marked = old.marked;
+        does = old.does ∙ sym same.does;
+        finishes = old.finishes ∙ sym same.finishes;
+      }
+
+  none_given : (p : ℕ) → AfterSet ten.pipelines first.0.0 pipe' p → is_some (slice_get (slice_set ten.pipelines first.0.0 pipe') p) ≡ false → is_some (slice_get ten.pipelines p) ≡ false
+  none_given p (it e g) none = absurd (cc)
+  none_given p (another differ g) none = subst (λ o. is_some o ≡ false) g none
+
+  pub given_holds : Holds config h state → Holds config (h ++ (s, a) ∷ []) (record state { tenants = slice_set state.tenants t after_giving })
+  given_holds holds =
+      let h' = h ++ (s, a) ∷ [] in
+      let old = holds.tenants t ten at in
+      let waits : old.past.state.items ≡ first ∷ items = ap (λ (d : DispatchState). d.items) old.now ∙ front in
+      tenant_goes_on config h h' state t ten after_giving at (inside h).0 (λ u p differ. (inside h).1 u p)
+      (record {
+        past = record old.past { state = record (record old.past.state { items = items; out = Some first.0 }) { out = None }; given = old.past.given ++ first ∷ []; out = None };
+        happens = gives (moves old.happens old.in_hand waits) refl;
+        now = ap (λ (d : DispatchState). record d { items = items; out = None }) old.now;
+        in_hand = refl;
+        count = length-set ten.pipelines first.0.0 pipe' ∙ old.count;
+        pipes = λ p found there. given_pipe h' old.past.given p found (after_set ten.pipelines first.0.0 p pipe pipe' whose) there ((inside h).1 t p) old.pipes;
+        ways = λ c. old.ways c ∙ ap (forwarded config t c) (put_same c h h' ((inside h).0 c));
+      })
+      (λ q none.
+      let before = none_before config h state t ten at holds q (none_given q (after_set ten.pipelines first.0.0 q pipe pipe' whose) none) in
+      (((inside h).1 t q).does ∙ before.0, ((inside h).1 t q).finishes ∙ before.1)) holds

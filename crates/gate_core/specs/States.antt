@@ -1,0 +1,26 @@
+-- What moves in a world, as plain lists.
+use Rattle.std.specs.Prelude.{ℕ, List, Bool}
+use Rattle.gate_record.specs.declared.ids.TenantId.{TenantId}
+use Rattle.gate_record.specs.declared.transit.ConnEntry.{ConnEntry}
+use Rattle.gate_record.specs.declared.transit.TenantItem.{TenantItem}
+use Rattle.gate_tenant.specs.States.{State as DispatchState}
+use Rattle.gate_core.specs.declared.pipeline.Pipeline.{Pipeline}
+
+-- how many records a connection accepted, whether its end mark was put, what waits for its forwarder, and what the
+-- forwarder has still to send, each item with its tenant
+pub record ConnectionState : Type 0 where
+  pub accepted : ℕ
+  pub closed : Bool
+  pub queue : List ConnEntry
+  pub hand : List (TenantId × TenantItem)
+
+-- what waits for a tenant's worker, what the worker has, and the tenant's pipelines by number
+pub record TenantState : Type 0 where
+  pub queue : List TenantItem
+  pub dispatch : DispatchState
+  pub pipelines : List Pipeline
+
+-- the connections and the tenants by number
+pub record State : Type 0 where
+  pub connections : List ConnectionState
+  pub tenants : List TenantState

@@ -1,0 +1,163 @@
+-- The state after a step, and what the step answers: the core as a machine over plain lists, with any number of
+-- connections, tenants and pipelines.
+use Rattle.std.specs.Prelude.{ℕ, ◌+◌, ◌==◌, ◌&&◌, List, [], ◌∷◌, ◌++◌, Bool, true, false, not, nat_lt, length, map, Option, Some, None, slice_get, slice_set, if◌then◌else◌}
+use Rattle.std.specs.List.{range_with_len}
+use Rattle.gate_record.specs.declared.ids.PipelineId.{PipelineId}
+use Rattle.gate_record.specs.declared.ids.TenantId.{TenantId}
+use Rattle.gate_record.specs.declared.record.Record.{Record}
+use Rattle.gate_record.specs.declared.transit.ConnEntry.{ConnEntry}
+use Rattle.gate_record.specs.declared.transit.ConnEntry.TheVariants as entry
+use Rattle.gate_record.specs.declared.transit.TenantItem.{TenantItem}
+use Rattle.gate_record.specs.declared.transit.PipelineItem.{PipelineItem}
+use Rattle.gate_config.specs.declared.config.Config.{Config}
+use Rattle.gate_config.specs.Lookups.{connections_of, tenants_of, pipelines_of}
+use Rattle.gate_forward.specs.Forwarding.{sends}
+use Rattle.gate_tenant.specs.States.{first_state, has_ended, matched, room_of}
+use Rattle.gate_core.specs.declared.answer.Answer.{Answer}
+use Rattle.gate_core.specs.declared.answer.Answer.TheVariants.{Accepted, Closed, Full, Moved, Idle}
+use Rattle.gate_core.specs.declared.pipeline.Pipeline.{Pipeline}
+use Rattle.gate_core.specs.declared.step.Step.{Step}
+use Rattle.gate_core.specs.declared.step.Step.TheVariants as step
+use Rattle.gate_core.specs.declared.TheConstants.{PLACES}
+use Rattle.gate_core.specs.Pipelines.{fresh_pipeline, turned}
+use Rattle.gate_core.specs.States.{ConnectionState, TenantState, State}
+
+-- ---- the state in which nothing was offered yet
+
+abbrev pub new_connection : ConnectionState
+new_connection = record { accepted = 0; closed = false; queue = []; hand = [] }
+
+abbrev pub new_tenant : Config → ℕ → TenantState
+new_tenant config t = record { queue = []; dispatch = first_state config t; pipelines = map (λ _. fresh_pipeline) (pipelines_of config t) }
+
+abbrev pub first : Config → State
+first config = record {
+  connections = map (λ _. new_connection) (connections_of config);
+  tenants = map (new_tenant config) (range_with_len 0 (length (tenants_of config)));
+}
+
+-- ---- steps of a connection and its forwarder
+
+abbrev pub offer : Record → ConnectionState → ConnectionState × Answer
+offer line conn =
+    if conn.closed then (conn, Closed)
+    else (if nat_lt (length conn.queue) PLACES
+    then (record conn { accepted = conn.accepted + 1; queue = conn.queue ++ entry.Numbered conn.accepted line ∷ [] }, Accepted conn.accepted)
+    else (conn, Full))
+
+abbrev pub close : ConnectionState → ConnectionState × Answer
+close conn =
+    if conn.closed then (conn, Closed)
+    else (if nat_lt (length conn.queue) PLACES then (record conn { closed = true; queue = conn.queue ++ entry.End ∷ [] }, Moved) else (conn, Full))
+
+-- with these in the forwarder's hand, and these in the queue
+abbrev pub take_from : Config → ℕ → List (TenantId × TenantItem) → List ConnEntry → ConnectionState → ConnectionState × Answer
+take_from config c (item ∷ hand) queue conn = (conn, Idle)
+take_from config c [] [] conn = (conn, Idle)
+take_from config c [] (entry ∷ queue) conn = (record conn { queue = queue; hand = sends config c entry }, Moved)
+
+abbrev pub take : Config → ℕ → ConnectionState → ConnectionState × Answer
+take config c conn = take_from config c conn.hand conn.queue conn
+
+-- ---- steps of a tenant
+
+-- the tenant may gather one more item: its hand is empty, the batch isn't whole, and not all of its end marks were matched
+abbrev pub may_gather : Config → ℕ → TenantState → Bool
+may_gather config t tenant = nat_lt 0 (room_of tenant.dispatch) && not (has_ended config t tenant.dispatch)
+
+-- with these in the queue
+abbrev pub fetch_from : List TenantItem → TenantState → TenantState × Answer
+fetch_from [] tenant = (tenant, Idle)
+fetch_from (item ∷ queue) tenant = (record tenant { queue = queue; dispatch = record tenant.dispatch { gathered = tenant.dispatch.gathered ++ item ∷ [] } }, Moved)
+
+-- one item is fetched at a time, for now
+abbrev pub fetch : Config → ℕ → ℕ → TenantState → TenantState × Answer
+fetch config t count tenant = if (count == 1) && may_gather config t tenant then fetch_from tenant.queue tenant else (tenant, Idle)
+
+-- with these gathered
+abbrev pub match_from : Config → ℕ → List TenantItem → TenantState → TenantState × Answer
+match_from config t [] tenant = (tenant, Idle)
+match_from config t (item ∷ items) tenant = (record tenant { dispatch = matched config t tenant.dispatch }, Moved)
+
+abbrev pub match_gathered : Config → ℕ → TenantState → TenantState × Answer
+match_gathered config t tenant = match_from config t tenant.dispatch.gathered tenant
+
+-- the pipeline with the item at the back of its queue
+abbrev pub with_item : Pipeline → PipelineItem → Pipeline
+with_item pipeline item = record pipeline { queue = pipeline.queue ++ item ∷ [] }
+
+-- with this pipeline, whose item is the first of the hand
+abbrev pub give_to : PipelineId → PipelineItem → List (PipelineId × PipelineItem) → Option Pipeline → TenantState → TenantState × Answer
+give_to p item hand None tenant = (tenant, Idle)
+give_to p item hand (Some pipeline) tenant =
+    if nat_lt (length pipeline.queue) PLACES
+    then (record tenant { dispatch = record tenant.dispatch { items = hand; out = None }; pipelines = slice_set tenant.pipelines p.0 (with_item pipeline item) }, Moved)
+    else (tenant, Full)
+
+-- with these in the hand
+abbrev pub give_from : List (PipelineId × PipelineItem) → TenantState → TenantState × Answer
+give_from [] tenant = (tenant, Idle)
+give_from (first ∷ hand) tenant = give_to first.0 first.1 hand (slice_get tenant.pipelines first.0.0) tenant
+
+abbrev pub give : TenantState → TenantState × Answer
+give tenant = give_from tenant.dispatch.items tenant
+
+-- a turn of this pipeline, the one of number p
+abbrev pub turn_of : ℕ → Option Pipeline → TenantState → TenantState × Answer
+turn_of p None tenant = (tenant, Idle)
+turn_of p (Some pipeline) tenant = (record tenant { pipelines = slice_set tenant.pipelines p (turned pipeline).0 }, (turned pipeline).1)
+
+abbrev pub turn : ℕ → TenantState → TenantState × Answer
+turn p tenant = turn_of p (slice_get tenant.pipelines p) tenant
+
+-- ---- steps of a world; an id out of range finds nothing to do
+
+abbrev pub with_connection : (ConnectionState → ConnectionState × Answer) → ℕ → Option ConnectionState → State → State × Answer
+with_connection move c None state = (state, Idle)
+with_connection move c (Some conn) state = (record state { connections = slice_set state.connections c (move conn).0 }, (move conn).1)
+
+abbrev pub on_connection : (ConnectionState → ConnectionState × Answer) → ℕ → State → State × Answer
+on_connection move c state = with_connection move c (slice_get state.connections c) state
+
+abbrev pub with_tenant : (TenantState → TenantState × Answer) → ℕ → Option TenantState → State → State × Answer
+with_tenant move t None state = (state, Idle)
+with_tenant move t (Some tenant) state = (record state { tenants = slice_set state.tenants t (move tenant).0 }, (move tenant).1)
+
+abbrev pub on_tenant : (TenantState → TenantState × Answer) → ℕ → State → State × Answer
+on_tenant move t state = with_tenant move t (slice_get state.tenants t) state
+
+-- the item goes to the back of the tenant's queue, and the others stay in the hand
+abbrev pub send_to : ℕ → ConnectionState → ℕ → TenantItem → List (TenantId × TenantItem) → Option TenantState → State → State × Answer
+send_to c conn t item hand None state = (state, Idle)
+send_to c conn t item hand (Some tenant) state =
+    if nat_lt (length tenant.queue) PLACES
+    then (record { connections = slice_set state.connections c (record conn { hand = hand }); tenants = slice_set state.tenants t (record tenant { queue = tenant.queue ++ item ∷ [] }) }, Moved)
+    else (state, Full)
+
+-- with these in the forwarder's hand
+abbrev pub send_from : ℕ → ConnectionState → List (TenantId × TenantItem) → State → State × Answer
+send_from c conn [] state = (state, Idle)
+send_from c conn (first ∷ hand) state = send_to c conn first.0.0 first.1 hand (slice_get state.tenants first.0.0) state
+
+abbrev pub send_of : ℕ → Option ConnectionState → State → State × Answer
+send_of c None state = (state, Idle)
+send_of c (Some conn) state = send_from c conn conn.hand state
+
+abbrev pub send : ℕ → State → State × Answer
+send c state = send_of c (slice_get state.connections c) state
+
+-- the state that a step leaves, and its answer
+abbrev pub step_of : Config → State → Step → State × Answer
+step_of config state (step.Offer c line) = on_connection (offer line) c.0 state
+step_of config state (step.Close c) = on_connection close c.0 state
+step_of config state (step.Take c) = on_connection (take config c.0) c.0 state
+step_of config state (step.Send c) = send c.0 state
+step_of config state (step.Fetch t count) = on_tenant (fetch config t.0 count) t.0 state
+step_of config state (step.Match t) = on_tenant (match_gathered config t.0) t.0 state
+step_of config state (step.Give t) = on_tenant give t.0 state
+step_of config state (step.Turn t p) = on_tenant (turn p.0) t.0 state
+
+-- steps one after another, each with its answer
+abbrev pub run_from : Config → State → List Step → List (Step × Answer)
+run_from config state [] = []
+run_from config state (s ∷ steps) = (s, (step_of config state s).1) ∷ run_from config (step_of config state s).0 steps
