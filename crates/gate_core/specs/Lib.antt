@@ -11,9 +11,12 @@ pub mod Promises
 pub mod Replays
 pub mod Reports
 pub mod Script
+pub mod Sends
 pub mod Small
 pub mod States
 pub mod Steps
-pub mod Ways
-pub mod Worlds
 pub mod Tenants
+pub mod Views
+pub mod Ways
+pub mod WideWorlds
+pub mod Worlds

@@ -7,7 +7,8 @@ use Rattle.gate_core.specs.declared.answer.Answer.TheVariants.{Accepted, Closed,
 use Rattle.gate_core.specs.declared.step.Step.{Step}
 use Rattle.gate_core.specs.declared.step.Step.TheVariants.{Offer, Close, Take, Send, Fetch, Match, Give, Turn}
 use Rattle.gate_core.specs.declared.TheConstants.{PLACES}
-use Rattle.gate_core.specs.Steps.{first, run_from}
+use Rattle.gate_core.specs.Reports.{report_after, report_of}
+use Rattle.gate_core.specs.Steps.{first, left_by, run_from}
 use Rattle.gate_core.specs.History.{History, accepted, wanted, done, numbers_from, finished, closed, waiting}
 
 abbrev pub IsPrefixOf : List ℕ → List ℕ → Type 0
@@ -47,7 +48,9 @@ AnswersRightly config before (event ∷ history) =
     IsRightAnswer config before event.0 event.1 × AnswersRightly config (before ++ event ∷ []) history
 
 -- For every configuration, with any number of connections, tenants and pipelines, and for every list of steps: what was
--- processed is what was wanted, and offers and closes are answered by what came before them.
+-- processed is what was wanted, offers and closes are answered by what came before them, and the report of what is left
+-- says what happened.
 pub record EveryRunDelivers : Type 0 where
   pub delivers : (config : Config) (steps : List Step) → Delivers config (run_from config (first config) steps)
   pub rightly : (config : Config) (steps : List Step) → AnswersRightly config [] (run_from config (first config) steps)
+  pub report : (config : Config) (steps : List Step) → report_of (left_by config (first config) steps) ≡ report_after config (run_from config (first config) steps)

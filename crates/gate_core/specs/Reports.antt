@@ -15,6 +15,7 @@ use Rattle.gate_core.specs.declared.report.RunReport.{RunReport}
 use Rattle.gate_core.specs.declared.state.State.{State}
 use Rattle.gate_core.specs.declared.tenant.Tenant.{Tenant}
 use Rattle.gate_core.specs.History.{History, accepted, done, finished, closed}
+use Rattle.gate_core.specs.States.{ConnectionState, TenantState, State as Moving}
 
 abbrev pub cause_of : Bool → EndCause
 cause_of closing = if closing then Ended else Unclosed
@@ -57,3 +58,17 @@ tenants_in (Some tenant) = pipelines_in tenant.pipeline ∷ []
 
 abbrev pub report_in : State → RunReport
 report_in state = record { connections = connections_in state.connection; pipelines = tenants_in state.tenant }
+
+-- ---- the report of a state with any number of each
+
+abbrev pub connection_report : ConnectionState → ConnectionReport
+connection_report conn = record { accepted = conn.accepted; cause = cause_of conn.closed }
+
+abbrev pub pipeline_report : Pipeline → PipelineReport
+pipeline_report pipeline = record { done = pipeline.done; finished = pipeline.finished }
+
+abbrev pub tenant_report : TenantState → List PipelineReport
+tenant_report tenant = map pipeline_report tenant.pipelines
+
+abbrev pub report_of : Moving → RunReport
+report_of state = record { connections = map connection_report state.connections; pipelines = map tenant_report state.tenants }

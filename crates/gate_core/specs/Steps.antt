@@ -161,3 +161,8 @@ step_of config state (step.Turn t p) = on_tenant (turn p.0) t.0 state
 abbrev pub run_from : Config → State → List Step → List (Step × Answer)
 run_from config state [] = []
 run_from config state (s ∷ steps) = (s, (step_of config state s).1) ∷ run_from config (step_of config state s).0 steps
+
+-- the state that steps leave
+abbrev pub left_by : Config → State → List Step → State
+left_by config state [] = state
+left_by config state (s ∷ steps) = left_by config (step_of config state s).0 steps

@@ -14,6 +14,7 @@ mod state;
 mod step;
 mod tenant;
 mod transcript;
+pub mod wide;
 mod world;
 
 pub use answer::Answer;

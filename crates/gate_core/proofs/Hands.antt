@@ -1,0 +1,94 @@
+-- The hand of a connection's forwarder while one item is sent, and what becomes of it.
+use Rattle.std.proofs.Common.{◌≡◌, ◌∙◌, sym, ap, refl, ℕ, ◌<◌, ◌≤◌, List, [], ◌∷◌, ◌++◌, length, Option, Some, None, Ok, slice_set}
+use Rattle.std.specs.Prelude.{slice_get}
+use Rattle.std.proofs.lemmas.Bool.{le-ltb, lt-ltb}
+use Rattle.gate_record.specs.declared.ids.TenantId.{TenantId}
+use Rattle.gate_record.specs.declared.transit.TenantItem.{TenantItem}
+use Rattle.gate_forward.specs.Hands.{Hand, moved_out, put_back}
+use Rattle.gate_core.specs.declared.answer.Answer.TheVariants.{Full, Idle, Moved}
+use Rattle.gate_core.specs.declared.TheConstants.{PLACES}
+use Rattle.gate_core.specs.Sends.{Sends, state}
+use Rattle.gate_core.specs.States.{ConnectionState, TenantState}
+use Rattle.gate_core.specs.Steps.{send, send_from, send_of, send_to}
+use Rattle.gate_core.proofs.Elements.{written_back}
+
+abbrev Item : Type 0
+Item = TenantId × TenantItem
+
+-- what is known once the first item of the hand is out
+pub record IsOut (old new : Hand) (first : TenantId × TenantItem) : Type 0 where
+  pub items : old.items ≡ first ∷ new.items
+  pub out : new.out ≡ Some first.0
+
+out_by : (items : List Item) (old new : Hand) (first : Item) → old.items ≡ items → (new, Some first) ≡ moved_out items old → IsOut old new first
+out_by [] old new first e moves =
+    let nothing : Some first ≡ None = ap (λ (m : Hand × Option Item). m.1) moves in
+    absurd (cc)
+out_by (x ∷ xs) old new first e moves =
+    let same : new ≡ record old { items = xs; out = Some x.0 } = ap (λ (m : Hand × Option Item). m.0) moves in
+    let it : Some first ≡ Some x = ap (λ (m : Hand × Option Item). m.1) moves in
+    let one : first ≡ x = cc in
+    record {
+      items = e ∙ ap (λ y. y ∷ xs) (sym one) ∙ ap (λ ys. first ∷ ys) (sym (ap (λ (h : Hand). h.items) same));
+      out = ap (λ (h : Hand). h.out) same ∙ ap (λ (y : Item). Some y.0) (sym one);
+    }
+
+pub is_out : (old new : Hand) (first : TenantId × TenantItem) → (new, Some first) ≡ moved_out old.items old → IsOut old new first
+is_out old new first moves = out_by old.items old new first refl moves
+
+-- the item that came back is the first again
+pub came_back : (old new back : Hand) (first : TenantId × TenantItem) → IsOut old new first → back ≡ put_back first.1 new.out new → back.items ≡ old.items
+came_back old new back first out e = ap (λ (h : Hand). h.items) (e ∙ ap (λ o. put_back first.1 o new) out.out) ∙ sym out.items
+
+-- what is known where the hand was empty
+pub record WasEmpty (old new : Hand) : Type 0 where
+  pub items : old.items ≡ []
+  pub same : new.items ≡ old.items
+
+empty_by : (items : List Item) (old new : Hand) → old.items ≡ items → (new, None) ≡ moved_out items old → WasEmpty old new
+empty_by [] old new e moves = record { items = e; same = ap (λ (m : Hand × Option Item). m.0.items) moves }
+empty_by (x ∷ xs) old new e moves =
+    let something : None ≡ Some x = ap (λ (m : Hand × Option Item). m.1) moves in
+    absurd (cc)
+
+pub was_empty : (old new : Hand) → (new, None) ≡ moved_out old.items old → WasEmpty old new
+was_empty old new moves = empty_by old.items old new refl moves
+
+module _ (conn conn' : ConnectionState) (tenants tenants' : List TenantState) where
+  unmoved : (c : ℕ) (connections : List ConnectionState) → slice_get connections c ≡ Some conn → conn' ≡ conn → tenants' ≡ tenants → state (slice_set connections c conn') tenants' ≡ state connections tenants
+  unmoved c connections at same sames =
+      ap (λ k. state (slice_set connections c k) tenants') same ∙ ap (λ ks. state ks tenants') (written_back connections c conn at) ∙ ap (state connections) sames
+
+  -- with nothing in the hand
+  pub sends_nothing : conn.hand ≡ [] → conn' ≡ conn → tenants' ≡ tenants → Sends conn tenants conn' tenants' (Ok Idle)
+  sends_nothing empty same sames c connections at =
+      ap (λ s. (s, Idle)) (unmoved c connections at same sames)
+      ∙ sym (ap (λ o. send_of c o (state connections tenants)) at ∙ ap (λ items. send_from c conn items (state connections tenants)) empty)
+
+  -- memory is refused
+  pub refuses : conn' ≡ conn → tenants' ≡ tenants → (c : ℕ) (connections : List ConnectionState) → slice_get connections c ≡ Some conn →
+      state (slice_set connections c conn') tenants' ≡ state connections tenants
+  refuses same sames c connections at = unmoved c connections at same sames
+
+  module _ (first : TenantId × TenantItem) (rest : List (TenantId × TenantItem)) (hand : conn.hand ≡ first ∷ rest) where
+    sending : (c : ℕ) (connections : List ConnectionState) (o : Option TenantState) → slice_get connections c ≡ Some conn → slice_get tenants first.0.0 ≡ o →
+        send c (state connections tenants) ≡ send_to c conn first.0.0 first.1 rest o (state connections tenants)
+    sending c connections o at there =
+        ap (λ k. send_of c k (state connections tenants)) at ∙ ap (λ items. send_from c conn items (state connections tenants)) hand
+        ∙ ap (λ t. send_to c conn first.0.0 first.1 rest t (state connections tenants)) there
+
+    -- to a tenant that isn't there
+    pub sends_nowhere : slice_get tenants first.0.0 ≡ None → conn' ≡ conn → tenants' ≡ tenants → Sends conn tenants conn' tenants' (Ok Idle)
+    sends_nowhere there same sames c connections at = ap (λ s. (s, Idle)) (unmoved c connections at same sames) ∙ sym (sending c connections None at there)
+
+    -- to a tenant whose queue is full
+    pub finds_full : (tenant : TenantState) → slice_get tenants first.0.0 ≡ Some tenant → PLACES ≤ length tenant.queue → conn' ≡ conn → tenants' ≡ tenants → Sends conn tenants conn' tenants' (Ok Full)
+    finds_full tenant there full same sames c connections at =
+        ap (λ s. (s, Full)) (unmoved c connections at same sames) ∙ sym (sending c connections (Some tenant) at there ∙ rw (le-ltb (length tenant.queue) PLACES full))
+
+    -- to a tenant that gets it
+    pub sends_item : (tenant : TenantState) → slice_get tenants first.0.0 ≡ Some tenant → length tenant.queue < PLACES → conn' ≡ record conn { hand = rest } →
+        tenants' ≡ slice_set tenants first.0.0 (record tenant { queue = tenant.queue ++ first.1 ∷ [] }) → Sends conn tenants conn' tenants' (Ok Moved)
+    sends_item tenant there room same sames c connections at =
+        ap (λ k. (state (slice_set connections c k) tenants', Moved)) same ∙ ap (λ ts. (state (slice_set connections c (record conn { hand = rest })) ts, Moved)) sames
+        ∙ sym (sending c connections (Some tenant) at there ∙ rw (lt-ltb (length tenant.queue) PLACES room))

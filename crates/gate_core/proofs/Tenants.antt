@@ -1,0 +1,73 @@
+-- Steps of a tenant at work, by what its dispatch and one of its pipelines do.
+use Rattle.std.proofs.Common.{◌≡◌, ◌∙◌, sym, ap, refl, ℕ, List, [], ◌∷◌, true, false, length, nat_lt, Option, Some, None, Result, Ok, Err, slice_set}
+use Rattle.std.specs.Prelude.{slice_get}
+use Rattle.gate_record.specs.declared.memory.Memory.{Memory}
+use Rattle.gate_record.specs.declared.ids.PipelineId.{PipelineId}
+use Rattle.gate_record.specs.declared.transit.PipelineItem.{PipelineItem}
+use Rattle.gate_tenant.specs.States.{State as DispatchState, moved_out, put_back}
+use Rattle.gate_core.specs.declared.answer.Answer.{Answer}
+use Rattle.gate_core.specs.declared.answer.Answer.TheVariants.{Full, Moved}
+use Rattle.gate_core.specs.declared.pipeline.Pipeline.{Pipeline}
+use Rattle.gate_core.specs.declared.TheConstants.{PLACES}
+use Rattle.gate_core.specs.Answers.{Does}
+use Rattle.gate_core.specs.Pipelines.{turned}
+use Rattle.gate_core.specs.States.{TenantState}
+use Rattle.gate_core.specs.Steps.{give, give_from, give_to, turn, turn_of, with_item}
+use Rattle.gate_core.proofs.Elements.{written_back}
+
+abbrev with_pipelines : TenantState → List Pipeline → TenantState
+with_pipelines tenant pipelines = record tenant { pipelines = pipelines }
+
+-- a turn of the pipeline that is looked up
+pub turns : (p : ℕ) (tenant : TenantState) (pipeline new : Pipeline) (result : Result Answer Memory) → slice_get tenant.pipelines p ≡ Some pipeline → Does pipeline (turned pipeline) new result →
+    Does tenant (turn p tenant) (record tenant { pipelines = slice_set tenant.pipelines p new }) result
+turns p tenant pipeline new (Ok answer) e does =
+    ap (λ (after : Pipeline × Answer). (with_pipelines tenant (slice_set tenant.pipelines p after.0), after.1)) does ∙ sym (ap (λ o. turn_of p o tenant) e)
+turns p tenant pipeline new (Err memory) e does =
+    ap (λ x. with_pipelines tenant (slice_set tenant.pipelines p x)) does ∙ ap (with_pipelines tenant) (written_back tenant.pipelines p pipeline e)
+
+-- what is known once the first item of the hand is out
+pub record IsOut (old new : DispatchState) (first : PipelineId × PipelineItem) : Type 0 where
+  pub items : old.items ≡ first ∷ new.items
+  pub out : new ≡ record old { items = new.items; out = Some first.0 }
+
+out_by : (items : List (PipelineId × PipelineItem)) (old new : DispatchState) (first : PipelineId × PipelineItem) → old.items ≡ items → (new, Some first) ≡ moved_out items old → IsOut old new first
+out_by [] old new first e moves =
+    let nothing : Some first ≡ None = ap (λ (m : DispatchState × Option (PipelineId × PipelineItem)). m.1) moves in
+    absurd (cc)
+out_by (x ∷ xs) old new first e moves =
+    let same : new ≡ record old { items = xs; out = Some x.0 } = ap (λ (m : DispatchState × Option (PipelineId × PipelineItem)). m.0) moves in
+    let it : Some first ≡ Some x = ap (λ (m : DispatchState × Option (PipelineId × PipelineItem)). m.1) moves in
+    let one : first ≡ x = cc in
+    let rest : new.items ≡ xs = ap (λ (s : DispatchState). s.items) same in
+    record {
+      items = e ∙ ap (λ y. y ∷ xs) (sym one) ∙ ap (λ ys. first ∷ ys) (sym rest);
+      out = same ∙ ap (λ ys. record old { items = ys; out = Some x.0 }) (sym rest) ∙ ap (λ (y : PipelineId × PipelineItem). record old { items = new.items; out = Some y.0 }) (sym one);
+    }
+
+pub is_out : (old new : DispatchState) (first : PipelineId × PipelineItem) → (new, Some first) ≡ moved_out old.items old → IsOut old new first
+is_out old new first moves = out_by old.items old new first refl moves
+
+-- the item that went out and came back leaves the dispatch as it was
+pub came_back : (old new : DispatchState) (first : PipelineId × PipelineItem) → old.out ≡ None → IsOut old new first → put_back first.1 new.out new ≡ old
+came_back old new first none out =
+    ap (λ (s : DispatchState). put_back first.1 s.out s) out.out
+    ∙ ap (λ ys. record old { items = ys; out = None }) (sym out.items) ∙ ap (λ o. record old { out = o }) (sym none)
+
+-- and where it was given, it is gone
+pub went : (old new : DispatchState) (first : PipelineId × PipelineItem) → IsOut old new first → record new { out = None } ≡ record old { items = new.items; out = None }
+went old new first out = ap (λ (s : DispatchState). record s { out = None }) out.out
+
+module _ (tenant : TenantState) (new : DispatchState) (first : PipelineId × PipelineItem) (out : IsOut tenant.dispatch new first)
+    (pipeline : Pipeline) (at : slice_get tenant.pipelines first.0.0 ≡ Some pipeline) where
+  giving : give tenant ≡ give_to first.0 first.1 new.items (Some pipeline) tenant
+  giving = ap (λ xs. give_from xs tenant) out.items ∙ ap (λ o. give_to first.0 first.1 new.items o tenant) at
+
+  -- the pipeline's queue is full
+  pub gives_full : nat_lt (length pipeline.queue) PLACES ≡ false → give tenant ≡ (tenant, Full)
+  gives_full full = giving ∙ rw full
+
+  -- the pipeline gets it
+  pub gives : nat_lt (length pipeline.queue) PLACES ≡ true →
+      give tenant ≡ (record tenant { dispatch = record tenant.dispatch { items = new.items; out = None }; pipelines = slice_set tenant.pipelines first.0.0 (with_item pipeline first.1) }, Moved)
+  gives room = giving ∙ rw room

@@ -1,0 +1,74 @@
+-- Steps of a world, by what one of its connections or one of its tenants does.
+use Rattle.std.proofs.Common.{◌≡◌, ◌∙◌, sym, ap, subst, ℕ, List, map, Some, None, Result, Ok, Err, slice_set}
+use Rattle.std.specs.Prelude.{slice_get}
+use Rattle.std.proofs.lemmas.List.{map-set}
+use Rattle.gate_record.specs.declared.memory.Memory.{Memory}
+use Rattle.gate_config.specs.declared.config.Config.{Config}
+use Rattle.gate_core.specs.declared.answer.Answer.{Answer}
+use Rattle.gate_core.specs.declared.answer.Answer.TheVariants.{Idle}
+use Rattle.gate_core.specs.declared.wide.connection.Connection.{Connection}
+use Rattle.gate_core.specs.declared.wide.tenant.Tenant.{Tenant}
+use Rattle.gate_core.specs.Answers.{Does}
+use Rattle.gate_core.specs.Sends.{Sends, state}
+use Rattle.gate_core.specs.States.{ConnectionState, TenantState}
+use Rattle.gate_core.specs.Steps.{on_connection, on_tenant, send, send_of, with_connection, with_tenant}
+use Rattle.gate_core.specs.Views.{AreConnections, AreTenants, IsConnection, IsTenant, config_of_connection, config_of_tenant, connection_view, number_of_connection, number_of_tenant, tenant_view}
+use Rattle.gate_core.proofs.Elements.{each_set, seen, seen_same, unseen}
+
+-- a fact at the configuration and the number that a worker has is one at the world's
+pub known : (P : Config → ℕ → Type 0) (config config' : Config) (n n' : ℕ) → (config ≡ config') × (n ≡ n') → P config n → P config' n'
+known P config config' n n' same p = subst (P config') same.1 (subst (λ k. P k n) same.0 p)
+
+-- connections of which one is changed, and keeps its number and its configuration
+pub still_connections : (config : Config) (conns : List Connection) (c : ℕ) (old new : Connection) → slice_get conns c ≡ Some old → AreConnections config conns →
+    config_of_connection new ≡ config_of_connection old → number_of_connection new ≡ number_of_connection old → AreConnections config (slice_set conns c new)
+still_connections config conns c old new at all same same_number =
+    let was = all c old at in
+    each_set (IsConnection config) conns c old new at all (same ∙ was.0, same_number ∙ was.1)
+
+-- tenants of which one is
+pub still_tenants : (config : Config) (tenants : List Tenant) (t : ℕ) (old new : Tenant) → slice_get tenants t ≡ Some old → AreTenants config tenants →
+    config_of_tenant new ≡ config_of_tenant old → number_of_tenant new ≡ number_of_tenant old → AreTenants config (slice_set tenants t new)
+still_tenants config tenants t old new at all same same_number =
+    let was = all t old at in
+    each_set (IsTenant config) tenants t old new at all (same ∙ was.0, same_number ∙ was.1)
+
+module _ (move : ConnectionState → ConnectionState × Answer) (c : ℕ) (conns : List Connection) (tenants : List TenantState) where
+  -- a step of the connection that is looked up
+  pub connection_does : (old new : Connection) (result : Result Answer Memory) → slice_get conns c ≡ Some old → Does (connection_view old) (move (connection_view old)) (connection_view new) result →
+      Does (state (map connection_view conns) tenants) (on_connection move c (state (map connection_view conns) tenants)) (state (map connection_view (slice_set conns c new)) tenants) result
+  connection_does old new (Ok answer) at does =
+      ap (λ ks. (state ks tenants, answer)) (map-set connection_view conns c new)
+      ∙ ap (λ (after : ConnectionState × Answer). (state (slice_set (map connection_view conns) c after.0) tenants, after.1)) does
+      ∙ sym (ap (λ o. with_connection move c o (state (map connection_view conns) tenants)) (seen connection_view conns c old at))
+  connection_does old new (Err memory) at same = ap (λ ks. state ks tenants) (seen_same connection_view conns c old new at same)
+
+  -- where it isn't there
+  pub connection_idles : slice_get conns c ≡ None → (state (map connection_view conns) tenants, Idle) ≡ on_connection move c (state (map connection_view conns) tenants)
+  connection_idles gone = sym (ap (λ o. with_connection move c o (state (map connection_view conns) tenants)) (unseen connection_view conns c gone))
+
+module _ (move : TenantState → TenantState × Answer) (t : ℕ) (conns : List ConnectionState) (tenants : List Tenant) where
+  -- a step of the tenant that is looked up
+  pub tenant_does : (old new : Tenant) (result : Result Answer Memory) → slice_get tenants t ≡ Some old → Does (tenant_view old) (move (tenant_view old)) (tenant_view new) result →
+      Does (state conns (map tenant_view tenants)) (on_tenant move t (state conns (map tenant_view tenants))) (state conns (map tenant_view (slice_set tenants t new))) result
+  tenant_does old new (Ok answer) at does =
+      ap (λ ts. (state conns ts, answer)) (map-set tenant_view tenants t new)
+      ∙ ap (λ (after : TenantState × Answer). (state conns (slice_set (map tenant_view tenants) t after.0), after.1)) does
+      ∙ sym (ap (λ o. with_tenant move t o (state conns (map tenant_view tenants))) (seen tenant_view tenants t old at))
+  tenant_does old new (Err memory) at same = ap (state conns) (seen_same tenant_view tenants t old new at same)
+
+  -- where it isn't there
+  pub tenant_idles : slice_get tenants t ≡ None → (state conns (map tenant_view tenants), Idle) ≡ on_tenant move t (state conns (map tenant_view tenants))
+  tenant_idles gone = sym (ap (λ o. with_tenant move t o (state conns (map tenant_view tenants))) (unseen tenant_view tenants t gone))
+
+-- sending from the connection that is looked up
+pub sending_does : (c : ℕ) (conns : List Connection) (tenants tenants' : List TenantState) (old new : Connection) (result : Result Answer Memory) → slice_get conns c ≡ Some old →
+    Sends (connection_view old) tenants (connection_view new) tenants' result →
+    Does (state (map connection_view conns) tenants) (send c (state (map connection_view conns) tenants)) (state (map connection_view (slice_set conns c new)) tenants') result
+sending_does c conns tenants tenants' old new result at sends =
+    subst (λ ks. Does (state (map connection_view conns) tenants) (send c (state (map connection_view conns) tenants)) (state ks tenants') result)
+    (sym (map-set connection_view conns c new)) (sends c (map connection_view conns) (seen connection_view conns c old at))
+
+-- where it isn't there
+pub sending_idles : (c : ℕ) (conns : List Connection) (tenants : List TenantState) → slice_get conns c ≡ None → (state (map connection_view conns) tenants, Idle) ≡ send c (state (map connection_view conns) tenants)
+sending_idles c conns tenants gone = sym (ap (λ o. send_of c o (state (map connection_view conns) tenants)) (unseen connection_view conns c gone))

@@ -1,0 +1,8 @@
+//! The core with any number of connections, tenants and pipelines. It is to take the place of the small one.
+mod connection;
+mod making;
+mod sending;
+mod tenant;
+mod world;
+
+pub use world::World;

@@ -1,0 +1,111 @@
+ghost use Rattle.std.specs.Prelude.{◌≡◌, ◌<◌, ◌+◌, ◌^◌, None};
+ghost use Rattle.gate_core.specs.declared.TheConstants.{PLACES};
+ghost use Rattle.gate_forward.specs.Hands.{hand_of};
+
+use crate::PLACES;
+use crate::answer::Answer;
+use gate_config::Config;
+use gate_forward::Forward;
+use gate_record::{ConnEntry, ConnId, Memory, Record};
+use std::alloc::Global;
+use std::collections::VecDeque;
+
+/// A connection at work: its queue, and its forwarder with what that has still to send.
+#[derive(Drop)]
+pub struct Connection<'c> {
+    /// How many records were accepted.
+    pub accepted: u64,
+    /// Whether the end mark was put.
+    pub closed: bool,
+    /// What waits for the forwarder, at most 4,096 entries.
+    pub queue: VecDeque<ConnEntry>,
+    /// The forwarder's hand.
+    pub forward: Forward<'c>,
+    /// Between two steps no item is out of the hand.
+    pub ghost in_hand: { (hand_of forward).out ≡ None },
+}
+
+impl<'c> Connection<'c> {
+    ghost use Rattle.gate_core.specs.Answers.{Does};
+    ghost use Rattle.gate_core.specs.Steps.{new_connection, offer, close, take};
+    ghost use Rattle.gate_core.specs.Views.{connection_view, config_of_connection, number_of_connection};
+
+    /// The connection of this number before any record came. It takes no memory.
+    pub fn new(alloc: Global, config: &'c Config, conn: ConnId) -> Connection<'c>
+        ensures config { config_of_connection result ≡ config.entry.now }
+        ensures number { number_of_connection result ≡ conn.0 }
+        ensures view { connection_view result ≡ new_connection }
+    {
+        Connection {
+            accepted: 0,
+            closed: false,
+            queue: VecDeque::new(alloc),
+            forward: Forward::new(config, conn),
+        }
+    }
+
+    /// Accepts a record with the next number: `Closed` behind the end mark, `Full` where 4,096 entries wait. Where memory
+    /// is refused, all is as before, as in each step.
+    pub fn offer(&mut self, line: Record) -> Result<Answer, Memory>
+        requires { (connection_view self.old).accepted + 1 < 2 ^ 64 }
+        ensures config { config_of_connection self.new ≡ config_of_connection self.old }
+        ensures number { number_of_connection self.new ≡ number_of_connection self.old }
+        ensures does { Does (connection_view self.old) (offer line (connection_view self.old)) (connection_view self.new) result }
+    {
+        if self.closed {
+            return Ok(Answer::Closed);
+        }
+        if self.queue.len() >= PLACES {
+            return Ok(Answer::Full);
+        }
+        let number = self.accepted;
+        self.queue.push_back(ConnEntry::Numbered(number, line))?;
+        self.accepted += 1;
+        Ok(Answer::Accepted(number))
+    }
+
+    /// Puts the end mark, behind all records.
+    pub fn close(&mut self) -> Result<Answer, Memory>
+        ensures config { config_of_connection self.new ≡ config_of_connection self.old }
+        ensures number { number_of_connection self.new ≡ number_of_connection self.old }
+        ensures does { Does (connection_view self.old) (close (connection_view self.old)) (connection_view self.new) result }
+    {
+        if self.closed {
+            return Ok(Answer::Closed);
+        }
+        if self.queue.len() >= PLACES {
+            return Ok(Answer::Full);
+        }
+        self.queue.push_back(ConnEntry::End)?;
+        self.closed = true;
+        Ok(Answer::Moved)
+    }
+
+    /// Takes the next entry into the forwarder's empty hand, and reads it there, once.
+    pub fn take(&mut self, alloc: Global) -> Result<Answer, Memory>
+        ensures config { config_of_connection self.new ≡ config_of_connection self.old }
+        ensures number { number_of_connection self.new ≡ number_of_connection self.old }
+        ensures does { Does (connection_view self.old) (take (config_of_connection self.old) (number_of_connection self.old) (connection_view self.old)) (connection_view self.new) result }
+    {
+        if !self.forward.is_empty() {
+            return Ok(Answer::Idle);
+        }
+        match self.queue.pop_front() {
+            None => Ok(Answer::Idle),
+            Some(ConnEntry::End) => {
+                self.forward.load_end();
+                Ok(Answer::Moved)
+            }
+            Some(ConnEntry::Numbered(number, line)) => {
+                match self.forward.load(alloc, number, line) {
+                    Ok(()) => Ok(Answer::Moved),
+                    Err(refused) => {
+                        self.queue
+                            .push_front_reserved(ConnEntry::Numbered(number, refused.value));
+                        Err(Memory)
+                    }
+                }
+            }
+        }
+    }
+}

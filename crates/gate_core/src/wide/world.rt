@@ -1,0 +1,146 @@
+ghost use Rattle.std.specs.Prelude.{◌≡◌, IfOk};
+ghost use Rattle.gate_core.specs.Views.{AreConnections, AreTenants};
+
+use crate::answer::Answer;
+use crate::step::Step;
+use crate::wide::connection::Connection;
+use crate::wide::making::{new_connections, new_tenants};
+use crate::wide::sending::send;
+use crate::wide::tenant::Tenant;
+use gate_config::Config;
+use gate_record::{ConnId, Memory, PipelineId, Record, TenantId};
+use std::alloc::Global;
+
+/// The core at one moment: a configuration, and its connections and tenants at work.
+#[derive(Drop)]
+pub struct World<'c> {
+    config: &'c Config,
+    connections: Vec<Connection<'c>>,
+    tenants: Vec<Tenant<'c>>,
+    alloc: Global,
+    /// Each connection has its number and the world's configuration.
+    ghost connections_by_number: { AreConnections config.now connections.items },
+    /// Each tenant has its number and the world's configuration.
+    ghost tenants_by_number: { AreTenants config.now tenants.items },
+}
+
+impl<'c> World<'c> {
+    ghost use Rattle.gate_core.specs.Answers.{Does};
+    ghost use Rattle.gate_core.specs.Steps.{close, fetch, first, give, match_gathered, offer, on_connection, on_tenant, send, step_of, take, turn};
+    ghost use Rattle.gate_core.specs.WideWorlds.{HaveNumbers, config_of, state_of};
+
+    /// The world in which nothing was offered yet. `Memory` where its connections and tenants find no room.
+    pub fn new(alloc: Global, config: &'c Config) -> Result<World<'c>, Memory>
+        ensures config { IfOk result (λ world. config_of world ≡ config.entry.now) }
+        ensures first { IfOk result (λ world. state_of world ≡ first config.entry.now) }
+    {
+        let connections = new_connections(alloc, config)?;
+        let tenants = new_tenants(alloc, config)?;
+        Ok(World {
+            config,
+            connections,
+            tenants,
+            alloc,
+        })
+    }
+
+    /// Takes one step. An id out of range, or a step that finds nothing to do, is answered `Idle`. Where memory is
+    /// refused, all is as before.
+    pub fn step(&mut self, step: Step) -> Result<Answer, Memory>
+        requires { HaveNumbers (state_of self.old) }
+        ensures config { config_of self.new ≡ config_of self.old }
+        ensures moves { Does (state_of self.old) (step_of (config_of self.old) (state_of self.old) step) (state_of self.new) result }
+    {
+        match step {
+            Step::Offer(conn, line) => self.offer(conn, line),
+            Step::Close(conn) => self.close(conn),
+            Step::Take(conn) => self.take(conn),
+            Step::Send(conn) => self.send(conn),
+            Step::Fetch(tenant, count) => self.fetch(tenant, count),
+            Step::Match(tenant) => self.match_gathered(tenant),
+            Step::Give(tenant) => self.give(tenant),
+            Step::Turn(tenant, pipeline) => self.turn(tenant, pipeline),
+        }
+    }
+
+    fn offer(&mut self, conn: ConnId, line: Record) -> Result<Answer, Memory>
+        requires { HaveNumbers (state_of self.old) }
+        ensures config { config_of self.new ≡ config_of self.old }
+        ensures moves { Does (state_of self.old) (on_connection (offer line) conn.0 (state_of self.old)) (state_of self.new) result }
+    {
+        match self.connections.get_mut(conn.0 as usize) {
+            Some(connection) => connection.offer(line),
+            None => Ok(Answer::Idle),
+        }
+    }
+
+    fn close(&mut self, conn: ConnId) -> Result<Answer, Memory>
+        ensures config { config_of self.new ≡ config_of self.old }
+        ensures moves { Does (state_of self.old) (on_connection close conn.0 (state_of self.old)) (state_of self.new) result }
+    {
+        match self.connections.get_mut(conn.0 as usize) {
+            Some(connection) => connection.close(),
+            None => Ok(Answer::Idle),
+        }
+    }
+
+    fn take(&mut self, conn: ConnId) -> Result<Answer, Memory>
+        ensures config { config_of self.new ≡ config_of self.old }
+        ensures moves { Does (state_of self.old) (on_connection (take (config_of self.old) conn.0) conn.0 (state_of self.old)) (state_of self.new) result }
+    {
+        match self.connections.get_mut(conn.0 as usize) {
+            Some(connection) => connection.take(self.alloc),
+            None => Ok(Answer::Idle),
+        }
+    }
+
+    fn send(&mut self, conn: ConnId) -> Result<Answer, Memory>
+        ensures config { config_of self.new ≡ config_of self.old }
+        ensures moves { Does (state_of self.old) (send conn.0 (state_of self.old)) (state_of self.new) result }
+    {
+        match self.connections.get_mut(conn.0 as usize) {
+            Some(connection) => send(connection, &mut self.tenants),
+            None => Ok(Answer::Idle),
+        }
+    }
+
+    fn fetch(&mut self, tenant: TenantId, count: u32) -> Result<Answer, Memory>
+        ensures config { config_of self.new ≡ config_of self.old }
+        ensures moves { Does (state_of self.old) (on_tenant (fetch (config_of self.old) tenant.0 count) tenant.0 (state_of self.old)) (state_of self.new) result }
+    {
+        match self.tenants.get_mut(tenant.0 as usize) {
+            Some(worker) => worker.fetch(count),
+            None => Ok(Answer::Idle),
+        }
+    }
+
+    fn match_gathered(&mut self, tenant: TenantId) -> Result<Answer, Memory>
+        ensures config { config_of self.new ≡ config_of self.old }
+        ensures moves { Does (state_of self.old) (on_tenant (match_gathered (config_of self.old) tenant.0) tenant.0 (state_of self.old)) (state_of self.new) result }
+    {
+        match self.tenants.get_mut(tenant.0 as usize) {
+            Some(worker) => worker.match_gathered(self.alloc),
+            None => Ok(Answer::Idle),
+        }
+    }
+
+    fn give(&mut self, tenant: TenantId) -> Result<Answer, Memory>
+        ensures config { config_of self.new ≡ config_of self.old }
+        ensures moves { Does (state_of self.old) (on_tenant give tenant.0 (state_of self.old)) (state_of self.new) result }
+    {
+        match self.tenants.get_mut(tenant.0 as usize) {
+            Some(worker) => worker.give(),
+            None => Ok(Answer::Idle),
+        }
+    }
+
+    fn turn(&mut self, tenant: TenantId, pipeline: PipelineId) -> Result<Answer, Memory>
+        ensures config { config_of self.new ≡ config_of self.old }
+        ensures moves { Does (state_of self.old) (on_tenant (turn pipeline.0) tenant.0 (state_of self.old)) (state_of self.new) result }
+    {
+        match self.tenants.get_mut(tenant.0 as usize) {
+            Some(worker) => worker.turn(pipeline),
+            None => Ok(Answer::Idle),
+        }
+    }
+}
