@@ -1,10 +1,15 @@
+pub mod Acts
+pub mod Agreement
 pub mod Chunks
+pub mod Entries
 pub mod Examples
 pub mod Histories
 pub mod Leaving
 pub mod Parts
+pub mod Placing
 pub mod Plans
 pub mod Renewal
 pub mod Standing
 pub mod Sound
+pub mod Shown
 pub mod Times

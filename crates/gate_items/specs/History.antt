@@ -2,8 +2,10 @@
 use Rattle.std.specs.Prelude.{◌≡◌, ◌≤◌, ◌<◌, ◌++◌, ℕ, List, [], ◌∷◌, Bool, false, length}
 use Rattle.std.specs.List.{filter, list_any}
 use Rattle.gate_record.specs.declared.ids.ManagerKind.{ManagerKind}
+use Rattle.gate_record.specs.declared.ids.ManagerKind.TheVariants.{Independent, Dependent}
 use Rattle.gate_items.specs.declared.action.Action.{Action}
 use Rattle.gate_items.specs.declared.action.Action.TheVariants as action
+use Rattle.gate_items.specs.declared.action.Manage.TheVariants as manage
 use Rattle.gate_items.specs.declared.action.JobResult.{JobResult}
 use Rattle.gate_items.specs.declared.action.Discard.TheVariants.{NotCurrent}
 use Rattle.gate_items.specs.declared.action.Outcome.TheVariants.{Discarded}
@@ -33,6 +35,14 @@ abbrev pub IsTrigger : Action → Type 0
 IsTrigger (action.Trigger key patchset jobs) = Unit {0}
 IsTrigger (action.Result result) = ⊥
 IsTrigger (action.Manage manage) = ⊥
+
+-- the action may be refused memory: it asks for an item, or for a number in the index of an independent pipeline
+abbrev pub MayTakeMemory : ManagerKind → Action → Type 0
+MayTakeMemory manager (action.Trigger key patchset jobs) = Unit {0}
+MayTakeMemory manager (action.Result result) = ⊥
+MayTakeMemory manager (action.Manage (manage.Dequeue key)) = ⊥
+MayTakeMemory Independent (action.Manage (manage.Reset key)) = Unit {0}
+MayTakeMemory Dependent (action.Manage (manage.Reset key)) = ⊥
 
 -- No two items have one build set.
 abbrev pub EachHasItsOwn : Type 0

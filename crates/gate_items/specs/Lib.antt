@@ -1,4 +1,7 @@
+pub mod Agreement
 pub mod History
+pub mod KeyOrder
 pub mod Keys
+pub mod Kept
 pub mod Machine
 pub mod Steps

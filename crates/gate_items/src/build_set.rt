@@ -7,6 +7,7 @@ use crate::action::JobResult;
 use crate::item::QueueItem;
 use crate::outcome::record_outcome;
 use gate_record::{ManagerKind, Sequence, Text};
+use std::alloc::Global;
 use std::mem;
 
 // The jobs, each without an outcome.
@@ -21,6 +22,15 @@ fn opened(jobs: Sequence<(Text, Option<bool>)>) -> Sequence<(Text, Option<bool>)
     Sequence::new(jobs)
 }
 
+// Gives an item a new build set, without memory.
+pub(crate) fn renew(item: &mut QueueItem, alloc: Global, set: u64)
+    ensures { item.new ≡ with_set set item.old }
+{
+    let jobs = mem::replace(&mut item.jobs, Sequence::empty(alloc));
+    item.jobs = opened(jobs);
+    item.set = set;
+}
+
 // Gives the item at a place a new build set, without memory.
 fn renew_at(items: &mut Vec<QueueItem>, place: usize, set: u64)
     requires { place < vec_len items.old }
@@ -30,9 +40,7 @@ fn renew_at(items: &mut Vec<QueueItem>, place: usize, set: u64)
 {
     let alloc = *items.allocator();
     let item = &mut items[place];
-    let jobs = mem::replace(&mut item.jobs, Sequence::empty(alloc));
-    item.jobs = opened(jobs);
-    item.set = set;
+    renew(item, alloc, set);
 }
 
 // The number of the next build set once the items from a place on have new ones where the manager is dependent, and

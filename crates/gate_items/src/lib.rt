@@ -3,10 +3,14 @@
 
 mod action;
 mod build_set;
+mod index;
+mod indexed;
 mod item;
 mod items;
 mod key;
+mod key_order;
 mod laws;
+mod listed;
 mod outcome;
 mod places;
 mod queue_items;

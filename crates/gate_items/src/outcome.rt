@@ -6,6 +6,7 @@ ghost use Rattle.gate_items.specs.declared.item.QueueItem.{QueueItem as Item};
 use crate::action::JobResult;
 use crate::item::QueueItem;
 use gate_record::{Sequence, Text};
+use std::alloc::Global;
 use std::mem;
 
 impl QueueItem {
@@ -70,6 +71,14 @@ fn recorded(
     Sequence::new(jobs)
 }
 
+// Records an outcome in an item, without memory.
+pub(crate) fn record_in(item: &mut QueueItem, alloc: Global, outcome: &JobResult)
+    ensures { item.new ≡ with_outcome outcome.now.job outcome.now.success item.old }
+{
+    let jobs = mem::replace(&mut item.jobs, Sequence::empty(alloc));
+    item.jobs = recorded(jobs, outcome.job.as_str(), outcome.success);
+}
+
 // Records an outcome in the item at a place, without memory.
 pub(crate) fn record_outcome(items: &mut Vec<QueueItem>, place: usize, outcome: &JobResult)
     requires { place < vec_len items.old }
@@ -78,6 +87,5 @@ pub(crate) fn record_outcome(items: &mut Vec<QueueItem>, place: usize, outcome: 
 {
     let alloc = *items.allocator();
     let item = &mut items[place];
-    let jobs = mem::replace(&mut item.jobs, Sequence::empty(alloc));
-    item.jobs = recorded(jobs, outcome.job.as_str(), outcome.success);
+    record_in(item, alloc, outcome);
 }

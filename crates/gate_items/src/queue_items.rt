@@ -1,29 +1,49 @@
 use crate::item::QueueItem;
+use std::collections::btree_map::Values;
 use std::marker::Model;
 
 /// The items of a pipeline, one after another from the first. Contracts see those that are still to come.
 #[derive(Drop)]
 pub struct QueueItems<'a> {
-    rest: &'a [QueueItem],
+    rest: Rest<'a>,
+}
+
+// What is still to come, of a list or of an index.
+#[derive(Drop)]
+pub(crate) enum Rest<'a> {
+    Listed(&'a [QueueItem]),
+    Indexed(Values<'a, u64, QueueItem>),
 }
 
 impl<'a> Model for QueueItems<'a> {
     ghost use Rattle.std.specs.Prelude.{List};
+    ghost use Rattle.gate_items.specs.Kept.{rest_of};
     ghost use Rattle.gate_items.specs.declared.item.QueueItem.{QueueItem};
 
     ghost Value = { List QueueItem };
 
-    ghost view = { λ q. q.rest.now };
+    ghost view = { λ q. rest_of q.rest };
 }
 
 impl<'a> QueueItems<'a> {
     ghost use Rattle.std.specs.Prelude.{◌≡◌};
 
     // The items of a slice.
-    pub(crate) fn new(items: &'a [QueueItem]) -> QueueItems<'a>
+    pub(crate) fn of_slice(items: &'a [QueueItem]) -> QueueItems<'a>
         ensures { result ≡ items.entry.now }
     {
-        QueueItems { rest: items }
+        QueueItems {
+            rest: Rest::Listed(items),
+        }
+    }
+
+    // The items of an index, in its order.
+    pub(crate) fn of_values(items: Values<'a, u64, QueueItem>) -> QueueItems<'a>
+        ensures { result ≡ items.entry }
+    {
+        QueueItems {
+            rest: Rest::Indexed(items),
+        }
     }
 }
 
@@ -37,8 +57,13 @@ impl<'a> Iterator for QueueItems<'a> {
     ghost remaining = { item_count (λ q. q) };
 
     fn next(&mut self) -> Option<&'a QueueItem> {
-        let (first, others) = self.rest.split_first()?;
-        self.rest = others;
-        Some(first)
+        match &mut self.rest {
+            Rest::Listed(rest) => {
+                let (first, others) = rest.split_first()?;
+                *rest = others;
+                Some(first)
+            }
+            Rest::Indexed(rest) => rest.next(),
+        }
     }
 }

@@ -27,7 +27,7 @@ fn first_leaving(manager: ManagerKind, items: &[QueueItem]) -> Option<usize>
 }
 
 // The report of an item, without memory.
-fn report_of(item: QueueItem) -> Report
+pub(crate) fn report_of(item: QueueItem) -> Report
     ensures { result ≡ report_of item }
 {
     let success = !item.has_failed();

@@ -1,5 +1,6 @@
 mod causes;
 mod examples;
+mod index;
 mod keys;
 
 use super::*;

@@ -4,7 +4,7 @@ use Rattle.gate_items.specs.Machine.{State, is_of}
 use Rattle.gate_items.specs.Steps.{changed}
 use Rattle.gate_items.specs.declared.item.QueueItem.{QueueItem}
 use Rattle.gate_items.proofs.Plans.{found_at, resets_at, resets_nothing}
-use Rattle.gate_items.proofs.items.Items.reset.Goals as goal
+use Rattle.gate_items.proofs.listed.Listed.reset.Goals as goal
 
 pub returns-in-None : goal.returns-in-None
 returns-in-None c =

@@ -3,7 +3,7 @@ use Rattle.std.specs.List.{position}
 use Rattle.gate_items.specs.Machine.{State, is_of}
 use Rattle.gate_items.specs.Steps.{changed}
 use Rattle.gate_items.proofs.Plans.{dequeues_at, dequeues_nothing}
-use Rattle.gate_items.proofs.items.Items.dequeue.Goals as goal
+use Rattle.gate_items.proofs.listed.Listed.dequeue.Goals as goal
 
 pub returns-in-None : goal.returns-in-None
 returns-in-None c =

@@ -5,7 +5,7 @@ use Rattle.gate_items.specs.Machine.{State, is_of}
 use Rattle.gate_items.specs.Steps.{why_not}
 use Rattle.gate_items.specs.declared.item.QueueItem.{QueueItem}
 use Rattle.gate_items.proofs.Plans.{is_inside, is_newer, is_refused, places_last}
-use Rattle.gate_items.proofs.items.Items.older_place.Goals as goal
+use Rattle.gate_items.proofs.listed.Listed.older_place.Goals as goal
 
 pub returns-in_default : goal.returns-in_default
 returns-in_default c jobs =

@@ -4,7 +4,7 @@ use Rattle.std.proofs.lemmas.Int.{to_z-of_z}
 use Rattle.gate_items.specs.Machine.{Plan, Refuses, triggered}
 use Rattle.gate_items.specs.Steps.{changed, placed_last, replaced_at}
 use Rattle.gate_items.proofs.Plans.{does_by, judged_as, refused_by_plan, triggers_by}
-use Rattle.gate_items.proofs.items.Items.trigger.Goals as goal
+use Rattle.gate_items.proofs.listed.Listed.trigger.Goals as goal
 
 pub replace_at-requires : goal.replace_at-requires
 replace_at-requires c =

@@ -3,7 +3,7 @@ use Rattle.gate_items.specs.Machine.{State}
 use Rattle.gate_items.specs.Steps.{changed, recorded_at}
 use Rattle.gate_items.specs.declared.action.Outcome.TheVariants.{Applied}
 use Rattle.gate_items.proofs.Plans.{not_renewed}
-use Rattle.gate_items.proofs.items.Items.record_at.Goals as goal
+use Rattle.gate_items.proofs.listed.Listed.record_at.Goals as goal
 
 pub returns-then-not-renews : goal.returns-then-not-renews
 returns-then-not-renews c d =

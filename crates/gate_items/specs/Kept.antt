@@ -1,0 +1,17 @@
+-- The items of a pipeline, whichever way they are kept.
+use Rattle.std.specs.Prelude.{List}
+use Rattle.gate_items.specs.declared.item.QueueItem.{QueueItem}
+use Rattle.gate_items.specs.declared.items.Kept.{Kept}
+use Rattle.gate_items.specs.declared.items.Kept.TheVariants as kept
+use Rattle.gate_items.specs.declared.queue_items.Rest.{Rest}
+use Rattle.gate_items.specs.declared.queue_items.Rest.TheVariants as rest
+use Rattle.gate_items.specs.Machine.{State}
+
+abbrev pub state_of : Kept → State
+state_of (kept.Listed s) = s
+state_of (kept.Indexed s) = s
+
+-- what is still to come of a pipeline's items
+abbrev pub rest_of : Rest → List QueueItem
+rest_of (rest.Listed items) = items.now
+rest_of (rest.Indexed items) = items
