@@ -2,9 +2,11 @@ ghost use Rattle.std.specs.Prelude.{◌≡◌, IfOk};
 ghost use Rattle.gate_core.specs.Views.{AreConnections, AreTenants};
 
 use crate::answer::Answer;
+use crate::report::RunReport;
 use crate::step::Step;
 use crate::wide::connection::Connection;
 use crate::wide::making::{new_connections, new_tenants};
+use crate::wide::reporting::{report_connections, report_tenants};
 use crate::wide::sending::send;
 use crate::wide::tenant::Tenant;
 use gate_config::Config;
@@ -26,6 +28,7 @@ pub struct World<'c> {
 
 impl<'c> World<'c> {
     ghost use Rattle.gate_core.specs.Answers.{Does};
+    ghost use Rattle.gate_core.specs.Reports.{report_of};
     ghost use Rattle.gate_core.specs.Steps.{close, fetch, first, give, match_gathered, offer, on_connection, on_tenant, send, step_of, take, turn};
     ghost use Rattle.gate_core.specs.WideWorlds.{HaveNumbers, config_of, state_of};
 
@@ -61,6 +64,16 @@ impl<'c> World<'c> {
             Step::Give(tenant) => self.give(tenant),
             Step::Turn(tenant, pipeline) => self.turn(tenant, pipeline),
         }
+    }
+
+    /// What has come of the steps so far. `Memory` where the report finds no room.
+    pub fn report(&self) -> Result<RunReport, Memory>
+        ensures { IfOk result (λ report. report ≡ report_of (state_of self.now)) }
+    {
+        Ok(RunReport {
+            connections: report_connections(self.alloc, self.connections.as_slice())?,
+            pipelines: report_tenants(self.alloc, self.tenants.as_slice())?,
+        })
     }
 
     fn offer(&mut self, conn: ConnId, line: Record) -> Result<Answer, Memory>
