@@ -27,8 +27,7 @@ use Rattle.gate_core.specs.Pipelines.{took_trigger, turned_in}
 use Rattle.gate_core.specs.States.{ConnectionState, TenantState, State}
 use Rattle.gate_core.specs.Steps.{close, fetch, fetch_from, give, give_from, give_to, match_from, match_gathered, may_gather, offer, send_from, send_of, send_to, step_of, take, take_from, turn, turn_of, with_connection, with_tenant}
 use Rattle.gate_core.proofs.Going.{closed_holds, offered_holds, taken_holds}
-use Rattle.gate_core.proofs.Holds.{quiet_closed, quiet_full, quiet_idle}
-use Rattle.gate_core.proofs.Pushes.{IsQuiet, puts_quiet, same_quiet, takes_quiet}
+use Rattle.gate_core.proofs.Pushes.{IsQuiet, puts_quiet, quiet_closed, quiet_full, quiet_idle, same_quiet, takes_quiet}
 use Rattle.gate_core.proofs.SendSteps.{sent_holds}
 use Rattle.gate_core.proofs.Sendings.{differs}
 use Rattle.gate_core.proofs.Streams.{ConnSame, Holds, PipeHolds, PipeSame, conn_same, conn_untouched, pipe_untouched, put_same, tenant_same}

@@ -14,8 +14,9 @@ use Rattle.gate_core.specs.declared.pipeline.Pipeline.{Pipeline}
 use Rattle.gate_core.specs.Pipelines.{fresh_pipeline}
 use Rattle.gate_core.specs.States.{ConnectionState}
 use Rattle.gate_core.specs.Steps.{first, new_connection, new_tenant}
+use Rattle.gate_core.specs.Worlds.{HaveNumbers}
 use Rattle.gate_core.proofs.Sendings.{items_to}
-use Rattle.gate_core.proofs.Streams.{ConnHolds, Holds, PipeHolds, TenantHolds, hand_of, queue_of}
+use Rattle.gate_core.proofs.Streams.{ConnHolds, Holds, PipeHolds, TenantHolds, count_of, hand_of, queue_of}
 use Rattle.gate_core.proofs.Working.{the_same}
 
 -- what is looked up where all values are the same
@@ -77,3 +78,10 @@ module _ (config : Config) where
         subst (TenantHolds config [] conns t) (ap (new_tenant config) (sym (omega arith)) ∙ sym (found_in_range (new_tenant config) 0 (length (tenants_of config)) t ten at)) (new_tenant_holds t);
     others = λ t p none. (refl, refl);
   }
+
+-- each connection has a number left in the beginning
+pub first_numbers : (config : Config) → HaveNumbers (first config)
+first_numbers config c conn at =
+    let none : conn.accepted ≡ 0 = ap count_of (sym at) ∙ ((first_holds config).conns c).count in
+    let below : conn.accepted + 1 < 18446744073709551616 = omega (arith, none) in
+    below

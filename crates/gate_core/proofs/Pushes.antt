@@ -5,6 +5,7 @@ use Rattle.std.specs.Option.{option_to_list}
 use Rattle.std.proofs.lemmas.List.Folds.{list_any-append}
 use Rattle.std.proofs.lemmas.List.Sums.{sum_by-append}
 use Rattle.gate_core.specs.declared.answer.Answer.{Answer}
+use Rattle.gate_core.specs.declared.answer.Answer.TheVariants.{Closed, Full, Idle}
 use Rattle.gate_core.specs.declared.step.Step.{Step}
 use Rattle.gate_core.specs.History.{History, accepted, accepted_in, done, processed_in, finished, closed, is_put, is_taking, is_turn, is_close, is_take, is_offer, is_moved, is_accepted, offered_to, processed}
 use Rattle.gate_core.proofs.Maps.{filter_map_push}
@@ -79,3 +80,12 @@ pub takes_quiet : (c : ℕ) (h : History) (step : Step) (answer : Answer) → Is
 takes_quiet c h step answer q =
     let none : is_taking c (step, answer) ≡ false = ap (λ b. is_take c step && b) q.not_moved ∙ and_false (is_take c step) in
     count_push (is_taking c) h (step, answer) ∙ ap (λ b. count_by (is_taking c) h + (0 + cond b 1 0)) none ∙ add-zero _
+
+pub quiet_idle : IsQuiet Idle
+quiet_idle = record { not_accepted = refl; not_moved = refl; not_processed = refl }
+
+pub quiet_full : IsQuiet Full
+quiet_full = record { not_accepted = refl; not_moved = refl; not_processed = refl }
+
+pub quiet_closed : IsQuiet Closed
+quiet_closed = record { not_accepted = refl; not_moved = refl; not_processed = refl }

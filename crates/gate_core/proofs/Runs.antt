@@ -1,58 +1,104 @@
 -- A run, one step after another.
-use Rattle.std.proofs.Common.{◌≡◌, ◌∙◌, sym, ap, subst, ℕ, suc, ◌+◌, ◌≤◌, List, [], ◌∷◌, ◌++◌, length, append-nil, append_assoc, arith}
-use Rattle.std.specs.List.{zip}
+use Rattle.std.proofs.Common.{◌≡◌, ◌∙◌, sym, ap, subst, refl, ℕ, suc, ◌+◌, ◌<◌, ◌≤◌, List, [], ◌∷◌, ◌++◌, length, map, append-nil, append_assoc, Option, Some, None, arith}
+use Rattle.std.specs.Prelude.{slice_get}
+use Rattle.std.specs.List.{cons_option, filter_map, zip}
 use Rattle.gate_config.specs.declared.config.Config.{Config}
 use Rattle.gate_core.specs.declared.answer.Answer.{Answer}
-use Rattle.gate_core.specs.declared.state.State.{State}
 use Rattle.gate_core.specs.declared.step.Step.{Step}
-use Rattle.gate_core.specs.Moves.{after, after_all, answers_to, start, accepted_by}
-use Rattle.gate_core.specs.Promises.{Delivers, AnswersRightly}
-use Rattle.gate_core.specs.Reports.{report_in, report_after}
-use Rattle.gate_core.specs.Small.{IsSmall}
-use Rattle.gate_core.proofs.Law.{history_from, holds_all, start_holds, delivers, answers_rightly}
-use Rattle.gate_core.proofs.Shapes.{accepted_grows}
-use Rattle.gate_core.proofs.Told.{told}
+use Rattle.gate_core.specs.History.{History, accepted, accepted_in}
+use Rattle.gate_core.specs.Promises.{AnswersRightly, Delivers, EveryRunDelivers}
+use Rattle.gate_core.specs.Reports.{report_after, report_of}
+use Rattle.gate_core.specs.States.{ConnectionState, State}
+use Rattle.gate_core.specs.Steps.{answers_to, first, left_by, run_from, step_of}
+use Rattle.gate_core.proofs.AllSteps.{holds_on}
+use Rattle.gate_core.proofs.Beginnings.{first_holds}
+use Rattle.gate_core.proofs.Streams.{Holds, count_of}
 
--- the invariant of a run: what was answered, and what is left
-pub record Runs (config : Config) (answers : List Answer) (s : State) (rest all : List Step) (total : ℕ) : Type 0 where
-  pub told : answers ++ answers_to config s rest ≡ answers_to config (start config) all
-  pub reached : after_all config s rest ≡ after_all config (start config) all
-  pub few : accepted_by s + length rest ≤ total
+-- The invariant of a run: what has happened, what it leaves, and that no more steps are to come than there were.
+pub record Runs (config : Config) (answers : List Answer) (state : State) (rest all : List Step) (total : ℕ) : Type 0 where
+  pub past : History
+  pub told : answers ≡ map (λ (event : Step × Answer). event.1) past
+  pub goes : past ++ run_from config state rest ≡ run_from config (first config) all
+  pub reached : left_by config state rest ≡ left_by config (first config) all
+  pub holds : Holds config past state
+  pub few : length past + length rest ≤ total
 
-pub one_more : (config : Config) (answers : List Answer) (s s' : State) (step : Step) (answer : Answer) (left left' all : List Step) (total : ℕ) →
-    left ≡ step ∷ left' → (s', answer) ≡ after config s step → Runs config answers s left all total → Runs config (answers ++ answer ∷ []) s' left' all total
-one_more config answers s s' step answer left left' all total el e runs =
-    let state : s' ≡ (after config s step).0 = ap (λ (r : State × Answer). r.0) e in
-    let said : answer ≡ (after config s step).1 = ap (λ (r : State × Answer). r.1) e in
-    let grows : accepted_by s' ≤ accepted_by s + 1 = subst (λ x. accepted_by x ≤ accepted_by s + 1) (sym state) (accepted_grows config s step) in
-    let few : accepted_by s + length left ≤ total = runs.few in
-    let shorter : length left ≡ suc (length left') = ap length el in
+pub begins : (config : Config) (steps : List Step) (total : ℕ) → length steps ≤ total → Runs config [] (first config) steps steps total
+begins config steps total few =
+    let none : 0 + length steps ≤ total = omega (arith, few) in
+    record { past = []; told = refl; goes = refl; reached = refl; holds = first_holds config; few = none }
+
+answers_push : (h : History) (s : Step) (a : Answer) → map (λ (event : Step × Answer). event.1) (h ++ (s, a) ∷ []) ≡ map (λ (event : Step × Answer). event.1) h ++ a ∷ []
+answers_push [] s a = refl
+answers_push (event ∷ h) s a = ap (λ (xs : List Answer). event.1 ∷ xs) (answers_push h s a)
+
+length_push : (h : History) (s : Step) (a : Answer) → length (h ++ (s, a) ∷ []) ≡ suc (length h)
+length_push [] s a = refl
+length_push (event ∷ h) s a = ap suc (length_push h s a)
+
+goes_on : (config : Config) (answers : List Answer) (state : State) (s : Step) (rest all : List Step) (total : ℕ) →
+    Runs config answers state (s ∷ rest) all total → Runs config (answers ++ (step_of config state s).1 ∷ []) (step_of config state s).0 rest all total
+goes_on config answers state s rest all total runs =
+    let next = step_of config state s in
+    let few : length runs.past + suc (length rest) ≤ total = runs.few in
+    let longer : length (runs.past ++ (s, next.1) ∷ []) ≡ suc (length runs.past) = length_push runs.past s next.1 in
     record {
-      told =
-          append_assoc answers (answer ∷ []) (answers_to config s' left')
-          ∙ ap (λ (x : Answer). answers ++ x ∷ answers_to config s' left') said
-          ∙ ap (λ (x : State). answers ++ (after config s step).1 ∷ answers_to config x left') state
-          ∙ ap (λ (x : List Step). answers ++ answers_to config s x) (sym el) ∙ runs.told;
-      reached = ap (λ (x : State). after_all config x left') state ∙ ap (after_all config s) (sym el) ∙ runs.reached;
-      few = omega (arith, grows, few, shorter);
+      past = runs.past ++ (s, next.1) ∷ [];
+      told = ap (λ (xs : List Answer). xs ++ next.1 ∷ []) runs.told ∙ sym (answers_push runs.past s next.1);
+      goes = append_assoc runs.past ((s, next.1) ∷ []) (run_from config next.0 rest) ∙ runs.goes;
+      reached = runs.reached;
+      holds = holds_on config runs.past state s runs.holds;
+      few = omega (arith, few, longer);
     }
 
-pub run_delivers : (config : Config) (steps : List Step) (answers : List Answer) → answers ≡ answers_to config (start config) steps → Delivers config (zip steps answers)
-run_delivers config steps answers e =
-    subst (λ (x : List Answer). Delivers config (zip steps x)) (sym e) (delivers config (history_from config (start config) steps) (after_all config (start config) steps) (holds_all config steps [] (start config) (start_holds config)))
+pub one_more : (config : Config) (answers : List Answer) (state next : State) (s : Step) (answer : Answer) (left rest all : List Step) (total : ℕ) →
+    left ≡ s ∷ rest → (next, answer) ≡ step_of config state s → Runs config answers state left all total → Runs config (answers ++ answer ∷ []) next rest all total
+one_more config answers state next s answer left rest all total front moved runs =
+    subst (λ (r : State × Answer). Runs config (answers ++ r.1 ∷ []) r.0 rest all total) (sym moved)
+    (goes_on config answers state s rest all total (subst (λ (steps : List Step). Runs config answers state steps all total) front runs))
 
-pub run_rightly : (config : Config) (steps : List Step) (answers : List Answer) → IsSmall config → answers ≡ answers_to config (start config) steps → AnswersRightly config [] (zip steps answers)
-run_rightly config steps answers small e =
-    subst (λ (x : List Answer). AnswersRightly config [] (zip steps x)) (sym e) (answers_rightly config steps [] (start config) small (start_holds config))
+few_of : {Y : Type 0} (o : Option Y) (ys : List Y) (n : ℕ) → length ys ≤ n → length (cons_option o ys) ≤ suc n
+few_of None ys n h = omega (arith, h)
+few_of (Some y) ys n h = omega (arith, h)
 
-pub run_told : (config : Config) (steps : List Step) (answers : List Answer) (s : State) → IsSmall config → answers ≡ answers_to config (start config) steps → s ≡ after_all config (start config) steps → report_in s ≡ report_after config (zip steps answers)
-run_told config steps answers s small e es =
-    ap report_in es ∙ told config steps small ∙ ap (λ (x : List Answer). report_after config (zip steps x)) (sym e)
+few_picked : {X Y : Type 0} (f : X → Option Y) (xs : List X) → length (filter_map f xs) ≤ length xs
+few_picked f [] = omega arith
+few_picked f (x ∷ xs) = few_of (f x) (filter_map f xs) (length xs) (few_picked f xs)
 
--- where nothing is left, the run is whole
-pub all_answered : (config : Config) (answers : List Answer) (s : State) (rest all : List Step) (total : ℕ) → rest ≡ [] → Runs config answers s rest all total → answers ≡ answers_to config (start config) all
-all_answered config answers s rest all total e runs =
-    sym (append-nil answers) ∙ ap (λ (x : List Step). answers ++ answers_to config s x) (sym e) ∙ runs.told
+-- a step that is still to come finds a number for its record
+pub has_number : (config : Config) (answers : List Answer) (state : State) (left rest all : List Step) (s : Step) (total limit : ℕ) → left ≡ s ∷ rest → total < limit → Runs config answers state left all total →
+    (c : ℕ) (conn : ConnectionState) → slice_get state.connections c ≡ Some conn → conn.accepted + 1 < limit
+has_number config answers state left rest all s total limit front below runs c conn at =
+    let count : conn.accepted ≡ length (accepted c runs.past) = ap count_of (sym at) ∙ (runs.holds.conns c).count in
+    let picked : length (accepted c runs.past) ≤ length runs.past = few_picked (accepted_in c) runs.past in
+    let more : length left ≡ suc (length rest) = ap length front in
+    let few : length runs.past + length left ≤ total = runs.few in
+    omega (arith, count, picked, more, few, below)
 
-pub all_reached : (config : Config) (answers : List Answer) (s : State) (rest all : List Step) (total : ℕ) → rest ≡ [] → Runs config answers s rest all total → s ≡ after_all config (start config) all
-all_reached config answers s rest all total e runs = ap (after_all config s) (sym e) ∙ runs.reached
+-- ---- where nothing is left, the run is whole
+
+pub all_reached : (config : Config) (answers : List Answer) (state : State) (rest all : List Step) (total : ℕ) → rest ≡ [] → Runs config answers state rest all total → state ≡ left_by config (first config) all
+all_reached config answers state rest all total none runs = ap (left_by config state) (sym none) ∙ runs.reached
+
+pub all_answered : (config : Config) (answers : List Answer) (state : State) (rest all : List Step) (total : ℕ) → rest ≡ [] → Runs config answers state rest all total → answers ≡ answers_to config (first config) all
+all_answered config answers state rest all total none runs =
+    runs.told ∙ ap (map (λ (event : Step × Answer). event.1)) (sym (append-nil runs.past) ∙ ap (λ (steps : List Step). runs.past ++ run_from config state steps) (sym none) ∙ runs.goes)
+
+-- ---- what is promised of every history
+
+zip_answers : (config : Config) (state : State) (steps : List Step) → zip steps (answers_to config state steps) ≡ run_from config state steps
+zip_answers config state [] = refl
+zip_answers config state (s ∷ steps) = ap (λ (h : History). (s, (step_of config state s).1) ∷ h) (zip_answers config (step_of config state s).0 steps)
+
+history_is : (config : Config) (steps : List Step) (answers : List Answer) → answers ≡ answers_to config (first config) steps → run_from config (first config) steps ≡ zip steps answers
+history_is config steps answers e = sym (ap (λ (xs : List Answer). zip steps xs) e ∙ zip_answers config (first config) steps)
+
+pub run_delivers : EveryRunDelivers → (config : Config) (steps : List Step) (answers : List Answer) → answers ≡ answers_to config (first config) steps → Delivers config (zip steps answers)
+run_delivers law config steps answers e = subst (λ (h : History). Delivers config h) (history_is config steps answers e) (law.delivers config steps)
+
+pub run_rightly : EveryRunDelivers → (config : Config) (steps : List Step) (answers : List Answer) → answers ≡ answers_to config (first config) steps → AnswersRightly config [] (zip steps answers)
+run_rightly law config steps answers e = subst (λ (h : History). AnswersRightly config [] h) (history_is config steps answers e) (law.rightly config steps)
+
+pub run_told : EveryRunDelivers → (config : Config) (steps : List Step) (answers : List Answer) (state : State) → answers ≡ answers_to config (first config) steps → state ≡ left_by config (first config) steps → report_of state ≡ report_after config (zip steps answers)
+run_told law config steps answers state e reached =
+    ap report_of reached ∙ law.report config steps ∙ ap (report_after config) (history_is config steps answers e)

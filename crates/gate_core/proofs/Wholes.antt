@@ -6,8 +6,8 @@ use Rattle.gate_record.specs.declared.memory.Memory.{Memory}
 use Rattle.gate_config.specs.declared.config.Config.{Config}
 use Rattle.gate_core.specs.declared.answer.Answer.{Answer}
 use Rattle.gate_core.specs.declared.answer.Answer.TheVariants.{Idle}
-use Rattle.gate_core.specs.declared.wide.connection.Connection.{Connection}
-use Rattle.gate_core.specs.declared.wide.tenant.Tenant.{Tenant}
+use Rattle.gate_core.specs.declared.connection.Connection.{Connection}
+use Rattle.gate_core.specs.declared.tenant.Tenant.{Tenant}
 use Rattle.gate_core.specs.Answers.{Does}
 use Rattle.gate_core.specs.Sends.{Sends, state}
 use Rattle.gate_core.specs.States.{ConnectionState, TenantState}

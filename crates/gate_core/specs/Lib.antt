@@ -1,9 +1,6 @@
 pub mod Answers
-pub mod Connections
-pub mod Delivery
 pub mod Faults
 pub mod History
-pub mod Moves
 pub mod Output
 pub mod Passes
 pub mod Pipelines
@@ -12,11 +9,8 @@ pub mod Replays
 pub mod Reports
 pub mod Script
 pub mod Sends
-pub mod Small
 pub mod States
 pub mod Steps
-pub mod Tenants
 pub mod Views
 pub mod Ways
-pub mod WideWorlds
 pub mod Worlds

@@ -1,5 +1,5 @@
 -- What `replay` gives for a document and a script.
-use Rattle.std.specs.Prelude.{◌≡◌, ◌≢◌, ◌⊎◌, ℕ, List, [], ◌++◌, Some, Ok, Err, codes}
+use Rattle.std.specs.Prelude.{◌≡◌, ◌≢◌, ℕ, List, [], ◌++◌, Some, Ok, Err}
 use Rattle.std.specs.List.{zip}
 use Rattle.serde_json.specs.Data.{Data}
 use Rattle.gate_record.specs.Json.{json_of}
@@ -15,18 +15,17 @@ use Rattle.gate_core.specs.declared.replaying.ReplayFault.TheVariants as replay
 use Rattle.gate_core.specs.declared.script.ScriptFault.{ScriptFault}
 use Rattle.gate_core.specs.declared.script.ScriptFault.TheVariants as script
 use Rattle.gate_core.specs.declared.step.Step.{Step}
-use Rattle.gate_core.specs.Moves.{answers_to, start}
 use Rattle.gate_core.specs.Output.{answer_lines, report_text}
 use Rattle.gate_core.specs.Promises.{Delivers, AnswersRightly}
 use Rattle.gate_core.specs.Reports.{report_after}
 use Rattle.gate_core.specs.Script.{script_of}
-use Rattle.gate_core.specs.Small.{IsSmall}
+use Rattle.gate_core.specs.Steps.{answers_to, first}
 
 -- The text is the answers to the steps, each on a line, and then the report of this history, which delivers what is
 -- wanted and answers rightly.
 pub record Plays (config : Config) (steps : List Step) (text : List ℕ) : Type 0 where
   pub answers : List Answer
-  pub answered : answers ≡ answers_to config (start config) steps
+  pub answered : answers ≡ answers_to config (first config) steps
   pub delivers : Delivers config (zip steps answers)
   pub rightly : AnswersRightly config [] (zip steps answers)
   pub printed : text ≡ answer_lines answers ++ report_text config (report_after config (zip steps answers))
@@ -60,18 +59,9 @@ abbrev pub of_script_fault : ScriptFault → ReplayFault
 of_script_fault script.Memory = replay.Memory
 of_script_fault (script.Script line) = replay.Script line
 
--- the fault of a configuration that no world can have for now
-abbrev pub IsTooLarge : ReplayFault → Type 0
-IsTooLarge fault = (fault ≡ replay.Memory) ⊎ (fault ≡ replay.Config (config.Limit (codes "tenants")))
-
--- the document passes every check, and its configuration is one that no world can have for now
-abbrev pub HasTooMuch : List ℕ → Type 0
-HasTooMuch document = AllPass (checks_of document) × ((config : Config) × Configures document config × (IsSmall config → ⊥))
-
--- Memory may be refused at whichever point. A fault of the configuration is its first, or the configuration is too
--- large. A script is read where the configuration has no fault, and its fault is the first line that is no step.
+-- Memory may be refused at whichever point. A fault of the configuration is its first. A script is read where the
+-- configuration has no fault, and its fault is the first line that is no step.
 abbrev pub FailsReplay : List ℕ → List ℕ → ReplayFault → Type 0
 FailsReplay document script replay.Memory = Unit {0}
-FailsReplay document script (replay.Config fault) =
-    (IsFaultOf (checks_of document) fault × (fault ≢ config.Memory)) ⊎ (HasTooMuch document × (fault ≡ config.Limit (codes "tenants")))
+FailsReplay document script (replay.Config fault) = IsFaultOf (checks_of document) fault × (fault ≢ config.Memory)
 FailsReplay document script (replay.Script line) = AllPass (checks_of document) × (script_of script ≡ Err line)

@@ -1,21 +1,18 @@
 -- What a world reports.
-use Rattle.std.specs.Prelude.{ℕ, List, [], ◌∷◌, Bool, length, Option, Some, None, map, if◌then◌else◌}
+use Rattle.std.specs.Prelude.{ℕ, List, Bool, length, map, if◌then◌else◌}
 use Rattle.std.specs.List.{enumerate_from}
 use Rattle.gate_config.specs.declared.config.Config.{Config}
 use Rattle.gate_config.specs.declared.config.TenantSpec.{TenantSpec}
 use Rattle.gate_config.specs.declared.config.PipelineSpec.{PipelineSpec}
 use Rattle.gate_config.specs.Lookups.{connections_of, tenants_of, pipelines_of}
-use Rattle.gate_core.specs.declared.connection.Connection.{Connection}
 use Rattle.gate_core.specs.declared.pipeline.Pipeline.{Pipeline}
 use Rattle.gate_core.specs.declared.report.ConnectionReport.{ConnectionReport}
 use Rattle.gate_core.specs.declared.report.EndCause.{EndCause}
 use Rattle.gate_core.specs.declared.report.EndCause.TheVariants.{Unclosed, Ended}
 use Rattle.gate_core.specs.declared.report.PipelineReport.{PipelineReport}
 use Rattle.gate_core.specs.declared.report.RunReport.{RunReport}
-use Rattle.gate_core.specs.declared.state.State.{State}
-use Rattle.gate_core.specs.declared.tenant.Tenant.{Tenant}
 use Rattle.gate_core.specs.History.{History, accepted, done, finished, closed}
-use Rattle.gate_core.specs.States.{ConnectionState, TenantState, State as Moving}
+use Rattle.gate_core.specs.States.{ConnectionState, TenantState, State}
 
 abbrev pub cause_of : Bool → EndCause
 cause_of closing = if closing then Ended else Unclosed
@@ -44,23 +41,6 @@ report_after config history = record {
 
 -- ---- the report of a state
 
-abbrev pub connections_in : Option Connection → List ConnectionReport
-connections_in None = []
-connections_in (Some conn) = record { accepted = conn.accepted; cause = cause_of conn.closed } ∷ []
-
-abbrev pub pipelines_in : Option Pipeline → List PipelineReport
-pipelines_in None = []
-pipelines_in (Some pipeline) = record { done = pipeline.done; finished = pipeline.finished } ∷ []
-
-abbrev pub tenants_in : Option Tenant → List (List PipelineReport)
-tenants_in None = []
-tenants_in (Some tenant) = pipelines_in tenant.pipeline ∷ []
-
-abbrev pub report_in : State → RunReport
-report_in state = record { connections = connections_in state.connection; pipelines = tenants_in state.tenant }
-
--- ---- the report of a state with any number of each
-
 abbrev pub connection_report : ConnectionState → ConnectionReport
 connection_report conn = record { accepted = conn.accepted; cause = cause_of conn.closed }
 
@@ -70,5 +50,5 @@ pipeline_report pipeline = record { done = pipeline.done; finished = pipeline.fi
 abbrev pub tenant_report : TenantState → List PipelineReport
 tenant_report tenant = map pipeline_report tenant.pipelines
 
-abbrev pub report_of : Moving → RunReport
+abbrev pub report_of : State → RunReport
 report_of state = record { connections = map connection_report state.connections; pipelines = map tenant_report state.tenants }

@@ -3,8 +3,8 @@ use Rattle.std.specs.Prelude.{◌≡◌, ◌<◌, ◌≤◌, ℕ, List, [], ◌�
 use Rattle.gate_record.specs.declared.memory.Memory.{Memory}
 use Rattle.gate_record.specs.declared.transit.TenantItem.{TenantItem}
 use Rattle.gate_core.specs.declared.answer.Answer.{Answer}
-use Rattle.gate_core.specs.declared.wide.tenant.Unput.{Unput}
-use Rattle.gate_core.specs.declared.wide.tenant.Unput.TheVariants as unput
+use Rattle.gate_core.specs.declared.tenant.Unput.{Unput}
+use Rattle.gate_core.specs.declared.tenant.Unput.TheVariants as unput
 use Rattle.gate_core.specs.declared.TheConstants.{PLACES}
 use Rattle.gate_core.specs.Answers.{Does}
 use Rattle.gate_core.specs.States.{ConnectionState, TenantState, State}

@@ -162,6 +162,10 @@ abbrev pub run_from : Config → State → List Step → List (Step × Answer)
 run_from config state [] = []
 run_from config state (s ∷ steps) = (s, (step_of config state s).1) ∷ run_from config (step_of config state s).0 steps
 
+-- the answers alone
+abbrev pub answers_to : Config → State → List Step → List Answer
+answers_to config state steps = map (λ (event : Step × Answer). event.1) (run_from config state steps)
+
 -- the state that steps leave
 abbrev pub left_by : Config → State → List Step → State
 left_by config state [] = state

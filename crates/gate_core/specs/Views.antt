@@ -4,8 +4,8 @@ use Rattle.gate_config.specs.declared.config.Config.{Config}
 use Rattle.gate_forward.specs.Hands.{hand_of, config_of, conn_of}
 use Rattle.gate_tenant.specs.States.{state_of, tenant_of}
 use Rattle.gate_tenant.specs.States as dispatch
-use Rattle.gate_core.specs.declared.wide.connection.Connection.{Connection}
-use Rattle.gate_core.specs.declared.wide.tenant.Tenant.{Tenant}
+use Rattle.gate_core.specs.declared.connection.Connection.{Connection}
+use Rattle.gate_core.specs.declared.tenant.Tenant.{Tenant}
 use Rattle.gate_core.specs.States.{ConnectionState, TenantState}
 
 -- each element of the list has what it is to have at its place

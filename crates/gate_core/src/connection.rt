@@ -1,52 +1,56 @@
-ghost use Rattle.std.specs.Prelude.{◌≡◌, ◌<◌, ◌+◌, ◌^◌, IfOk, Option, Some};
+ghost use Rattle.std.specs.Prelude.{◌≡◌, ◌<◌, ◌+◌, ◌^◌, None};
 ghost use Rattle.gate_core.specs.declared.TheConstants.{PLACES};
+ghost use Rattle.gate_forward.specs.Hands.{hand_of};
 
 use crate::PLACES;
 use crate::answer::Answer;
-use crate::tenant::{TENANT, Tenant};
 use gate_config::Config;
-use gate_record::{
-    ConnEntry, ConnId, Memory, Queue, Reading, Record, Shared, Stamp, Stamped, TenantItem,
-    read_record,
-};
+use gate_forward::Forward;
+use gate_record::{ConnEntry, ConnId, Memory, Record};
 use std::alloc::Global;
+use std::collections::VecDeque;
 
-/// A connection at work: its queue, and what its forwarder holds.
+/// A connection at work: its queue, and its forwarder with what that has still to send.
 #[derive(Drop)]
-pub struct Connection {
+pub struct Connection<'c> {
     /// How many records were accepted.
     pub accepted: u64,
     /// Whether the end mark was put.
     pub closed: bool,
     /// What waits for the forwarder, at most 4,096 entries.
-    pub queue: Queue<ConnEntry>,
-    /// What the forwarder took and has still to send.
-    pub hand: Option<TenantItem>,
+    pub queue: VecDeque<ConnEntry>,
+    /// The forwarder's hand.
+    pub forward: Forward<'c>,
+    /// Between two steps no item is out of the hand.
+    pub ghost in_hand: { (hand_of forward).out ≡ None },
 }
 
-/// The one connection that a world has for now.
-pub const CONNECTION: ConnId = ConnId(0);
-
-impl Connection {
+impl<'c> Connection<'c> {
     ghost use Rattle.gate_core.specs.Answers.{Does};
-    ghost use Rattle.gate_core.specs.Connections.{fresh_connection, offered, closed_off, taken};
+    ghost use Rattle.gate_core.specs.Steps.{new_connection, offer, close, take};
+    ghost use Rattle.gate_core.specs.Views.{connection_view, config_of_connection, number_of_connection};
 
-    /// The connection before any record came.
-    pub fn new(alloc: Global) -> Connection
-        ensures { result ≡ fresh_connection }
+    /// The connection of this number before any record came. It takes no memory.
+    pub fn new(alloc: Global, config: &'c Config, conn: ConnId) -> Connection<'c>
+        ensures config { config_of_connection result ≡ config.entry.now }
+        ensures number { number_of_connection result ≡ conn.0 }
+        ensures view { connection_view result ≡ new_connection }
     {
         Connection {
             accepted: 0,
             closed: false,
-            queue: Queue::new(alloc),
-            hand: None,
+            queue: VecDeque::new(alloc),
+            forward: Forward::new(config, conn),
         }
     }
 
-    /// Accepts a record with the next number.
+    /// Accepts a record with the next number: `Closed` behind the end mark, `Full` where 4,096 entries wait. Where memory
+    /// is refused, all is as before, as in each step.
     pub fn offer(&mut self, line: Record) -> Result<Answer, Memory>
-        requires { self.old.accepted + 1 < 2 ^ 64 }
-        ensures { Does self.old (offered line self.old) self.new result }
+        requires { (connection_view self.old).accepted + 1 < 2 ^ 64 }
+        ensures config { config_of_connection self.new ≡ config_of_connection self.old }
+        ensures number { number_of_connection self.new ≡ number_of_connection self.old }
+        ensures does { Does (connection_view self.old) (offer line (connection_view self.old)) (connection_view self.new) result }
     {
         if self.closed {
             return Ok(Answer::Closed);
@@ -55,14 +59,16 @@ impl Connection {
             return Ok(Answer::Full);
         }
         let number = self.accepted;
-        self.queue.push(ConnEntry::Numbered(number, line))?;
+        self.queue.push_back(ConnEntry::Numbered(number, line))?;
         self.accepted += 1;
         Ok(Answer::Accepted(number))
     }
 
     /// Puts the end mark, behind all records.
     pub fn close(&mut self) -> Result<Answer, Memory>
-        ensures { Does self.old (closed_off self.old) self.new result }
+        ensures config { config_of_connection self.new ≡ config_of_connection self.old }
+        ensures number { number_of_connection self.new ≡ number_of_connection self.old }
+        ensures does { Does (connection_view self.old) (close (connection_view self.old)) (connection_view self.new) result }
     {
         if self.closed {
             return Ok(Answer::Closed);
@@ -70,100 +76,36 @@ impl Connection {
         if self.queue.len() >= PLACES {
             return Ok(Answer::Full);
         }
-        self.queue.push(ConnEntry::End)?;
+        self.queue.push_back(ConnEntry::End)?;
         self.closed = true;
         Ok(Answer::Moved)
     }
 
-    /// Takes the next entry, and reads what it holds for the tenant.
-    pub fn take(&mut self, alloc: Global, config: &Config) -> Result<Answer, Memory>
-        ensures { Does self.old (taken config.now self.old) self.new result }
+    /// Takes the next entry into the forwarder's empty hand, and reads it there, once.
+    pub fn take(&mut self, alloc: Global) -> Result<Answer, Memory>
+        ensures config { config_of_connection self.new ≡ config_of_connection self.old }
+        ensures number { number_of_connection self.new ≡ number_of_connection self.old }
+        ensures does { Does (connection_view self.old) (take (config_of_connection self.old) (number_of_connection self.old) (connection_view self.old)) (connection_view self.new) result }
     {
-        if self.hand.is_some() {
+        if !self.forward.is_empty() {
             return Ok(Answer::Idle);
         }
-        let held = match self.queue.get(0) {
-            None => return Ok(Answer::Idle),
-            Some(entry) => forwarded_of(alloc, config, entry)?,
-        };
-        let _ = self.queue.pop();
-        self.hand = held;
-        Ok(Answer::Moved)
-    }
-}
-
-ghost use Rattle.gate_core.specs.Connections.{sent};
-ghost use Rattle.gate_core.specs.Answers.{DoesBoth};
-
-/// Sends what the forwarder holds to the tenant.
-pub fn send(connection: &mut Connection, tenant: &mut Tenant) -> Result<Answer, Memory>
-    ensures { DoesBoth connection.old tenant.old (sent connection.old tenant.old) connection.new tenant.new result }
-{
-    let Some(item) = connection.hand.take() else {
-        return Ok(Answer::Idle);
-    };
-    if tenant.queue.len() >= PLACES {
-        connection.hand = Some(item);
-        return Ok(Answer::Full);
-    }
-    match tenant.queue.push(item) {
-        Ok(()) => Ok(Answer::Moved),
-        Err(refused) => {
-            connection.hand = Some(refused.value);
-            Err(Memory)
-        }
-    }
-}
-
-ghost use Rattle.gate_forward.specs.Forwarding.{forwarded_entry, forwarded_reading};
-ghost use Rattle.gate_record.specs.Reading.{reading_of};
-
-// What the tenant gets of an entry.
-fn forwarded_of(
-    alloc: Global,
-    config: &Config,
-    entry: &ConnEntry,
-) -> Result<Option<TenantItem>, Memory>
-    ensures { IfOk result (λ held. held ≡ forwarded_entry config.now TENANT.0 CONNECTION.0 entry.now) }
-{
-    match entry {
-        ConnEntry::End => {
-            if config.listed(TENANT, CONNECTION) {
-                Ok(Some(TenantItem::End(CONNECTION)))
-            } else {
-                Ok(None)
+        match self.queue.pop_front() {
+            None => Ok(Answer::Idle),
+            Some(ConnEntry::End) => {
+                self.forward.load_end();
+                Ok(Answer::Moved)
+            }
+            Some(ConnEntry::Numbered(number, line)) => {
+                match self.forward.load(alloc, number, line) {
+                    Ok(()) => Ok(Answer::Moved),
+                    Err(refused) => {
+                        self.queue
+                            .push_front_reserved(ConnEntry::Numbered(number, refused.value));
+                        Err(Memory)
+                    }
+                }
             }
         }
-        ConnEntry::Numbered(number, line) => {
-            let reading = read_record(alloc, line)?;
-            forwarded_event(alloc, config, *number, reading)
-        }
     }
-}
-
-// What the tenant gets of a reading: an event whose project it lists.
-fn forwarded_event(
-    alloc: Global,
-    config: &Config,
-    number: u64,
-    reading: Reading,
-) -> Result<Option<TenantItem>, Memory>
-    ensures { IfOk result (λ held. held ≡ forwarded_reading config.now TENANT.0 CONNECTION.0 number reading) }
-{
-    let Reading::Event(event) = reading else {
-        return Ok(None);
-    };
-    let listed = match &event.project {
-        Some(project) => config.belongs(TENANT, CONNECTION, project.as_str()),
-        None => false,
-    };
-    if !listed {
-        return Ok(None);
-    }
-    let stamp = Stamp {
-        conn: CONNECTION,
-        number,
-    };
-    let event = Shared::new(alloc, event)?;
-    Ok(Some(TenantItem::Event(Stamped { stamp, event })))
 }

@@ -4,17 +4,18 @@
 mod answer;
 mod connection;
 mod laws;
+mod making;
 mod output;
 mod pass;
 mod pipeline;
 mod replaying;
 mod report;
+mod reporting;
 mod script;
-mod state;
+mod sending;
 mod step;
 mod tenant;
 mod transcript;
-pub mod wide;
 mod world;
 
 pub use answer::Answer;

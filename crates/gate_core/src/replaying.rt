@@ -1,13 +1,12 @@
-ghost use Rattle.std.specs.Prelude.{◌≡◌, ◌↔◌, string_bytes, IfOk, IfErr, IsTrue};
+ghost use Rattle.std.specs.Prelude.{◌≡◌, string_bytes, IfOk, IfErr};
 ghost use Rattle.gate_core.specs.Replays.{Replays, FailsReplay};
-ghost use Rattle.gate_core.specs.Small.{IsSmall};
 
 use crate::output::{push_answers, push_report};
 use crate::script::{ScriptFault, read_script};
 use crate::step::Step;
 use crate::transcript::play;
 use gate_config::{Config, ConfigFault, read_config};
-use gate_record::{Memory, Queue, TenantId, Text};
+use gate_record::{Memory, Queue};
 use std::alloc::Global;
 use std::error::Error;
 use std::fmt;
@@ -15,8 +14,7 @@ use std::fmt;
 /// Why nothing was replayed.
 #[derive(Debug, Drop)]
 pub enum ReplayFault {
-    /// The document is no configuration, or, as `Limit` at `tenants`, one with more than one connection, tenant or
-    /// pipeline, which no world can have for now.
+    /// The document is no configuration: its first fault.
     Config(ConfigFault),
     /// The first line of the script that is no step, counted from 1.
     Script(usize),
@@ -46,9 +44,6 @@ pub fn replay(alloc: Global, document: &[u8], script: &[u8]) -> Result<String, R
         Ok(config) => config,
         Err(fault) => return Err(of_config(fault)),
     };
-    if !is_small(&config) {
-        return Err(too_large(alloc));
-    }
     let steps = match read_script(alloc, script) {
         Ok(steps) => steps,
         Err(fault) => return Err(of_script(fault)),
@@ -80,29 +75,8 @@ fn of_script(fault: ScriptFault) -> ReplayFault
     }
 }
 
-ghost use Rattle.gate_core.specs.Replays.{IsTooLarge};
-
-fn too_large(alloc: Global) -> ReplayFault
-    ensures { IsTooLarge result }
-{
-    match Text::copy(alloc, "tenants") {
-        Ok(place) => ReplayFault::Config(ConfigFault::Limit(place)),
-        Err(Memory) => ReplayFault::Memory,
-    }
-}
-
-// Whether a world can have the configuration for now.
-fn is_small(config: &Config) -> bool
-    ensures { IsTrue result ↔ IsSmall config.now }
-{
-    config.connections().len() <= 1
-        && config.tenants().len() <= 1
-        && config.pipelines(TenantId(0)).len() <= 1
-}
-
 // The answers to steps, and the report of the world that they leave.
 fn play_text(alloc: Global, config: &Config, steps: Queue<Step>) -> Result<String, Memory>
-    requires small { IsSmall config.now }
     ensures { IfOk result (λ text. Plays config.now steps (string_bytes text)) }
 {
     let transcript = play(alloc, config, steps)?;

@@ -1,184 +1,164 @@
-ghost use Rattle.std.specs.Prelude.{◌≡◌, IfOk, is_some, Option, Some};
-ghost use Rattle.gate_core.specs.declared.TheConstants.{PLACES, BATCH};
+ghost use Rattle.std.specs.Prelude.{◌≡◌, ◌∷◌, ◌++◌, [], IfOk, None, MatchResult};
+ghost use Rattle.gate_core.specs.declared.TheConstants.{PLACES};
+ghost use Rattle.gate_tenant.specs.States.{state_of};
 
+use crate::PLACES;
 use crate::answer::Answer;
 use crate::pipeline::Pipeline;
-use crate::{BATCH, PLACES};
 use gate_config::Config;
-use gate_record::{Event, Memory, PipelineId, PipelineItem, Queue, Stamped, TenantId, TenantItem};
-use gate_rule::Rule;
+use gate_record::{Memory, PipelineId, TenantId, TenantItem};
+use gate_tenant::Dispatch;
 use std::alloc::Global;
+use std::collections::VecDeque;
 
-/// A tenant at work, with its one pipeline if it has one.
+/// A tenant at work: its queue, the dispatch of its worker, and its pipelines by number.
 #[derive(Drop)]
-pub struct Tenant {
+pub struct Tenant<'c> {
     /// What waits for the worker, at most 4,096 items.
-    pub queue: Queue<TenantItem>,
-    /// What was fetched and waits to be matched, at most 256 items.
-    pub gathered: Queue<TenantItem>,
-    /// What was matched and waits to be given.
-    pub hand: Queue<PipelineItem>,
-    /// Its one pipeline, if it has one.
-    pub pipeline: Option<Pipeline>,
+    pub queue: VecDeque<TenantItem>,
+    /// What the worker gathered, and what was matched and waits to be given.
+    pub dispatch: Dispatch<'c>,
+    /// By pipeline number.
+    pub pipelines: Vec<Pipeline>,
+    /// Between two steps no item is out of the dispatch's hand.
+    pub ghost in_hand: { (state_of dispatch).out ≡ None },
 }
 
-/// The one tenant that a world has for now.
-pub const TENANT: TenantId = TenantId(0);
+/// An item that wasn't put into a tenant's queue.
+#[derive(Drop)]
+pub enum Unput {
+    /// The queue has 4,096 items.
+    Full(TenantItem),
+    /// Memory was refused.
+    Memory(TenantItem),
+}
 
-/// The one pipeline that a tenant has for now.
-pub const PIPELINE: PipelineId = PipelineId(0);
-
-impl Tenant {
+impl<'c> Tenant<'c> {
     ghost use Rattle.gate_core.specs.Answers.{Does};
-    ghost use Rattle.gate_core.specs.Tenants.{fetched, matched, given};
+    ghost use Rattle.gate_core.specs.Steps.{new_tenant, fetch, match_gathered, give, turn};
+    ghost use Rattle.gate_core.specs.Sends.{Puts};
+    ghost use Rattle.gate_core.specs.Views.{tenant_view, config_of_tenant, number_of_tenant};
 
-    /// Moves the next item of the queue to those that are gathered. Only one item at a time is fetched for now.
+    /// The tenant of this number before anything came. `Memory` where its pipelines, or the end marks of a tenant that
+    /// lists no connection, find no room.
+    pub fn new(alloc: Global, config: &'c Config, tenant: TenantId) -> Result<Tenant<'c>, Memory>
+        ensures config { IfOk result (λ worker. config_of_tenant worker ≡ config.entry.now) }
+        ensures number { IfOk result (λ worker. number_of_tenant worker ≡ tenant.0) }
+        ensures view { IfOk result (λ worker. tenant_view worker ≡ new_tenant config.entry.now tenant.0) }
+    {
+        let pipelines = new_pipelines(alloc, config, tenant)?;
+        Ok(Tenant {
+            queue: VecDeque::new(alloc),
+            dispatch: Dispatch::new(alloc, config, tenant)?,
+            pipelines,
+        })
+    }
+
+    /// Puts an item at the back of the queue. An item that isn't put comes back, and all is as before.
+    pub fn put(&mut self, item: TenantItem) -> Result<(), Unput>
+        ensures config { config_of_tenant self.new ≡ config_of_tenant self.old }
+        ensures number { number_of_tenant self.new ≡ number_of_tenant self.old }
+        ensures puts { Puts (tenant_view self.old) item (tenant_view self.new) result }
+    {
+        if self.queue.len() >= PLACES {
+            return Err(Unput::Full(item));
+        }
+        match self.queue.push_back(item) {
+            Ok(()) => Ok(()),
+            Err(refused) => Err(Unput::Memory(refused.value)),
+        }
+    }
+
+    /// Gathers the next item of the queue, where the dispatch has room and goes on. Only one item at a time is fetched for
+    /// now. Where memory is refused, all is as before, as in each step.
     pub fn fetch(&mut self, count: u32) -> Result<Answer, Memory>
-        ensures { Does self.old (fetched count self.old) self.new result }
+        ensures config { config_of_tenant self.new ≡ config_of_tenant self.old }
+        ensures number { number_of_tenant self.new ≡ number_of_tenant self.old }
+        ensures does { Does (tenant_view self.old) (fetch (config_of_tenant self.old) (number_of_tenant self.old) count (tenant_view self.old)) (tenant_view self.new) result }
     {
-        if count != 1 || !self.hand.is_empty() || self.gathered.len() >= BATCH {
+        if count != 1 || self.dispatch.room() == 0 || self.dispatch.ended() {
             return Ok(Answer::Idle);
         }
-        if self.queue.is_empty() {
+        let Some(item) = self.queue.pop_front() else {
             return Ok(Answer::Idle);
-        }
-        self.queue.move_first_to(&mut self.gathered)?;
-        Ok(Answer::Moved)
-    }
-
-    /// Matches what is gathered against the rules of the pipeline, in order.
-    pub fn match_gathered(&mut self, alloc: Global, config: &Config) -> Result<Answer, Memory>
-        ensures { Does self.old (matched config.now self.old) self.new result }
-    {
-        if self.gathered.is_empty() {
-            return Ok(Answer::Idle);
-        }
-        self.hand = match self.pipeline {
-            Some(_) => chosen_items(alloc, config, &self.gathered)?,
-            None => Queue::new(alloc),
         };
-        self.gathered.clear();
+        match self.dispatch.gather(item) {
+            Ok(()) => Ok(Answer::Moved),
+            Err(refused) => {
+                self.queue.push_front_reserved(refused.value);
+                Err(Memory)
+            }
+        }
+    }
+
+    /// Matches what is gathered against the rules of the pipelines.
+    pub fn match_gathered(&mut self, alloc: Global) -> Result<Answer, Memory>
+        ensures config { config_of_tenant self.new ≡ config_of_tenant self.old }
+        ensures number { number_of_tenant self.new ≡ number_of_tenant self.old }
+        ensures does { Does (tenant_view self.old) (match_gathered (config_of_tenant self.old) (number_of_tenant self.old) (tenant_view self.old)) (tenant_view self.new) result }
+    {
+        if !self.dispatch.has_gathered() {
+            return Ok(Answer::Idle);
+        }
+        self.dispatch.match_batch(alloc)?;
         Ok(Answer::Moved)
     }
 
-    /// Gives the next matched item to its pipeline.
+    /// Gives the next matched item to its pipeline: `Full` where 4,096 values wait there.
     pub fn give(&mut self) -> Result<Answer, Memory>
-        ensures { Does self.old (given self.old) self.new result }
+        ensures config { config_of_tenant self.new ≡ config_of_tenant self.old }
+        ensures number { number_of_tenant self.new ≡ number_of_tenant self.old }
+        ensures does { Does (tenant_view self.old) (give (tenant_view self.old)) (tenant_view self.new) result }
     {
-        if self.hand.is_empty() {
+        let Some((pipeline, item)) = self.dispatch.next() else {
             return Ok(Answer::Idle);
-        }
-        match &mut self.pipeline {
-            None => Ok(Answer::Idle),
-            Some(pipeline) => {
-                if pipeline.queue.len() >= PLACES {
-                    return Ok(Answer::Full);
+        };
+        match self.pipelines.get_mut(pipeline.0 as usize) {
+            None => {
+                self.dispatch.ungiven(item);
+                Ok(Answer::Idle)
+            }
+            Some(worker) if worker.queue.len() >= PLACES => {
+                self.dispatch.ungiven(item);
+                Ok(Answer::Full)
+            }
+            Some(worker) => match worker.queue.push(item) {
+                Ok(()) => {
+                    self.dispatch.given();
+                    Ok(Answer::Moved)
                 }
-                self.hand.move_first_to(&mut pipeline.queue)?;
-                Ok(Answer::Moved)
-            }
+                Err(refused) => {
+                    self.dispatch.ungiven(refused.value);
+                    Err(Memory)
+                }
+            },
         }
     }
-}
 
-impl Tenant {
-    ghost use Rattle.gate_core.specs.Answers.{Does};
-    ghost use Rattle.gate_core.specs.Tenants.{turned_at};
-
-    /// A turn of a pipeline.
+    /// A turn of a pipeline, `Idle` where the tenant hasn't got it.
     pub fn turn(&mut self, pipeline: PipelineId) -> Result<Answer, Memory>
-        ensures { Does self.old (turned_at pipeline.0 self.old) self.new result }
+        ensures config { config_of_tenant self.new ≡ config_of_tenant self.old }
+        ensures number { number_of_tenant self.new ≡ number_of_tenant self.old }
+        ensures does { Does (tenant_view self.old) (turn pipeline.0 (tenant_view self.old)) (tenant_view self.new) result }
     {
-        match &mut self.pipeline {
-            Some(worker) if pipeline.0 == PIPELINE.0 => worker.turn(),
-            _ => Ok(Answer::Idle),
+        match self.pipelines.get_mut(pipeline.0 as usize) {
+            None => Ok(Answer::Idle),
+            Some(worker) => worker.turn(),
         }
     }
 }
 
-ghost use Rattle.gate_core.specs.Delivery.{chosen, chosen_item};
-ghost use Rattle.std.specs.Prelude.{◌++◌, OnOk};
-ghost use Rattle.std.specs.Option.{option_to_list};
-ghost use Rattle.gate_config.specs.Selection.{selects_event};
-ghost use Rattle.std.specs.List.{list_any};
-ghost use Rattle.gate_rule.specs.Rule.{meets};
+ghost use Rattle.std.specs.Prelude.{map};
+ghost use Rattle.gate_config.specs.Lookups.{pipelines_of};
+ghost use Rattle.gate_core.specs.Pipelines.{fresh_pipeline};
 
-// What the pipeline gets of gathered items, in order.
-fn chosen_items(
-    alloc: Global,
-    config: &Config,
-    gathered: &Queue<TenantItem>,
-) -> Result<Queue<PipelineItem>, Memory>
-    ensures { IfOk result (λ items. items ≡ chosen config.now TENANT.0 PIPELINE.0 gathered.now) }
+// A pipeline at work for each one of the tenant.
+fn new_pipelines(alloc: Global, config: &Config, tenant: TenantId) -> Result<Vec<Pipeline>, Memory>
+    ensures { IfOk result (λ pipelines. pipelines.items ≡ map (λ _. fresh_pipeline) (pipelines_of config.now tenant.0)) }
 {
-    let mut items = Queue::new(alloc);
-    for place in 0..gathered.len() {
-        if let Some(item) = gathered.get(place) {
-            push_chosen(alloc, config, item, &mut items)?;
-        }
+    let mut pipelines = Vec::new(alloc);
+    for _ in config.pipelines(tenant) {
+        pipelines.push(Pipeline::new(alloc))?;
     }
-    Ok(items)
-}
-
-// Adds what the pipeline gets of one item.
-fn push_chosen(
-    alloc: Global,
-    config: &Config,
-    item: &TenantItem,
-    items: &mut Queue<PipelineItem>,
-) -> Result<(), Memory>
-    ensures { OnOk result (items.new ≡ items.old ++ option_to_list (chosen_item config.now TENANT.0 PIPELINE.0 item.now)) }
-{
-    if let Some(chosen) = chosen_of(alloc, config, item)? {
-        items.push(chosen)?;
-    }
-    Ok(())
-}
-
-// What the pipeline gets of one item.
-fn chosen_of(
-    alloc: Global,
-    config: &Config,
-    item: &TenantItem,
-) -> Result<Option<PipelineItem>, Memory>
-    ensures { IfOk result (λ chosen. chosen ≡ chosen_item config.now TENANT.0 PIPELINE.0 item.now) }
-{
-    match item {
-        TenantItem::End(_) => Ok(Some(PipelineItem::End)),
-        TenantItem::Event(stamped) => {
-            if is_selected(alloc, config, stamped)? {
-                Ok(Some(PipelineItem::Event(Stamped {
-                    stamp: stamped.stamp,
-                    event: stamped.event.share()?,
-                })))
-            } else {
-                Ok(None)
-            }
-        }
-    }
-}
-
-// Whether the pipeline selects an event: its project is listed, and it meets some rule.
-fn is_selected(alloc: Global, config: &Config, stamped: &Stamped) -> Result<bool, Memory>
-    ensures { IfOk result (λ selected. selected ≡ selects_event config.now TENANT.0 PIPELINE.0 stamped.now.stamp.conn.0 stamped.now.event) }
-{
-    let conn = stamped.stamp.conn;
-    let event = stamped.event.get();
-    match &event.project {
-        Some(project) if config.belongs(TENANT, conn, project.as_str()) => {
-            meets_any(alloc, config.rules(TENANT, PIPELINE, conn), event)
-        }
-        _ => Ok(false),
-    }
-}
-
-fn meets_any(alloc: Global, rules: &[Rule], event: &Event) -> Result<bool, Memory>
-    ensures { IfOk result (λ met. met ≡ list_any (λ rule. meets rule event.now) rules.now) }
-{
-    for rule in rules {
-        if rule.matches(alloc, event)? {
-            return Ok(true);
-        }
-    }
-    Ok(false)
+    Ok(pipelines)
 }

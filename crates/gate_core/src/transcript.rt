@@ -1,11 +1,11 @@
 ghost use Rattle.std.specs.Prelude.{◌≡◌, ◌++◌, ◌<◌, ◌^◌, IfOk, [], length, take};
 ghost use Rattle.std.specs.List.{zip};
-ghost use Rattle.gate_core.specs.Moves.{answers_to, after_all, start};
 ghost use Rattle.gate_core.specs.Promises.{Delivers, AnswersRightly};
-ghost use Rattle.gate_core.specs.Reports.{report_in, report_after};
-ghost use Rattle.gate_core.specs.Small.{IsSmall};
+ghost use Rattle.gate_core.specs.Reports.{report_of, report_after};
+ghost use Rattle.gate_core.specs.Steps.{answers_to, first, left_by};
 
 use crate::answer::Answer;
+use crate::laws::every_run_delivers;
 use crate::step::Step;
 use crate::world::World;
 use gate_config::Config;
@@ -23,20 +23,17 @@ pub struct Transcript<'c> {
 
 ghost use Rattle.gate_core.specs.Worlds.{state_of, config_of};
 
-/// Takes steps in order, from the world in which nothing was offered yet. The configuration is one that a world can have.
-/// `Memory` where it is refused at any step.
+/// Takes steps in order, from the world in which nothing was offered yet. `Memory` where it is refused at any step.
 pub fn run<'c>(alloc: Global, config: &'c Config, steps: &[Step]) -> Result<Transcript<'c>, Memory>
-    requires small { IsSmall config.now }
-
     // The answers are those of the steps one after another, and the world is what they leave.
-    ensures answers { IfOk result (λ t. t.answers ≡ answers_to config.entry.now (start config.entry.now) steps.now) }
-    ensures left { IfOk result (λ t. state_of t.world ≡ after_all config.entry.now (start config.entry.now) steps.now) }
+    ensures answers { IfOk result (λ t. t.answers ≡ answers_to config.entry.now (first config.entry.now) steps.now) }
+    ensures left { IfOk result (λ t. state_of t.world ≡ left_by config.entry.now (first config.entry.now) steps.now) }
     ensures config { IfOk result (λ t. config_of t.world ≡ config.entry.now) }
 
     // What was processed is what was wanted, in order, and all of it where the end mark was met.
     ensures delivers { IfOk result (λ t. Delivers config.entry.now (zip steps.now t.answers)) }
     ensures rightly { IfOk result (λ t. AnswersRightly config.entry.now [] (zip steps.now t.answers)) }
-    ensures report { IfOk result (λ t. report_in (state_of t.world) ≡ report_after config.entry.now (zip steps.now t.answers)) }
+    ensures report { IfOk result (λ t. report_of (state_of t.world) ≡ report_after config.entry.now (zip steps.now t.answers)) }
 {
     let mut queue = Queue::new(alloc);
     for step in steps {
@@ -51,14 +48,15 @@ pub fn play<'c>(
     config: &'c Config,
     steps: Queue<Step>,
 ) -> Result<Transcript<'c>, Memory>
-    requires small { IsSmall config.now }
-    ensures answers { IfOk result (λ t. t.answers ≡ answers_to config.entry.now (start config.entry.now) steps) }
-    ensures left { IfOk result (λ t. state_of t.world ≡ after_all config.entry.now (start config.entry.now) steps) }
+    ensures answers { IfOk result (λ t. t.answers ≡ answers_to config.entry.now (first config.entry.now) steps) }
+    ensures left { IfOk result (λ t. state_of t.world ≡ left_by config.entry.now (first config.entry.now) steps) }
     ensures config { IfOk result (λ t. config_of t.world ≡ config.entry.now) }
     ensures delivers { IfOk result (λ t. Delivers config.entry.now (zip steps t.answers)) }
     ensures rightly { IfOk result (λ t. AnswersRightly config.entry.now [] (zip steps t.answers)) }
-    ensures report { IfOk result (λ t. report_in (state_of t.world) ≡ report_after config.entry.now (zip steps t.answers)) }
+    ensures report { IfOk result (λ t. report_of (state_of t.world) ≡ report_after config.entry.now (zip steps t.answers)) }
 {
+    // What is promised of every history is a law of the definitions.
+    every_run_delivers();
     let mut steps = steps;
     // The proof counts by it: fewer than 2^64 records are accepted, since there are no more steps.
     let _total = steps.len();

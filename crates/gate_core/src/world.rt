@@ -1,42 +1,49 @@
-ghost use Rattle.std.specs.Prelude.{◌≡◌, ◌<◌, ◌+◌, ◌^◌, IfOk, OnErr};
-ghost use Rattle.gate_core.specs.Answers.{Does};
-ghost use Rattle.gate_core.specs.Moves.{after, start, accepted_by};
-ghost use Rattle.gate_core.specs.Small.{IsSmall};
+ghost use Rattle.std.specs.Prelude.{◌≡◌, IfOk};
+ghost use Rattle.gate_core.specs.Views.{AreConnections, AreTenants};
 
 use crate::answer::Answer;
 use crate::connection::Connection;
-use crate::pipeline::Pipeline;
-use crate::report::{ConnectionReport, EndCause, PipelineReport, RunReport};
-use crate::state::State;
+use crate::making::{new_connections, new_tenants};
+use crate::report::RunReport;
+use crate::reporting::{report_connections, report_tenants};
+use crate::sending::send;
 use crate::step::Step;
 use crate::tenant::Tenant;
 use gate_config::Config;
-use gate_record::{Memory, Sequence};
+use gate_record::{ConnId, Memory, PipelineId, Record, TenantId};
 use std::alloc::Global;
 
-/// The core at one moment: a configuration, and what moves by it. It has at most one connection, one tenant and one
-/// pipeline for now.
+/// The core at one moment: a configuration, and its connections and tenants at work.
 #[derive(Drop)]
 pub struct World<'c> {
     config: &'c Config,
-    state: State,
+    connections: Vec<Connection<'c>>,
+    tenants: Vec<Tenant<'c>>,
     alloc: Global,
+    /// Each connection has its number and the world's configuration.
+    ghost connections_by_number: { AreConnections config.now connections.items },
+    /// Each tenant has its number and the world's configuration.
+    ghost tenants_by_number: { AreTenants config.now tenants.items },
 }
 
 impl<'c> World<'c> {
-    ghost use Rattle.gate_core.specs.Worlds.{config_of, state_of};
-    ghost use Rattle.gate_core.specs.Reports.{report_in};
+    ghost use Rattle.gate_core.specs.Answers.{Does};
+    ghost use Rattle.gate_core.specs.Reports.{report_of};
+    ghost use Rattle.gate_core.specs.Steps.{close, fetch, first, give, match_gathered, offer, on_connection, on_tenant, send, step_of, take, turn};
+    ghost use Rattle.gate_core.specs.Worlds.{HaveNumbers, config_of, state_of};
 
-    /// The world in which nothing was offered yet, of a configuration with at most one connection, one tenant and one
-    /// pipeline. `Memory` where a queue finds no room.
+    /// The world in which nothing was offered yet. `Memory` where its connections and tenants find no room.
     pub fn new(alloc: Global, config: &'c Config) -> Result<World<'c>, Memory>
-        requires small { IsSmall config.now }
         ensures config { IfOk result (λ world. config_of world ≡ config.entry.now) }
-        ensures start { IfOk result (λ world. state_of world ≡ start config.entry.now) }
+        ensures first { IfOk result (λ world. state_of world ≡ first config.entry.now) }
+        ensures numbers { IfOk result (λ world. HaveNumbers (state_of world)) }
     {
+        let connections = new_connections(alloc, config)?;
+        let tenants = new_tenants(alloc, config)?;
         Ok(World {
             config,
-            state: State::start(alloc, config)?,
+            connections,
+            tenants,
             alloc,
         })
     }
@@ -44,81 +51,110 @@ impl<'c> World<'c> {
     /// Takes one step. An id out of range, or a step that finds nothing to do, is answered `Idle`. Where memory is
     /// refused, all is as before.
     pub fn step(&mut self, step: Step) -> Result<Answer, Memory>
-        requires { accepted_by (state_of self.old) + 1 < 2 ^ 64 }
+        requires { HaveNumbers (state_of self.old) }
         ensures config { config_of self.new ≡ config_of self.old }
-        ensures moves { Does (state_of self.old) (after (config_of self.old) (state_of self.old) step) (state_of self.new) result }
+        ensures moves { Does (state_of self.old) (step_of (config_of self.old) (state_of self.old) step) (state_of self.new) result }
     {
         match step {
-            Step::Offer(conn, line) => self.state.offer(conn, line),
-            Step::Close(conn) => self.state.close(conn),
-            Step::Take(conn) => self.state.take(self.alloc, self.config, conn),
-            Step::Send(conn) => self.state.send(conn),
-            Step::Fetch(tenant, count) => self.state.fetch(tenant, count),
-            Step::Match(tenant) => self.state.match_gathered(self.alloc, self.config, tenant),
-            Step::Give(tenant) => self.state.give(tenant),
-            Step::Turn(tenant, pipeline) => self.state.turn(tenant, pipeline),
+            Step::Offer(conn, line) => self.offer(conn, line),
+            Step::Close(conn) => self.close(conn),
+            Step::Take(conn) => self.take(conn),
+            Step::Send(conn) => self.send(conn),
+            Step::Fetch(tenant, count) => self.fetch(tenant, count),
+            Step::Match(tenant) => self.match_gathered(tenant),
+            Step::Give(tenant) => self.give(tenant),
+            Step::Turn(tenant, pipeline) => self.turn(tenant, pipeline),
         }
     }
 
     /// What has come of the steps so far. `Memory` where the report finds no room.
     pub fn report(&self) -> Result<RunReport, Memory>
-        ensures { IfOk result (λ report. report ≡ report_in (state_of self.now)) }
+        ensures { IfOk result (λ report. report ≡ report_of (state_of self.now)) }
     {
         Ok(RunReport {
-            connections: connections_of(self.alloc, &self.state.connection)?,
-            pipelines: tenants_of(self.alloc, &self.state.tenant)?,
+            connections: report_connections(self.alloc, self.connections.as_slice())?,
+            pipelines: report_tenants(self.alloc, self.tenants.as_slice())?,
         })
     }
-}
 
-ghost use Rattle.gate_core.specs.Reports.{connections_in, pipelines_in, tenants_in};
-
-fn connections_of(
-    alloc: Global,
-    connection: &Option<Connection>,
-) -> Result<Sequence<ConnectionReport>, Memory>
-    ensures { IfOk result (λ reports. reports ≡ connections_in connection.now) }
-{
-    let mut reports = Sequence::empty(alloc);
-    if let Some(connection) = connection {
-        reports.push(ConnectionReport {
-            accepted: connection.accepted,
-            cause: if connection.closed {
-                EndCause::Ended
-            } else {
-                EndCause::Unclosed
-            },
-        })?;
+    fn offer(&mut self, conn: ConnId, line: Record) -> Result<Answer, Memory>
+        requires { HaveNumbers (state_of self.old) }
+        ensures config { config_of self.new ≡ config_of self.old }
+        ensures moves { Does (state_of self.old) (on_connection (offer line) conn.0 (state_of self.old)) (state_of self.new) result }
+    {
+        match self.connections.get_mut(conn.0 as usize) {
+            Some(connection) => connection.offer(line),
+            None => Ok(Answer::Idle),
+        }
     }
-    Ok(reports)
-}
 
-fn pipelines_of(
-    alloc: Global,
-    pipeline: &Option<Pipeline>,
-) -> Result<Sequence<PipelineReport>, Memory>
-    ensures { IfOk result (λ reports. reports ≡ pipelines_in pipeline.now) }
-{
-    let mut reports = Sequence::empty(alloc);
-    if let Some(pipeline) = pipeline {
-        let done = pipeline.done.as_slice().to_vec(alloc)?;
-        reports.push(PipelineReport {
-            done: Sequence::new(done),
-            finished: pipeline.finished,
-        })?;
+    fn close(&mut self, conn: ConnId) -> Result<Answer, Memory>
+        ensures config { config_of self.new ≡ config_of self.old }
+        ensures moves { Does (state_of self.old) (on_connection close conn.0 (state_of self.old)) (state_of self.new) result }
+    {
+        match self.connections.get_mut(conn.0 as usize) {
+            Some(connection) => connection.close(),
+            None => Ok(Answer::Idle),
+        }
     }
-    Ok(reports)
-}
 
-fn tenants_of(
-    alloc: Global,
-    tenant: &Option<Tenant>,
-) -> Result<Sequence<Sequence<PipelineReport>>, Memory>
-    ensures { IfOk result (λ reports. reports ≡ tenants_in tenant.now) }
-{
-    let mut reports = Sequence::empty(alloc);
-    if let Some(tenant) = tenant {
-        reports.push(pipelines_of(alloc, &tenant.pipeline)?)?;
+    fn take(&mut self, conn: ConnId) -> Result<Answer, Memory>
+        ensures config { config_of self.new ≡ config_of self.old }
+        ensures moves { Does (state_of self.old) (on_connection (take (config_of self.old) conn.0) conn.0 (state_of self.old)) (state_of self.new) result }
+    {
+        match self.connections.get_mut(conn.0 as usize) {
+            Some(connection) => connection.take(self.alloc),
+            None => Ok(Answer::Idle),
+        }
     }
-    Ok(reports)
+
+    fn send(&mut self, conn: ConnId) -> Result<Answer, Memory>
+        ensures config { config_of self.new ≡ config_of self.old }
+        ensures moves { Does (state_of self.old) (send conn.0 (state_of self.old)) (state_of self.new) result }
+    {
+        match self.connections.get_mut(conn.0 as usize) {
+            Some(connection) => send(connection, &mut self.tenants),
+            None => Ok(Answer::Idle),
+        }
+    }
+
+    fn fetch(&mut self, tenant: TenantId, count: u32) -> Result<Answer, Memory>
+        ensures config { config_of self.new ≡ config_of self.old }
+        ensures moves { Does (state_of self.old) (on_tenant (fetch (config_of self.old) tenant.0 count) tenant.0 (state_of self.old)) (state_of self.new) result }
+    {
+        match self.tenants.get_mut(tenant.0 as usize) {
+            Some(worker) => worker.fetch(count),
+            None => Ok(Answer::Idle),
+        }
+    }
+
+    fn match_gathered(&mut self, tenant: TenantId) -> Result<Answer, Memory>
+        ensures config { config_of self.new ≡ config_of self.old }
+        ensures moves { Does (state_of self.old) (on_tenant (match_gathered (config_of self.old) tenant.0) tenant.0 (state_of self.old)) (state_of self.new) result }
+    {
+        match self.tenants.get_mut(tenant.0 as usize) {
+            Some(worker) => worker.match_gathered(self.alloc),
+            None => Ok(Answer::Idle),
+        }
+    }
+
+    fn give(&mut self, tenant: TenantId) -> Result<Answer, Memory>
+        ensures config { config_of self.new ≡ config_of self.old }
+        ensures moves { Does (state_of self.old) (on_tenant give tenant.0 (state_of self.old)) (state_of self.new) result }
+    {
+        match self.tenants.get_mut(tenant.0 as usize) {
+            Some(worker) => worker.give(),
+            None => Ok(Answer::Idle),
+        }
+    }
+
+    fn turn(&mut self, tenant: TenantId, pipeline: PipelineId) -> Result<Answer, Memory>
+        ensures config { config_of self.new ≡ config_of self.old }
+        ensures moves { Does (state_of self.old) (on_tenant (turn pipeline.0) tenant.0 (state_of self.old)) (state_of self.new) result }
+    {
+        match self.tenants.get_mut(tenant.0 as usize) {
+            Some(worker) => worker.turn(pipeline),
+            None => Ok(Answer::Idle),
+        }
+    }
 }

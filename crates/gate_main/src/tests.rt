@@ -1,4 +1,6 @@
 mod check;
+mod many;
+mod several;
 
 use crate::program::run_words;
 use gate_config::{Config, read_config};
@@ -217,12 +219,6 @@ fn fills_its_queue(rt: HostRuntime) -> Result<(), Fail> {
 #[test]
 fn runs_steps_and_reports(rt: HostRuntime) -> Result<(), Fail> {
     let config = base(&rt, rt.alloc());
-    let is_small = config.connections().len() <= 1
-        && config.tenants().len() <= 1
-        && config.pipelines(TenantId(0)).len() <= 1;
-    if !is_small {
-        panic!(rt; "a world can have the base configuration");
-    }
     let line = b"{}".to_vec(rt.alloc())?;
     let steps = [
         Step::Offer(ConnId(0), Record::Line(Sequence::new(line))),
@@ -327,24 +323,6 @@ fn tells_faults_by_text_and_status(rt: HostRuntime) -> Result<(), Fail> {
             "{\"tenants\":[]}",
             3,
             "fault: shape config\n",
-        ),
-        (
-            ["gate"].as_slice(),
-            "{\"tenants\":[{\"name\":\"a\"},{\"name\":\"b\"}],\"config\":{}}",
-            3,
-            "fault: limit tenants\n",
-        ),
-        (
-            ["gate"].as_slice(),
-            "{\"tenants\":[{\"name\":\"a\",\"source\":{\"g\":null,\"h\":null}}],\"config\":{}}\nno step",
-            3,
-            "fault: limit tenants\n",
-        ),
-        (
-            ["gate"].as_slice(),
-            "{\"tenants\":[{\"name\":\"a\"}],\"config\":{\"a\":[{\"pipeline\":{\"name\":\"p\",\"manager\":\"dependent\"}},{\"pipeline\":{\"name\":\"q\",\"manager\":\"dependent\"}}]}}",
-            3,
-            "fault: limit tenants\n",
         ),
         (
             ["gate"].as_slice(),

@@ -1,7 +1,0 @@
-use Rattle.gate_core.specs.Steps.{new_tenant}
-use Rattle.gate_core.specs.Views.{IsTenant, tenant_view}
-use Rattle.gate_core.proofs.Makings.{AreMade}
-use Rattle.gate_core.proofs.wide.making.new_tenants.Given as goal
-
-abbrev pub invariant-loop-number : goal.invariant-loop-number
-invariant-loop-number l = AreMade tenant_view (new_tenant l.config) (IsTenant l.config) l.number l.tenants.items

@@ -1,0 +1,23 @@
+use Rattle.std.proofs.Common.{map}
+use Rattle.std.proofs.lemmas.Option.{slice_get_past}
+use Rattle.std.proofs.Common.{ℕ}
+use Rattle.gate_config.specs.declared.config.Config.{Config}
+use Rattle.gate_core.specs.Answers.{Does}
+use Rattle.gate_core.specs.Steps.{take}
+use Rattle.gate_core.specs.Views.{connection_view, tenant_view}
+use Rattle.gate_core.proofs.Elements.{lent}
+use Rattle.gate_core.proofs.Wholes.{connection_does, connection_idles, known}
+use Rattle.gate_core.proofs.world.World.take.Goals as goal
+
+pub returns-in-Some-clause-moves : goal.returns-in-Some-clause-moves
+returns-in-Some-clause-moves c =
+    let conns = c.args.self.now.connections.items in
+    let old = c.in-Some.connection.now in
+    let item = c.in-Some.ensures.item in
+    let at = lent conns c.args.conn.0 old item.3.0 item.1 in
+    connection_does (take c.args.self.now.config.now c.args.conn.0) c.args.conn.0 conns (map tenant_view c.args.self.now.tenants.items) old c.take.new.self c.take.result at (known (λ (config : Config) (n : ℕ). Does (connection_view old) (take config n (connection_view old)) (connection_view c.take.new.self) c.take.result) _ _ _ _ (c.args.self.now.connections_by_number c.args.conn.0 old at) c.take.ensures.does)
+
+pub returns-in-None-clause-moves : goal.returns-in-None-clause-moves
+returns-in-None-clause-moves c =
+    let conns = c.args.self.now.connections.items in
+    connection_idles (take c.args.self.now.config.now c.args.conn.0) c.args.conn.0 conns (map tenant_view c.args.self.now.tenants.items) (slice_get_past conns c.args.conn.0 c.in-None.ensures.item.3)

@@ -1,0 +1,45 @@
+ghost use Rattle.std.specs.Prelude.{◌≡◌, map};
+ghost use Rattle.gate_config.specs.declared.config.Config.{Config as Configuration};
+ghost use Rattle.gate_core.specs.Sends.{Sends};
+ghost use Rattle.gate_core.specs.Views.{AreTenants, config_of_connection, connection_view, number_of_connection, tenant_view};
+
+use crate::answer::Answer;
+use crate::connection::Connection;
+use crate::tenant::{Tenant, Unput};
+use gate_record::Memory;
+
+/// Sends the next item of a connection's forwarder to the tenant that is to get it: `Full` where 4,096 items wait there.
+/// Where memory is refused, all is as before.
+pub(crate) fn send<'c>(
+    connection: &mut Connection<'c>,
+    tenants: &mut Vec<Tenant<'c>>,
+) -> Result<Answer, Memory>
+    ensures config { config_of_connection connection.new ≡ config_of_connection connection.old }
+    ensures number { number_of_connection connection.new ≡ number_of_connection connection.old }
+    ensures tenants { (config : Configuration) → AreTenants config tenants.old.items → AreTenants config tenants.new.items }
+    ensures does { Sends (connection_view connection.old) (map tenant_view tenants.old.items) (connection_view connection.new) (map tenant_view tenants.new.items) result }
+{
+    let Some((tenant, item)) = connection.forward.next() else {
+        return Ok(Answer::Idle);
+    };
+    match tenants.get_mut(tenant.0 as usize) {
+        None => {
+            connection.forward.unsent(item);
+            Ok(Answer::Idle)
+        }
+        Some(worker) => match worker.put(item) {
+            Ok(()) => {
+                connection.forward.sent();
+                Ok(Answer::Moved)
+            }
+            Err(Unput::Full(item)) => {
+                connection.forward.unsent(item);
+                Ok(Answer::Full)
+            }
+            Err(Unput::Memory(item)) => {
+                connection.forward.unsent(item);
+                Err(Memory)
+            }
+        },
+    }
+}
