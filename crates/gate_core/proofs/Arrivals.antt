@@ -1,6 +1,7 @@
 -- What is forwarded, then chosen, is what is wanted.
 use Rattle.std.proofs.Common.{◌≡◌, ◌∙◌, ap, refl, ℕ, zero, suc, ◌+◌, List, [], ◌∷◌, ◌++◌, Bool, true, false, cond, Option, Some, None, map, take, append-nil, rules}
 use Rattle.std.specs.Prelude.{◌&&◌, ◌==◌, option_and_then, if◌then◌else◌}
+use Rattle.std.proofs.lemmas.List.Elements.{filter_map-append}
 use Rattle.std.specs.List.{cons_option, enumerate_from, filter_map, list_any}
 use Rattle.gate_record.specs.declared.event.Event.{Event}
 use Rattle.gate_record.specs.declared.ids.ConnId.{ConnId}
@@ -21,7 +22,7 @@ use Rattle.gate_forward.specs.Forwarding.{conn_id, stamped, forwarded, forwarded
 use Rattle.gate_tenant.specs.Dispatching.{chosen, chosen_item, holds_ends}
 use Rattle.gate_core.specs.History.{number_from, number_where, wanted}
 use Rattle.gate_core.specs.Ways.{WantedArrive, arrives, entries_of, number_of_item, numbered}
-use Rattle.gate_core.proofs.Maps.{filter_map-append, filter_map-filter_map, filter_map_still}
+use Rattle.gate_core.proofs.Maps.{filter_map-filter_map, filter_map_still}
 
 pub same_as_itself : (n : ℕ) → (n == n) ≡ true
 same_as_itself n = search rules

@@ -4,16 +4,13 @@ use Rattle.std.specs.List.{range_with_len}
 use Rattle.std.proofs.lemmas.List.{length-map, map-append}
 use Rattle.std.proofs.lemmas.List.FromFn.{length-map-range_with_len, map-range_with_len_more}
 use Rattle.gate_core.specs.Views.{EachAt}
-use Rattle.gate_core.proofs.Elements.{each_none, each_push}
+use Rattle.gate_core.proofs.Elements.{each_push}
 
 module _ {X S : Type 0} (view : X → S) (made : ℕ → S) (has : ℕ → X → Type 0) where
   -- so many are made: each has what it is to have, and they look like this
   pub record AreMade (n : ℕ) (xs : List X) : Type 0 where
     pub each : EachAt has xs
     pub seen : map view xs ≡ map made (range_with_len 0 n)
-
-  pub none_made : AreMade 0 []
-  none_made = record { each = each_none has; seen = refl }
 
   how_many : (n : ℕ) (xs : List X) → AreMade n xs → n ≡ length xs
   how_many n xs are = sym (length-map-range_with_len made 0 n) ∙ sym (ap length are.seen) ∙ length-map xs view

@@ -1,6 +1,7 @@
 -- What holds means that what was processed is what was wanted.
 use Rattle.std.proofs.Common.{◌≡◌, ◌∙◌, refl, sym, ap, ℕ, zero, suc, ◌+◌, ◌<◌, ◌≤◌, ◌==◌, List, [], ◌∷◌, ◌++◌, Bool, true, false, length, map, drop, get_or, Option, Some, None, cond, if◌then◌else◌, arith, append-nil, append_assoc, zero-add}
 use Rattle.std.specs.Prelude.{◌&&◌, ◌||◌, nat_lt, not, option_and_then, slice_get, is_some, unwrap_or, option_map}
+use Rattle.std.proofs.lemmas.List.Elements.{filter_map-append}
 use Rattle.std.specs.List.{cons_option, enumerate_from, filter, filter_map, list_all, list_any, range_with_len}
 use Rattle.std.specs.Option.{option_to_list}
 use Rattle.std.proofs.lemmas.Bool.{ltb-true, ltb-false}
@@ -32,7 +33,7 @@ use Rattle.gate_core.specs.Promises.{Delivers, IsPrefixOf}
 use Rattle.gate_core.specs.States.{TenantState, State}
 use Rattle.gate_core.specs.Ways.{entries_of, number_of_item, numbered}
 use Rattle.gate_core.proofs.Arrivals.{brought, by_items, wanted_arrive}
-use Rattle.gate_core.proofs.Maps.{filter_map-append, filter_map-filter_map, filter_map_none, filter_map_same}
+use Rattle.gate_core.proofs.Maps.{filter_map-filter_map, filter_map_none, filter_map_same}
 use Rattle.gate_core.proofs.Sendings.{items_to}
 use Rattle.gate_core.proofs.Streams.{Holds, PipeHolds, TenantHolds, count_of, hand_of, is_end, is_from, mark, pipe_of, put_by, queue_of, stamp_in}
 

@@ -1,4 +1,4 @@
-use Rattle.std.proofs.Common.{◌≡◌, ◌∙◌, sym, ap, List}
+use Rattle.std.proofs.Common.{◌∙◌, sym, ap, List}
 use Rattle.std.specs.Prelude.{slice_get}
 use Rattle.gate_core.specs.States.{ConnectionState}
 use Rattle.gate_core.proofs.Beginnings.{first_numbers}
