@@ -1,6 +1,7 @@
 -- What is true after any history of calls.
 use Rattle.std.proofs.Common.{◌≡◌, ◌∙◌, refl, sym, ap, subst, ℕ, suc, ◌<◌, ◌==◌, ◌-◌, List, [], ◌∷◌, ◌++◌, Bool, true, false, not, ◌&&◌, length, flat_map, Some, None, if◌then◌else◌, append-nil, arith}
 use Rattle.std.specs.List.{filter_map}
+use Rattle.std.proofs.lemmas.List.Elements.{filter_map-append}
 use Rattle.std.specs.Option.{option_to_list}
 use Rattle.std.proofs.Math.Dec.{eqb-suc-zero}
 use Rattle.std.proofs.lemmas.List.{append_assoc}
@@ -14,7 +15,7 @@ use Rattle.gate_tenant.specs.Dispatching.{all_marked, by_pipeline, chosen, chose
 use Rattle.gate_tenant.specs.Histories.{AllWasGiven, EachGetsItsOwn, Happens, History, NothingIsLost, beginning, begins, comes_back, gathers, gives, item_for, items_for, matches, moves}
 use Rattle.gate_tenant.specs.States.{State, has_ended, last_marks, matched, room_of}
 use Rattle.gate_tenant.proofs.Ends.{ends_are}
-use Rattle.gate_tenant.proofs.Shares.{filter_map-append, of_items, of_marks}
+use Rattle.gate_tenant.proofs.Shares.{of_items, of_marks}
 
 pub record Holds (config : Config) (t : ℕ) (h : History) : Type 0 where
   -- the marks are those of all that was matched
