@@ -31,8 +31,5 @@ pub use world::World;
 /// How many values a queue holds.
 pub const PLACES: usize = 4096;
 
-/// How many items a tenant gathers before they are matched.
-pub const BATCH: usize = 256;
-
 /// How many values a pipeline takes in one phase of a pass before it goes on.
 pub const PHASE: u32 = 256;

@@ -15,7 +15,7 @@ pub enum Fault {
     Write,
     /// The words are no form that is known.
     Usage,
-    /// The document is no configuration, or one that is too large for now.
+    /// The document is no configuration.
     Config(ConfigFault),
     /// The first line of the script that is no step, counted from 1.
     Script(usize),
