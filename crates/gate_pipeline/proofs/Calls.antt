@@ -1,0 +1,138 @@
+-- What is true after any calls.
+use Rattle.std.proofs.Common.{◌≡◌, ◌∙◌, refl, sym, ap, ℕ, List, [], ◌∷◌, ◌++◌, map, Option, Some, None, append-nil, append_assoc}
+use Rattle.std.specs.List.{filter_map}
+use Rattle.std.specs.Option.{option_to_list}
+use Rattle.std.proofs.lemmas.List.Elements.{filter_map-append}
+use Rattle.gate_record.specs.declared.ids.Stamp.{Stamp}
+use Rattle.gate_record.specs.declared.transit.PipelineItem.TheVariants as item
+use Rattle.gate_config.specs.declared.config.Config.{Config}
+use Rattle.gate_items.specs.History.{after}
+use Rattle.gate_items.specs.declared.action.Action.{Action}
+use Rattle.gate_items.specs.Machine.{apply}
+use Rattle.gate_items.specs.Machine as items
+use Rattle.gate_pipeline.specs.declared.pass.Pass.{Pass}
+use Rattle.gate_pipeline.specs.declared.pass.Taking.{Taking}
+use Rattle.gate_pipeline.specs.declared.which.Held.{Held}
+use Rattle.gate_pipeline.specs.declared.which.Held.TheVariants as held
+use Rattle.gate_pipeline.specs.declared.which.Taken.{Taken}
+use Rattle.gate_pipeline.specs.declared.which.Taken.TheVariants as taken
+use Rattle.gate_pipeline.specs.Histories.{AppliedOnce, Call, FoundEmpty, PhasesFollow, Refused, Took, action_of, after_call, after_calls, processed_in, stamp_of, taking_of, takings, takings_of}
+use Rattle.gate_pipeline.specs.Passes.{after_taking, first_pass, pass_after}
+use Rattle.gate_pipeline.specs.States.{Processed, State, first_state, found_empty, held_as, processed, taken_in, takes, to_process, with_processed}
+
+-- ---- phases
+
+pass_of_processed : (config : Config) (waiting : Option Held) (state : State) → (with_processed config waiting state).0.pass ≡ state.pass
+pass_of_processed config None state = refl
+pass_of_processed config (Some (held.Action action)) state = refl
+pass_of_processed config (Some (held.Event stamped)) state = refl
+
+pass_of_taken : (given : Taken) (state : State) → (taken_in given state).pass ≡ pass_after state.pass (taking_of given)
+pass_of_taken (taken.Manage manage) state = refl
+pass_of_taken (taken.Result result) state = refl
+pass_of_taken (taken.Trigger (item.Event stamped)) state = refl
+pass_of_taken (taken.Trigger item.End) state = refl
+pass_of_taken taken.Again state = refl
+
+pass_of_call : (config : Config) (state : State) (call : Call) → (after_call config state call).pass ≡ pass_after state.pass (takings_of call)
+pass_of_call config state (Took given) = pass_of_processed config (to_process state.held given) (taken_in given state) ∙ pass_of_taken given state
+pass_of_call config state (Refused given) = pass_of_taken given state
+pass_of_call config state FoundEmpty = refl
+
+pass_after-append : (pass : Pass) (xs ys : List Taking) → pass_after pass (xs ++ ys) ≡ pass_after (pass_after pass xs) ys
+pass_after-append pass [] ys = refl
+pass_after-append pass (x ∷ xs) ys = pass_after-append (after_taking pass x) xs ys
+
+pass_of_calls : (config : Config) (state : State) (calls : List Call) → (after_calls config state calls).pass ≡ pass_after state.pass (takings calls)
+pass_of_calls config state [] = refl
+pass_of_calls config state (call ∷ calls) =
+    pass_of_calls config (after_call config state call) calls
+    ∙ ap (λ (pass : Pass). pass_after pass (takings calls)) (pass_of_call config state call)
+    ∙ sym (pass_after-append state.pass (takings_of call) (takings calls))
+
+pub phases_follow : PhasesFollow
+phases_follow config t p calls = pass_of_calls config (first_state config t p) calls
+
+-- ---- items
+
+after-append : (s : items.State) (xs ys : List Action) → after s (xs ++ ys) ≡ after (after s xs) ys
+after-append s [] ys = refl
+after-append s (x ∷ xs) ys = after-append (apply s x).0 xs ys
+
+map-option : {X Y : Type 0} (f : X → Y) (o : Option X) (xs : List X) → map f (option_to_list o ++ xs) ≡ map f (option_to_list o) ++ map f xs
+map-option f None xs = refl
+map-option f (Some x) xs = refl
+
+items_of_processed : (config : Config) (waiting : Option Held) (state : State) →
+    (with_processed config waiting state).0.items ≡ after state.items (map action_of (option_to_list (with_processed config waiting state).1))
+items_of_processed config None state = refl
+items_of_processed config (Some (held.Action action)) state = refl
+items_of_processed config (Some (held.Event stamped)) state = refl
+
+items_of_taken : (given : Taken) (state : State) → (taken_in given state).items ≡ state.items
+items_of_taken (taken.Manage manage) state = refl
+items_of_taken (taken.Result result) state = refl
+items_of_taken (taken.Trigger (item.Event stamped)) state = refl
+items_of_taken (taken.Trigger item.End) state = refl
+items_of_taken taken.Again state = refl
+
+items_of_took : (config : Config) (state : State) (given : Taken) → (takes config state given).0.items ≡ after state.items (map action_of (option_to_list (takes config state given).1))
+items_of_took config state given =
+    items_of_processed config (to_process state.held given) (taken_in given state)
+    ∙ ap (λ (s : items.State). after s (map action_of (option_to_list (takes config state given).1))) (items_of_taken given state)
+
+items_of_calls : (config : Config) (state : State) (calls : List Call) → (after_calls config state calls).items ≡ after state.items (map action_of (processed_in config state calls))
+items_of_calls config state [] = refl
+items_of_calls config state (Took given ∷ calls) =
+    let next = takes config state given in
+    items_of_calls config next.0 calls
+    ∙ ap (λ (s : items.State). after s (map action_of (processed_in config next.0 calls))) (items_of_took config state given)
+    ∙ sym (after-append state.items (map action_of (option_to_list next.1)) (map action_of (processed_in config next.0 calls)))
+    ∙ ap (after state.items) (sym (map-option action_of next.1 (processed_in config next.0 calls)))
+items_of_calls config state (Refused given ∷ calls) =
+    let next = held_as (to_process state.held given) (taken_in given state) in
+    items_of_calls config next calls
+    ∙ ap (λ (s : items.State). after s (map action_of (processed_in config next calls))) (items_of_taken given state)
+items_of_calls config state (FoundEmpty ∷ calls) = items_of_calls config (found_empty state) calls
+
+-- ---- what is done
+
+done_of_processed : (config : Config) (waiting : Option Held) (state : State) →
+    (with_processed config waiting state).0.done ≡ state.done ++ filter_map stamp_of (option_to_list (with_processed config waiting state).1)
+done_of_processed config None state = sym (append-nil state.done)
+done_of_processed config (Some (held.Action action)) state = sym (append-nil state.done)
+done_of_processed config (Some (held.Event stamped)) state = refl
+
+done_of_taken : (given : Taken) (state : State) → (taken_in given state).done ≡ state.done
+done_of_taken (taken.Manage manage) state = refl
+done_of_taken (taken.Result result) state = refl
+done_of_taken (taken.Trigger (item.Event stamped)) state = refl
+done_of_taken (taken.Trigger item.End) state = refl
+done_of_taken taken.Again state = refl
+
+done_of_took : (config : Config) (state : State) (given : Taken) → (takes config state given).0.done ≡ state.done ++ filter_map stamp_of (option_to_list (takes config state given).1)
+done_of_took config state given =
+    done_of_processed config (to_process state.held given) (taken_in given state)
+    ∙ ap (λ (stamps : List Stamp). stamps ++ filter_map stamp_of (option_to_list (takes config state given).1)) (done_of_taken given state)
+
+done_of_calls : (config : Config) (state : State) (calls : List Call) → (after_calls config state calls).done ≡ state.done ++ filter_map stamp_of (processed_in config state calls)
+done_of_calls config state [] = sym (append-nil state.done)
+done_of_calls config state (Took given ∷ calls) =
+    let next = takes config state given in
+    let first = filter_map stamp_of (option_to_list next.1) in
+    let others = filter_map stamp_of (processed_in config next.0 calls) in
+    done_of_calls config next.0 calls
+    ∙ ap (λ (stamps : List Stamp). stamps ++ others) (done_of_took config state given)
+    ∙ append_assoc state.done first others
+    ∙ ap (λ (stamps : List Stamp). state.done ++ stamps) (sym (filter_map-append stamp_of (option_to_list next.1) (processed_in config next.0 calls)))
+done_of_calls config state (Refused given ∷ calls) =
+    let next = held_as (to_process state.held given) (taken_in given state) in
+    done_of_calls config next calls
+    ∙ ap (λ (stamps : List Stamp). stamps ++ filter_map stamp_of (processed_in config next calls)) (done_of_taken given state)
+done_of_calls config state (FoundEmpty ∷ calls) = done_of_calls config (found_empty state) calls
+
+pub applied_once : AppliedOnce
+applied_once = record {
+  items = λ config t p calls. items_of_calls config (first_state config t p) calls;
+  done = λ config t p calls. done_of_calls config (first_state config t p) calls;
+}

@@ -1,0 +1,4 @@
+pub mod Histories
+pub mod Passes
+pub mod States
+pub mod Triggers

@@ -1,0 +1,39 @@
+-- The action that a trigger event asks for.
+use Rattle.std.specs.Prelude.{ℕ, ℤ, pos, List, [], Option, Some, None, unwrap_or}
+use Rattle.gate_record.specs.declared.event.Event.{Event}
+use Rattle.gate_record.specs.declared.ids.ConnId.{ConnId}
+use Rattle.gate_record.specs.declared.transit.Stamped.{Stamped}
+use Rattle.gate_config.specs.declared.config.Config.{Config}
+use Rattle.gate_config.specs.Lookups.{jobs_of}
+use Rattle.gate_items.specs.declared.action.Action.{Action}
+use Rattle.gate_items.specs.declared.action.Action.TheVariants as action
+use Rattle.gate_items.specs.declared.key.Key.{Key}
+use Rattle.gate_items.specs.declared.key.Key.TheVariants as key
+
+-- the project of an event; one that is missing counts as the empty text
+abbrev pub project_of : Event → List ℕ
+project_of event = unwrap_or event.project []
+
+-- an update of a ref, where both the ref and its new revision are there
+abbrev pub ref_key : ConnId → List ℕ → Option (List ℕ) → Option (List ℕ) → Option Key
+ref_key conn project (Some refname) (Some newrev) = Some (key.Ref conn project refname newrev)
+ref_key conn project (Some refname) None = None
+ref_key conn project None newrev = None
+
+-- the change that an event has, or else its update of a ref
+abbrev pub key_of : ConnId → Event → Option ℤ → Option Key
+key_of conn event (Some number) = Some (key.Change conn number)
+key_of conn event None = ref_key conn (project_of event) event.refname event.newrev
+
+-- the patch set of an event with this key: 0 for a ref, and where it is missing
+abbrev pub patchset_of : Event → Option Key → ℤ
+patchset_of event (Some (key.Ref conn project refname newrev)) = pos 0
+patchset_of event (Some (key.Change conn number)) = unwrap_or event.patchset (pos 0)
+patchset_of event None = unwrap_or event.patchset (pos 0)
+
+-- for pipeline p of tenant t: the key and the patch set of the event, and the jobs of its project
+abbrev pub trigger_of : Config → ℕ → ℕ → Stamped → Action
+trigger_of config t p stamped =
+    action.Trigger (key_of stamped.stamp.conn stamped.event stamped.event.change)
+    (patchset_of stamped.event (key_of stamped.stamp.conn stamped.event stamped.event.change))
+    (jobs_of config t p (project_of stamped.event))

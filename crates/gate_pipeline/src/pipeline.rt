@@ -1,0 +1,187 @@
+ghost use Rattle.std.specs.Prelude.{◌≡◌, OnErr, MatchResult, true};
+ghost use Rattle.gate_pipeline.specs.States.{MayBeRefused, Takes, applied, asked, first_state, found_empty, is_taking, next_of, processed, to_process};
+
+use crate::pass::{Pass, Phase, Taking};
+use crate::trigger::{manager_of, trigger_of};
+use crate::which::{Held, Taken, Which};
+use gate_config::Config;
+use gate_items::{Action, Items, Outcome};
+use gate_record::{Memory, PipelineId, PipelineItem, Stamp, Stamped, TenantId};
+use std::alloc::Global;
+use std::marker::Model;
+
+/// The worker of a pipeline: where its pass stands, what it has processed, and its queue items. Contracts see these, and
+/// the numbers of the pipeline and its tenant.
+///
+/// A pass goes from management events to results to triggers, and begins again. Whoever has the queues asks `wants`,
+/// takes from the queue that it names, and hands in what it took, or that the queue was empty.
+#[derive(Drop)]
+pub struct Pipeline {
+    tenant: TenantId,
+    pipeline: PipelineId,
+    pass: Pass,
+    held: Option<Held>,
+    done: Vec<Stamp>,
+    finished: bool,
+    items: Items,
+}
+
+impl Model for Pipeline {
+    ghost use Rattle.gate_pipeline.specs.States.{State};
+
+    ghost Value = { State };
+
+    ghost view = { λ p. record { tenant = p.tenant.0; pipeline = p.pipeline.0; pass = p.pass; held = p.held; done = p.done.items; finished = p.finished; items = p.items } };
+}
+
+impl Pipeline {
+    /// The worker of a pipeline of a tenant before anything was taken. A pipeline that the configuration hasn't got counts
+    /// as an independent one. It takes no memory.
+    pub fn new(alloc: Global, config: &Config, tenant: TenantId, pipeline: PipelineId) -> Pipeline
+        ensures { result ≡ first_state config.now tenant.0 pipeline.0 }
+    {
+        Pipeline {
+            tenant,
+            pipeline,
+            pass: Pass::first(),
+            held: None,
+            done: Vec::new(alloc),
+            finished: false,
+            items: Items::new(alloc, manager_of(config, tenant, pipeline), 0),
+        }
+    }
+
+    /// What is to be done next: nothing once the end mark was taken, else what is held, else to take from the queue of the
+    /// phase.
+    pub fn wants(&self) -> Which
+        ensures { result ≡ next_of self.now }
+    {
+        if self.finished {
+            return Which::Finished;
+        }
+        if self.held.is_some() {
+            return Which::Held;
+        }
+        match self.pass.phase {
+            Phase::Management => Which::Management,
+            Phase::Result => Which::Result,
+            Phase::Trigger => Which::Trigger,
+        }
+    }
+
+    /// Processes what was taken, which is what `wants` asks for: it counts in its phase, and the action that it stands for
+    /// is applied to the items. It answers the action, with its stamp where it is of a trigger event, and its outcome, and
+    /// nothing for the end mark, which finishes the pipeline. A trigger event asks for the jobs of its project by this
+    /// configuration, and its stamp is done then, whether the action was applied or discarded.
+    ///
+    /// `Memory` where a trigger, or a reset of an independent pipeline, finds none: then it is held, and is the next one
+    /// processed.
+    pub fn took(
+        &mut self,
+        config: &Config,
+        given: Taken,
+    ) -> Result<Option<(Option<Stamp>, Action, Outcome)>, Memory>
+        requires asked { next_of self.old ≡ asked given }
+        ensures takes { Takes config.now self.old given self.new result }
+        ensures refused { OnErr result (MayBeRefused self.old.items.manager (to_process self.old.held given)) }
+    {
+        let held = match given {
+            Taken::Manage(manage) => self.count(Held::Action(Action::Manage(manage))),
+            Taken::Result(result) => self.count(Held::Action(Action::Result(result))),
+            Taken::Trigger(PipelineItem::Event(stamped)) => self.count(Held::Event(stamped)),
+            Taken::Trigger(PipelineItem::End) => {
+                self.pass = self.pass.after(Taking::Value);
+                self.finished = true;
+                return Ok(None);
+            }
+            Taken::Again => match self.held.take() {
+                Some(held) => held,
+                None => return Ok(None),
+            },
+        };
+        Ok(Some(self.process(config, held)?))
+    }
+
+    /// The queue that `wants` names was found empty: the pass goes on to the next phase.
+    pub fn found_empty(&mut self)
+        requires asked { is_taking (next_of self.old) ≡ true }
+        ensures { self.new ≡ found_empty self.old }
+    {
+        self.pass = self.pass.after(Taking::Nothing);
+    }
+
+    /// The stamps of the trigger events that were processed, in order.
+    pub fn done(&self) -> &[Stamp]
+        ensures { result.now ≡ self.now.done }
+    {
+        self.done.as_slice()
+    }
+
+    /// Whether the end mark was taken.
+    pub fn finished(&self) -> bool
+        ensures { result ≡ self.now.finished }
+    {
+        self.finished
+    }
+
+    /// The queue items and the reports.
+    pub fn state(&self) -> &Items
+        ensures { result.now ≡ self.now.items }
+    {
+        &self.items
+    }
+
+    ghost use Rattle.gate_pipeline.specs.States.{Processes, counted, held_as};
+    ghost use Rattle.std.specs.Prelude.{Some, None};
+
+    // Counts a taking.
+    fn count(&mut self, held: Held) -> Held
+        ensures counts { self.new ≡ counted self.old }
+        ensures same { result ≡ held }
+    {
+        self.pass = self.pass.after(Taking::Value);
+        held
+    }
+
+    // Processes what was taken. Where memory is refused it is held.
+    fn process(
+        &mut self,
+        config: &Config,
+        held: Held,
+    ) -> Result<(Option<Stamp>, Action, Outcome), Memory>
+        requires free { self.old.held ≡ None }
+        ensures processes { Processes config.now self.old held self.new result }
+        ensures refused { OnErr result (MayBeRefused self.old.items.manager (Some held)) }
+    {
+        match held {
+            Held::Action(action) => match self.items.apply(&action) {
+                Ok(outcome) => Ok((None, action, outcome)),
+                Err(Memory) => {
+                    self.held = Some(Held::Action(action));
+                    Err(Memory)
+                }
+            },
+            Held::Event(stamped) => match self.trigger(config, &stamped) {
+                Ok((action, outcome)) => Ok((Some(stamped.stamp), action, outcome)),
+                Err(Memory) => {
+                    self.held = Some(Held::Event(stamped));
+                    Err(Memory)
+                }
+            },
+        }
+    }
+
+    ghost use Rattle.gate_pipeline.specs.States.{Triggers};
+
+    // Processes a trigger event. Where memory is refused all is as it was.
+    fn trigger(&mut self, config: &Config, stamped: &Stamped) -> Result<(Action, Outcome), Memory>
+        ensures { Triggers config.now self.old stamped.now self.new result }
+    {
+        let alloc = *self.done.allocator();
+        let action = trigger_of(alloc, config, self.tenant, self.pipeline, stamped)?;
+        self.done.reserve(1)?;
+        let outcome = self.items.apply(&action)?;
+        self.done.push_reserved(stamped.stamp);
+        Ok((action, outcome))
+    }
+}
