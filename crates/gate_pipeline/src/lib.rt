@@ -4,6 +4,8 @@
 mod laws;
 mod pass;
 mod pipeline;
+#[cfg(test)]
+mod tests;
 mod trigger;
 mod which;
 
