@@ -3,5 +3,6 @@ pub mod History
 pub mod KeyOrder
 pub mod Keys
 pub mod Kept
+pub mod Line
 pub mod Machine
 pub mod Steps

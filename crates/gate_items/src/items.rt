@@ -45,9 +45,7 @@ impl Items {
     {
         let kept = match manager {
             ManagerKind::Independent => Kept::Indexed(Indexed::new(alloc, first_set)),
-            ManagerKind::Dependent => {
-                Kept::Listed(Listed::new(alloc, ManagerKind::Dependent, first_set))
-            }
+            ManagerKind::Dependent => Kept::Listed(Listed::new(alloc, first_set)),
         };
         Items { kept }
     }

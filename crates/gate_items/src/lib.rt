@@ -10,9 +10,9 @@ mod items;
 mod key;
 mod key_order;
 mod laws;
+mod line;
 mod listed;
 mod outcome;
-mod places;
 mod queue_items;
 mod report;
 #[cfg(test)]
