@@ -15,3 +15,4 @@ pub mod Standing
 pub mod Sound
 pub mod Shown
 pub mod Times
+pub mod Told

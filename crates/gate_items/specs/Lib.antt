@@ -5,4 +5,5 @@ pub mod Keys
 pub mod Kept
 pub mod Line
 pub mod Machine
+pub mod Outcomes
 pub mod Steps
