@@ -1,4 +1,4 @@
-ghost use Rattle.gate_items.specs.History.{EachHasItsOwn, NeverAgain, LateResultsAreLost};
+ghost use Rattle.gate_items.specs.History.{CancelledChangesNothing, EachHasItsOwn, NeverAgain, LateResultsAreLost};
 ghost use Rattle.gate_items.specs.Outcomes.{OutcomesAreSaid};
 
 /// After any actions no two items have one build set.
@@ -24,4 +24,11 @@ pub fn late_results_change_nothing()
 #[tactic(auto, using(crate::proofs::Told::outcomes_are_said))]
 pub fn each_outcome_is_that_of_one_result()
     ensures { OutcomesAreSaid }
+{}
+
+/// No result of a cancelled build set changes an item or a report, whatever actions came after it was cancelled: it is
+/// discarded.
+#[tactic(auto, using(crate::proofs::Histories::cancelled_changes_nothing))]
+pub fn cancelled_build_sets_change_nothing()
+    ensures { CancelledChangesNothing }
 {}
