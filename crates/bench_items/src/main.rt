@@ -1,4 +1,4 @@
-//! Times the items of an independent pipeline. Without words it prints nothing.
+//! Times the items of a pipeline, independent or dependent. Without words it prints nothing.
 #![tactic(auto)]
 
 use anyhow::{Context, Result};
@@ -9,19 +9,30 @@ use std::env;
 use std::time::Instant;
 
 fn main(rt: HostRuntime) -> Result<()> {
-    let Some(count) = env::args(&rt)?.nth(1) else {
+    let words = env::args(&rt)?;
+    let mut words = words.skip(1);
+    let Some(count) = words.next() else {
         return Ok(());
     };
     let changes = count
         .as_str()
         .parse::<u32>()
         .context("the number of changes")?;
+    let manager = match words.next() {
+        None => ManagerKind::Independent,
+        Some(_) => ManagerKind::Dependent,
+    };
     let alloc = rt.alloc();
-    let mut items = Items::new(alloc, ManagerKind::Independent, 0);
+    let mut items = Items::new(alloc, manager, 0);
     let start = Instant::now(&rt)?;
     trigger_all(alloc, &mut items, changes)?;
-    reset_all(&mut items, changes)?;
-    end_all(alloc, &mut items, changes)?;
+    match manager {
+        ManagerKind::Independent => {
+            reset_all(&mut items, changes)?;
+            end_all(alloc, &mut items, changes)?;
+        }
+        ManagerKind::Dependent => end_queue(alloc, &mut items, changes)?,
+    }
     let took = start.elapsed(&rt)?;
     let micros = took
         .as_secs()
@@ -60,19 +71,34 @@ fn reset_all(items: &mut Items, changes: u32) -> Result<(), Memory> {
     Ok(())
 }
 
+// The one job of a build set succeeds.
+fn success(alloc: Global, set: u64) -> Result<Action, Memory> {
+    Ok(Action::Result(JobResult {
+        set,
+        job: Text::copy(alloc, "build")?,
+        success: true,
+    }))
+}
+
 // A dequeue of each second change, and a result for each other one, from the first.
 fn end_all(alloc: Global, items: &mut Items, changes: u32) -> Result<(), Memory> {
     for number in 0..changes {
         let action = if number % 2 == 0 {
             Action::Manage(Manage::Dequeue(change(number)))
         } else {
-            Action::Result(JobResult {
-                set: u64::from(changes).saturating_add(u64::from(number)),
-                job: Text::copy(alloc, "build")?,
-                success: true,
-            })
+            success(alloc, u64::from(changes).saturating_add(u64::from(number)))?
         };
         items.apply(&action)?;
+    }
+    Ok(())
+}
+
+// The first change succeeds and leaves, and the last but one is dequeued, until one is left.
+fn end_queue(alloc: Global, items: &mut Items, changes: u32) -> Result<(), Memory> {
+    for number in 0..changes / 2 {
+        items.apply(&success(alloc, u64::from(number))?)?;
+        let late = changes.saturating_sub(2).saturating_sub(number);
+        items.apply(&Action::Manage(Manage::Dequeue(change(late))))?;
     }
     Ok(())
 }

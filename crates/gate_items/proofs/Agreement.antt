@@ -24,14 +24,14 @@ false_true e = cc
 -- ---- one number of an index
 
 -- what found p finds nothing now, and no other entry was at p
-dropped : (b : Bool) (o o' : Option ℕ) (p place : ℕ) (test mine : Bool) → o' ≡ cond b None o → mine ≡ b → mine ≡ is_here o p → at_place p place ≡ false → test ≡ is_here o place → test ≡ is_here o' place
+pub dropped : (b : Bool) (o o' : Option ℕ) (p place : ℕ) (test mine : Bool) → o' ≡ cond b None o → mine ≡ b → mine ≡ is_here o p → at_place p place ≡ false → test ≡ is_here o place → test ≡ is_here o' place
 dropped true o o' p place test mine e m at apart t =
     let found : o ≡ Some p = here_true o p (sym at ∙ m) in
     t ∙ ap (λ x. is_here x place) found ∙ apart ∙ ap (λ x. is_here x place) (sym e)
 dropped false o o' p place test mine e m at apart t = t ∙ ap (λ x. is_here x place) (sym e)
 
 -- what is found still isn't p
-others : (b : Bool) (o o' : Option ℕ) (p place : ℕ) (mine : Bool) → o' ≡ cond b None o → mine ≡ b → mine ≡ is_here o p → o' ≡ Some place → (o ≡ Some place) × (p ≡ place → ⊥)
+pub others : (b : Bool) (o o' : Option ℕ) (p place : ℕ) (mine : Bool) → o' ≡ cond b None o → mine ≡ b → mine ≡ is_here o p → o' ≡ Some place → (o ≡ Some place) × (p ≡ place → ⊥)
 others true o o' p place mine e m at is = absurd (clash (sym e ∙ is))
   where
     clash : nowhere ≡ Some place → ⊥
@@ -46,19 +46,19 @@ others false o o' p place mine e m at is =
     differs e = cc
 
 -- a place that is new
-added_here : (b : Bool) (o o' : Option ℕ) (next place : ℕ) (test : Bool) → o' ≡ cond b (Some next) o → (b ≡ true → test ≡ false) → place < next → test ≡ is_here o place → test ≡ is_here o' place
+pub added_here : (b : Bool) (o o' : Option ℕ) (next place : ℕ) (test : Bool) → o' ≡ cond b (Some next) o → (b ≡ true → test ≡ false) → place < next → test ≡ is_here o place → test ≡ is_here o' place
 added_here true o o' next place test e quiet low t = quiet refl ∙ sym (at_apart next place (λ s. omega (arith, s, low))) ∙ ap (λ x. is_here x place) (sym e)
 added_here false o o' next place test e quiet low t = t ∙ ap (λ x. is_here x place) (sym e)
 
-new_here : (b : Bool) (o o' : Option ℕ) (next : ℕ) (mine : Bool) → o' ≡ cond b (Some next) o → mine ≡ b → is_here o next ≡ false → mine ≡ is_here o' next
+pub new_here : (b : Bool) (o o' : Option ℕ) (next : ℕ) (mine : Bool) → o' ≡ cond b (Some next) o → mine ≡ b → is_here o next ≡ false → mine ≡ is_here o' next
 new_here true o o' next mine e m away = m ∙ sym (at_same next next refl) ∙ ap (λ x. is_here x next) (sym e)
 new_here false o o' next mine e m away = m ∙ sym away ∙ ap (λ x. is_here x next) (sym e)
 
-away_by : (o : Option ℕ) (next : ℕ) → ((place : ℕ) → o ≡ Some place → place < next) → is_here o next ≡ false
+pub away_by : (o : Option ℕ) (next : ℕ) → ((place : ℕ) → o ≡ Some place → place < next) → is_here o next ≡ false
 away_by None next low = refl
 away_by (Some place) next low = at_apart place next (λ s. omega (arith, s, low place refl))
 
-new_live : (b : Bool) (o o' : Option ℕ) (next place : ℕ) (P : ℕ → Type 0) → o' ≡ cond b (Some next) o → (o ≡ Some place → P place) → P next → o' ≡ Some place → P place
+pub new_live : (b : Bool) (o o' : Option ℕ) (next place : ℕ) (P : ℕ → Type 0) → o' ≡ cond b (Some next) o → (o ≡ Some place → P place) → P next → o' ≡ Some place → P place
 new_live true o o' next place P e old new is = subst P (number (sym e ∙ is)) new
   where
     number : Some next ≡ Some place → next ≡ place
@@ -244,7 +244,7 @@ renumbered next es f g ok p item is es' f' g' wrote fe ge =
 
 -- ---- an item in place of another of its key
 
-key_twice : (b c : Bool) (o x : Option ℕ) → c ≡ b → cond b o x ≡ cond b o (cond c None x)
+pub key_twice : (b c : Bool) (o x : Option ℕ) → c ≡ b → cond b o x ≡ cond b o (cond c None x)
 key_twice true c o x e = refl
 key_twice false c o x e = ap (λ d. cond d None x) (sym e)
 

@@ -1,5 +1,5 @@
 -- What is true after any list of actions.
-use Rattle.std.proofs.Common.{◌≡◌, ◌∙◌, ◌<◌, ◌≤◌, ℕ, List, [], ◌∷◌, ◌++◌, Bool, true, false, cond, Some, None, refl, sym, ap, arith, subst}
+use Rattle.std.proofs.Common.{◌≡◌, ◌∙◌, ◌<◌, ◌≤◌, ℕ, List, [], ◌∷◌, ◌++◌, Bool, true, false, cond, Some, None, nat_lt, refl, sym, ap, arith, subst}
 use Rattle.std.specs.Prelude.{◌||◌, Err, Ok, Result}
 use Rattle.std.specs.List.{find, list_any}
 use Rattle.gate_record.specs.declared.ids.ManagerKind.{ManagerKind}
@@ -12,8 +12,9 @@ use Rattle.gate_items.specs.declared.action.Outcome.TheVariants.{Discarded}
 use Rattle.gate_items.specs.Steps.{Does}
 use Rattle.gate_items.specs.declared.action.JobResult.{JobResult}
 use Rattle.gate_items.specs.declared.item.QueueItem.{QueueItem}
-use Rattle.gate_items.specs.History.{EachHasItsOwn, IsLate, LateResultsAreLost, NeverAgain, after, is_current, start}
+use Rattle.gate_items.specs.History.{CancelledChangesNothing, EachHasItsOwn, IsLate, LateResultsAreLost, NeverAgain, after, is_current, start}
 use Rattle.gate_items.specs.Machine.{State, after_plan, apply, has_set, resulted}
+use Rattle.std.proofs.lemmas.Bool.{ltb-true, ltb-false}
 use Rattle.gate_items.proofs.Sound.{Goes, Sound, goes}
 use Rattle.gate_items.proofs.Times.{none_times, times, times_filter, times_none}
 
@@ -71,6 +72,27 @@ lost s result e = ap (λ o. after_plan s (resulted s result o)) (found_none (has
 pub late_results_are_lost : LateResultsAreLost
 late_results_are_lost manager first actions more result h e =
     lost (after (start manager first) (actions ++ more)) result (never_again manager first actions more result.set h e)
+
+-- a build set that is an item's was handed out
+current_handed : (manager : ManagerKind) (first : ℕ) (actions : List Action) (set : ℕ) → is_current (after (start manager first) actions) set ≡ true → set < (after (start manager first) actions).next
+current_handed manager first actions set now = by (nat_lt set (after (start manager first) actions).next) (ltb-true set (after (start manager first) actions).next) (ltb-false set (after (start manager first) actions).next)
+  where
+    by : (b : Bool) → (b ≡ true → set < (after (start manager first) actions).next) → (b ≡ false → (after (start manager first) actions).next ≤ set) → set < (after (start manager first) actions).next
+    by true below above = below refl
+    by false below above =
+        let s = after (start manager first) actions in
+        let none : times set s.items ≡ 0 = ((all_go (start manager first) actions).sound (sound_start manager first)).high set (above refl) in
+        let not_now : is_current s set ≡ false = none_times set s.items none in
+        absurd (cc)
+
+pub cancelled_changes_nothing : CancelledChangesNothing
+cancelled_changes_nothing manager first actions more result cancelled =
+    let early = after (start manager first) cancelled.before in
+    let handed : result.set < early.next = current_handed manager first cancelled.before result.set cancelled.was in
+    let later : early.next ≤ (after early cancelled.behind).next = (all_go early cancelled.behind).rises in
+    let same : after (start manager first) actions ≡ after early cancelled.behind = ap (after (start manager first)) (sym cancelled.parts) ∙ after-append (start manager first) cancelled.before cancelled.behind in
+    let still : (after (start manager first) actions).next ≡ (after early cancelled.behind).next = ap (λ (s : State). s.next) same in
+    late_results_are_lost manager first actions more result (omega (arith, handed, later, still)) cancelled.gone
 
 -- a result of a build set that is no item's
 pub late_is_lost : (s : State) (action : Action) → IsLate s action → apply s action ≡ (s, Discarded NotCurrent)

@@ -4,12 +4,15 @@ pub mod Chunks
 pub mod Entries
 pub mod Examples
 pub mod Histories
-pub mod Leaving
+pub mod LineSteps
+pub mod Lines
 pub mod Parts
 pub mod Placing
 pub mod Plans
 pub mod Renewal
+pub mod Rising
 pub mod Standing
 pub mod Sound
 pub mod Shown
 pub mod Times
+pub mod Told

@@ -1,8 +1,8 @@
 -- What stands at the place that a search gives.
-use Rattle.std.proofs.Common.{◌≡◌, ◌+◌, ◌<◌, ◌≤◌, ℕ, List, [], ◌∷◌, ◌++◌, Bool, true, false, cond, Option, Some, None, length, suc, take, drop, nat_lt, refl, sym, ap, arith, subst}
-use Rattle.std.specs.Prelude.{not, unwrap_or}
-use Rattle.std.specs.List.{filter, find, position, position_or_len, slice_get}
-use Rattle.std.proofs.lemmas.Bool.{ltb-true, ltb-false}
+use Rattle.std.proofs.Common.{◌≡◌, ◌∙◌, ◌+◌, ◌<◌, ◌≤◌, ℕ, List, [], ◌∷◌, Bool, true, false, cond, Option, Some, None, length, suc, take, drop, get_or, nat_lt, refl, sym, ap, arith, subst}
+use Rattle.std.specs.Prelude.{◌||◌, is_some, not, unwrap_or}
+use Rattle.std.specs.List.{find, list_any, position, position_or_len, slice_get}
+use Rattle.std.proofs.lemmas.Bool.{le-ltb, lt-ltb, ltb-true, ltb-false}
 use Rattle.gate_items.specs.declared.item.QueueItem.{QueueItem}
 use Rattle.gate_items.specs.Machine.{before, behind}
 
@@ -59,58 +59,35 @@ stands_at test xs k e =
 pub stands_nowhere : (test : QueueItem → Bool) (xs : List QueueItem) → None ≡ position test xs → find test xs ≡ None
 stands_nowhere test xs e = missing test xs (none_first test xs e)
 
--- ---- the first item of a filter
+-- ---- what is found passes
 
-pub record Leads (all rest : List QueueItem) (others others_rest : List QueueItem) (items : List QueueItem) (k : ℕ) : Type 0 where
-  pub inside : k < length items
-  pub first : all ≡ take 1 (drop k items) ++ rest
-  pub same : others ≡ others_rest
+passes_by : (b : Bool) (n : ℕ) (test : QueueItem → Bool) (x : QueueItem) (xs : List QueueItem) (d : QueueItem) → test x ≡ b → (n < length xs → test (get_or xs n d) ≡ true) → cond (not b) (1 + n) 0 < length (x ∷ xs) → test (get_or (x ∷ xs) (cond (not b) (1 + n) 0) d) ≡ true
+passes_by true n test x xs d e rest h = e
+passes_by false n test x xs d e rest h = let one : suc n ≡ 1 + n = omega arith in subst (λ k. test (get_or (x ∷ xs) k d) ≡ true) one (rest (omega (arith, h)))
 
-abbrev pub split_off : ℕ → List QueueItem → List QueueItem
-split_off k items = take k items ++ drop (suc k) items
+passes : (test : QueueItem → Bool) (xs : List QueueItem) (d : QueueItem) → position_or_len test xs < length xs → test (get_or xs (position_or_len test xs) d) ≡ true
+passes test [] d h = absurd (omega (arith, h))
+passes test (x ∷ xs) d h = passes_by (test x) (position_or_len test xs) test x xs d refl (passes test xs d) h
 
-leads_by : (b : Bool) (n : ℕ) (test : QueueItem → Bool) (x : QueueItem) (xs : List QueueItem) → test x ≡ b → (n < length xs → Leads (filter test xs) (filter test (split_off n xs)) (filter (λ y. not (test y)) xs) (filter (λ y. not (test y)) (split_off n xs)) xs n) → cond (not b) (1 + n) 0 < length (x ∷ xs) → Leads (filter test (x ∷ xs)) (filter test (split_off (cond (not b) (1 + n) 0) (x ∷ xs))) (filter (λ y. not (test y)) (x ∷ xs)) (filter (λ y. not (test y)) (split_off (cond (not b) (1 + n) 0) (x ∷ xs))) (x ∷ xs) (cond (not b) (1 + n) 0)
-leads_by true n test x xs t rest h = record {
-  inside = h;
-  first = ap (λ c. cond c (x ∷ filter test xs) (filter test xs)) t;
-  same = ap (λ c. cond (not c) (x ∷ filter (λ y. not (test y)) xs) (filter (λ y. not (test y)) xs)) t;
-}
-leads_by false n test x xs t rest h =
-    let s : Leads (filter test xs) (filter test (split_off n xs)) (filter (λ y. not (test y)) xs) (filter (λ y. not (test y)) (split_off n xs)) xs n = rest (omega (arith, h)) in
-    let e : suc n ≡ 1 + n = omega arith in
-    subst (λ k. Leads (filter test (x ∷ xs)) (filter test (split_off k (x ∷ xs))) (filter (λ y. not (test y)) (x ∷ xs)) (filter (λ y. not (test y)) (split_off k (x ∷ xs))) (x ∷ xs) k) e
-    (record {
-      inside = omega (arith, s.inside);
-      first = firsts (test x) t s.first;
-      same = ap (λ ys. cond (not (test x)) (x ∷ ys) ys) s.same;
-    })
-  where
-    firsts : (c : Bool) → c ≡ false → filter test xs ≡ take 1 (drop n xs) ++ filter test (split_off n xs) → cond c (x ∷ filter test xs) (filter test xs) ≡ take 1 (drop n xs) ++ cond c (x ∷ filter test (split_off n xs)) (filter test (split_off n xs))
-    firsts true t e = cc
-    firsts false t e = e
-
-leads : (test : QueueItem → Bool) (xs : List QueueItem) → position_or_len test xs < length xs → Leads (filter test xs) (filter test (split_off (position_or_len test xs) xs)) (filter (λ y. not (test y)) xs) (filter (λ y. not (test y)) (split_off (position_or_len test xs) xs)) xs (position_or_len test xs)
-leads test [] h = absurd (omega (arith, h))
-leads test (x ∷ xs) h = leads_by (test x) (position_or_len test xs) test x xs refl (leads test xs) h
-
-pub leads_at : (test : QueueItem → Bool) (xs : List QueueItem) (k : ℕ) → Some k ≡ position test xs → Leads (filter test xs) (filter test (split_off k xs)) (filter (λ y. not (test y)) xs) (filter (λ y. not (test y)) (split_off k xs)) xs k
-leads_at test xs k e =
+pub passes_at : (test : QueueItem → Bool) (xs : List QueueItem) (k : ℕ) (d : QueueItem) → Some k ≡ position test xs → test (get_or xs k d) ≡ true
+passes_at test xs k d e =
     let p : (position_or_len test xs < length xs) × (position_or_len test xs ≡ k) = place_first test xs k e in
-    subst (λ n. Leads (filter test xs) (filter test (split_off n xs)) (filter (λ y. not (test y)) xs) (filter (λ y. not (test y)) (split_off n xs)) xs n) p.1 (leads test xs p.0)
+    subst (λ n. test (get_or xs n d) ≡ true) p.1 (passes test xs d p.0)
 
-pub record Nobody (all others items : List QueueItem) : Type 0 where
-  pub none : all ≡ []
-  pub same : others ≡ items
+-- ---- whether it is anywhere
 
-nobody_by : (b : Bool) (n : ℕ) (test : QueueItem → Bool) (x : QueueItem) (xs : List QueueItem) → (length xs ≤ n → Nobody (filter test xs) (filter (λ y. not (test y)) xs) xs) → length (x ∷ xs) ≤ cond (not b) (1 + n) 0 → Nobody (cond b (x ∷ filter test xs) (filter test xs)) (cond (not b) (x ∷ filter (λ y. not (test y)) xs) (filter (λ y. not (test y)) xs)) (x ∷ xs)
-nobody_by true n test x xs rest h = absurd (omega (arith, h))
-nobody_by false n test x xs rest h =
-    let s : Nobody (filter test xs) (filter (λ y. not (test y)) xs) xs = rest (omega (arith, h)) in
-    record { none = s.none; same = ap (λ ys. x ∷ ys) s.same }
+any_by : (b c : Bool) (n m : ℕ) → nat_lt n m ≡ c → nat_lt (cond (not b) (1 + n) 0) (suc m) ≡ (b || c)
+any_by true c n m e = lt-ltb 0 (suc m) (omega arith)
+any_by false true n m e = let h : n < m = ltb-true n m e in lt-ltb (1 + n) (suc m) (omega (arith, h))
+any_by false false n m e = let h : m ≤ n = ltb-false n m e in le-ltb (1 + n) (suc m) (omega (arith, h))
 
-nobody : (test : QueueItem → Bool) (xs : List QueueItem) → length xs ≤ position_or_len test xs → Nobody (filter test xs) (filter (λ y. not (test y)) xs) xs
-nobody test [] h = record { none = refl; same = refl }
-nobody test (x ∷ xs) h = nobody_by (test x) (position_or_len test xs) test x xs (nobody test xs) h
+first_inside : (test : QueueItem → Bool) (xs : List QueueItem) → nat_lt (position_or_len test xs) (length xs) ≡ list_any test xs
+first_inside test [] = refl
+first_inside test (x ∷ xs) = any_by (test x) (list_any test xs) (position_or_len test xs) (length xs) (first_inside test xs)
 
-pub nobody_at : (test : QueueItem → Bool) (xs : List QueueItem) → None ≡ position test xs → Nobody (filter test xs) (filter (λ y. not (test y)) xs) xs
-nobody_at test xs e = nobody test xs (none_first test xs e)
+some_by : (b : Bool) (n : ℕ) → is_some (cond b (Some n) None) ≡ b
+some_by true n = refl
+some_by false n = refl
+
+pub stands_somewhere : (test : QueueItem → Bool) (xs : List QueueItem) → is_some (position test xs) ≡ list_any test xs
+stands_somewhere test xs = some_by (nat_lt (position_or_len test xs) (length xs)) (position_or_len test xs) ∙ first_inside test xs

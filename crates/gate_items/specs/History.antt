@@ -1,5 +1,5 @@
 -- What a list of actions leaves, and what is true of it whatever the actions were.
-use Rattle.std.specs.Prelude.{◌≡◌, ◌≤◌, ◌<◌, ◌++◌, ℕ, List, [], ◌∷◌, Bool, false, length}
+use Rattle.std.specs.Prelude.{◌≡◌, ◌≤◌, ◌<◌, ◌++◌, ℕ, List, [], ◌∷◌, Bool, true, false, length, nat_eq}
 use Rattle.std.specs.List.{filter, list_any}
 use Rattle.gate_record.specs.declared.ids.ManagerKind.{ManagerKind}
 use Rattle.gate_record.specs.declared.ids.ManagerKind.TheVariants.{Independent, Dependent}
@@ -9,6 +9,7 @@ use Rattle.gate_items.specs.declared.action.Manage.TheVariants as manage
 use Rattle.gate_items.specs.declared.action.JobResult.{JobResult}
 use Rattle.gate_items.specs.declared.action.Discard.TheVariants.{NotCurrent}
 use Rattle.gate_items.specs.declared.action.Outcome.TheVariants.{Discarded}
+use Rattle.gate_items.specs.declared.item.Report.{Report}
 use Rattle.gate_items.specs.Machine.{State, apply, has_set}
 
 -- no items, and the number of the first build set
@@ -58,4 +59,18 @@ NeverAgain = (manager : ManagerKind) (first : ℕ) (actions more : List Action) 
 abbrev pub LateResultsAreLost : Type 0
 LateResultsAreLost = (manager : ManagerKind) (first : ℕ) (actions more : List Action) (result : JobResult) →
     result.set < (after (start manager first) actions).next → is_current (after (start manager first) actions) result.set ≡ false →
+    apply (after (start manager first) (actions ++ more)) (action.Result result) ≡ (after (start manager first) (actions ++ more), Discarded NotCurrent)
+
+-- A build set is cancelled by actions: after some of them it was an item's, and now it is no item's and no report has it.
+pub record IsCancelled (manager : ManagerKind) (first : ℕ) (actions : List Action) (set : ℕ) : Type 0 where
+  pub before : List Action
+  pub behind : List Action
+  pub parts : before ++ behind ≡ actions
+  pub was : is_current (after (start manager first) before) set ≡ true
+  pub gone : is_current (after (start manager first) actions) set ≡ false
+  pub unreported : list_any (λ (report : Report). nat_eq report.set set) (after (start manager first) actions).reported ≡ false
+
+-- A result of a cancelled build set is discarded, whatever actions came in between, and changes nothing.
+abbrev pub CancelledChangesNothing : Type 0
+CancelledChangesNothing = (manager : ManagerKind) (first : ℕ) (actions more : List Action) (result : JobResult) → IsCancelled manager first actions result.set →
     apply (after (start manager first) (actions ++ more)) (action.Result result) ≡ (after (start manager first) (actions ++ more), Discarded NotCurrent)

@@ -1,9 +1,7 @@
 -- What the steps of an action do, one after another.
 use Rattle.std.specs.Prelude.{◌≡◌, ◌<◌, length, ◌^◌, ◌+◌, int_lt, ◌++◌, ℕ, ℤ, Bool, true, false, List, [], ◌∷◌, drop, map, nat_lt, take, if◌then◌else◌, Option, Some, None, Result, Ok, Err}
-use Rattle.std.specs.List.{find, position}
+use Rattle.std.specs.List.{find}
 use Rattle.std.specs.Ordering.{int_eq}
-use Rattle.gate_record.specs.declared.ids.ManagerKind.{ManagerKind}
-use Rattle.gate_record.specs.declared.ids.ManagerKind.TheVariants.{Dependent, Independent}
 use Rattle.gate_record.specs.declared.memory.Memory.{Memory}
 use Rattle.gate_items.specs.declared.action.Discard.{Discard}
 use Rattle.gate_items.specs.declared.action.Discard.TheVariants.{Known, NoJob, Numbers, Older, Repeated}
@@ -12,7 +10,7 @@ use Rattle.gate_items.specs.declared.key.Key.{Key}
 use Rattle.gate_items.specs.declared.action.Outcome.{Outcome}
 use Rattle.gate_items.specs.declared.action.Outcome.TheVariants.{Applied, Discarded}
 use Rattle.gate_items.specs.declared.item.QueueItem.{QueueItem}
-use Rattle.gate_items.specs.Machine.{Makes, Plan, Refuses, State, behind_it, is_complete, is_first_failure, is_of, leaving, new_item, placing, report_of, sets_behind, staying, with_outcome, with_set}
+use Rattle.gate_items.specs.Machine.{Makes, Plan, Refuses, State, behind_it, is_first_failure, is_of, leaving, new_item, placing, report_of, sets_behind, staying, with_outcome, with_set}
 
 -- It leaves and answers this; or memory was refused, and all is as it was.
 abbrev pub Does : State → State × Outcome → State → Result Outcome Memory → Type 0
@@ -40,12 +38,6 @@ settled s = record {
   items = staying s.manager s.items;
   reported = s.reported ++ map report_of (leaving s.manager s.items);
 }
-
--- the place of the first item that is reported
-abbrev pub leaves_at : ManagerKind → List QueueItem → Option ℕ
-leaves_at Independent items = position is_complete items
-leaves_at Dependent [] = None
-leaves_at Dependent (item ∷ items) = if is_complete item then Some 0 else None
 
 -- ---- plans by the place of the item that is meant
 

@@ -15,14 +15,15 @@ use std::marker::Model;
 /// The items of a pipeline, first to last, and what was reported. Contracts see the manager, the number of the next
 /// build set and the two lists.
 ///
-/// With an independent manager an item is found by its key and by its build set through an index, and leaves without
-/// moving others: a call takes logarithmic time in the items.
+/// An item is found by its key and by its build set in logarithmic time, and a reported item leaves without moving
+/// others. With an independent manager each call takes logarithmic time in the items; with a dependent one a removal, a
+/// reset or a first failure takes time in the items that stand behind it, which get new build sets.
 #[derive(Drop)]
 pub struct Items {
     kept: Kept,
 }
 
-// How the items are kept: through an index with an independent manager, in a list with a dependent one.
+// How the items are kept: in a map by their places with an independent manager, in a list with a dependent one.
 #[derive(Drop)]
 pub(crate) enum Kept {
     Listed(Listed),
@@ -45,9 +46,7 @@ impl Items {
     {
         let kept = match manager {
             ManagerKind::Independent => Kept::Indexed(Indexed::new(alloc, first_set)),
-            ManagerKind::Dependent => {
-                Kept::Listed(Listed::new(alloc, ManagerKind::Dependent, first_set))
-            }
+            ManagerKind::Dependent => Kept::Listed(Listed::new(alloc, first_set)),
         };
         Items { kept }
     }

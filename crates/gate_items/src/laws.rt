@@ -1,4 +1,5 @@
-ghost use Rattle.gate_items.specs.History.{EachHasItsOwn, NeverAgain, LateResultsAreLost};
+ghost use Rattle.gate_items.specs.History.{CancelledChangesNothing, EachHasItsOwn, NeverAgain, LateResultsAreLost};
+ghost use Rattle.gate_items.specs.Outcomes.{OutcomesAreSaid};
 
 /// After any actions no two items have one build set.
 #[tactic(auto, using(crate::proofs::Histories::each_has_its_own))]
@@ -16,4 +17,18 @@ pub fn no_build_set_comes_again()
 #[tactic(auto, using(crate::proofs::Histories::late_results_are_lost))]
 pub fn late_results_change_nothing()
     ensures { LateResultsAreLost }
+{}
+
+/// Each job of an item has the outcome of the one applied result with the item's build set and that job, and none where
+/// there is no such result, whatever actions came.
+#[tactic(auto, using(crate::proofs::Told::outcomes_are_said))]
+pub fn each_outcome_is_that_of_one_result()
+    ensures { OutcomesAreSaid }
+{}
+
+/// No result of a cancelled build set changes an item or a report, whatever actions came after it was cancelled: it is
+/// discarded.
+#[tactic(auto, using(crate::proofs::Histories::cancelled_changes_nothing))]
+pub fn cancelled_build_sets_change_nothing()
+    ensures { CancelledChangesNothing }
 {}

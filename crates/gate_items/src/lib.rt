@@ -10,9 +10,9 @@ mod items;
 mod key;
 mod key_order;
 mod laws;
+mod line;
 mod listed;
 mod outcome;
-mod places;
 mod queue_items;
 mod report;
 #[cfg(test)]
@@ -25,6 +25,7 @@ pub use item::{QueueItem, Report};
 pub use items::Items;
 pub use key::Key;
 pub use laws::{
-    each_item_has_its_own_build_set, late_results_change_nothing, no_build_set_comes_again,
+    cancelled_build_sets_change_nothing, each_item_has_its_own_build_set,
+    each_outcome_is_that_of_one_result, late_results_change_nothing, no_build_set_comes_again,
 };
 pub use queue_items::QueueItems;

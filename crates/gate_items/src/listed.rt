@@ -1,16 +1,14 @@
-ghost use Rattle.std.specs.Prelude.{◌≡◌, OnErr, false, ◌<◌, ◌≤◌, ◌+◌, ℕ, List, IfOk, length, slice_index_or};
-ghost use Rattle.std.specs.List.{find};
+ghost use Rattle.std.specs.Prelude.{◌≡◌, OnErr, false, ◌<◌, ◌≤◌, ◌+◌, ℕ, List, IfOk, length, slice_index_or, None, Some};
+ghost use Rattle.std.specs.List.{find, position};
 ghost use Rattle.gate_items.specs.History.{IsLate, IsTrigger, is_current, start};
 ghost use Rattle.gate_items.specs.Machine.{apply, dequeued, has_set, is_job, is_of, plan, reset, resulted, triggered};
 ghost use Rattle.gate_items.specs.Steps.{Does, Judges, changed, dequeued_at, ended_at, placed_last, recorded_at, replaced_at, reset_at, settled};
 ghost use Rattle.gate_items.specs.declared.item.QueueItem.{QueueItem as Item};
 
 use crate::action::{Action, Discard, JobResult, Manage, Outcome};
-use crate::build_set::{fail, next_after, next_after_one, start_again, take_out};
-use crate::item::{QueueItem, Report};
+use crate::item::Report;
 use crate::key::Key;
-use crate::outcome::record_outcome;
-use crate::places::{place_of_key, place_of_set};
+use crate::line::Line;
 use crate::queue_items::QueueItems;
 use crate::report::report_complete;
 use crate::trigger::new_item;
@@ -18,36 +16,33 @@ use gate_record::{ManagerKind, Memory, Sequence, Text};
 use std::alloc::Global;
 use std::marker::Model;
 
-// The items of a pipeline as a plain list.
+// The items of a pipeline with a dependent manager.
 #[derive(Drop)]
 pub(crate) struct Listed {
-    manager: ManagerKind,
-    next: u64,
-    items: Vec<QueueItem>,
+    line: Line,
     // There is room for a report of each item, so that an item leaves without memory.
     reported: Vec<Report>,
 }
 
 impl Model for Listed {
     ghost use Rattle.std.specs.Prelude.{◌≤◌, ◌+◌, length, vec_capacity};
+    ghost use Rattle.gate_record.specs.declared.ids.ManagerKind.TheVariants.{Dependent};
     ghost use Rattle.gate_items.specs.Machine.{State};
 
     ghost Value = { State };
 
-    ghost view = { λ i. record { manager = i.manager; next = i.next; items = i.items.items; reported = i.reported.items } };
+    ghost view = { λ i. record { manager = Dependent; next = i.line.next; items = i.line.items; reported = i.reported.items } };
 
-    ghost invariant = { λ i. length i.reported.items + length i.items.items ≤ vec_capacity i.reported };
+    ghost invariant = { λ i. length i.reported.items + length i.line.items ≤ vec_capacity i.reported };
 }
 
 impl Listed {
-    // No items, for a manager.
-    pub(crate) fn new(alloc: Global, manager: ManagerKind, first_set: u64) -> Listed
-        ensures { result ≡ start manager first_set }
+    // No items.
+    pub(crate) fn new(alloc: Global, first_set: u64) -> Listed
+        ensures { result ≡ start ManagerKind.Dependent first_set }
     {
         Listed {
-            manager,
-            next: first_set,
-            items: Vec::new(alloc),
+            line: Line::new(alloc, first_set),
             reported: Vec::new(alloc),
         }
     }
@@ -56,7 +51,7 @@ impl Listed {
     pub(crate) fn items(&self) -> QueueItems<'_>
         ensures { result ≡ self.now.items }
     {
-        QueueItems::of_slice(self.items.as_slice())
+        self.line.items()
     }
 
     // What was reported, first to last.
@@ -70,7 +65,7 @@ impl Listed {
     pub(crate) fn current(&self, set: u64) -> bool
         ensures { result ≡ is_current self.now set }
     {
-        self.items.iter().any(|item| item.set == set)
+        self.line.place_of_set(set).is_some()
     }
 
     // Does what an action asks for, and then reports.
@@ -104,7 +99,7 @@ impl Listed {
     fn dequeue(&mut self, key: &Key) -> Outcome
         ensures { (self.new, result) ≡ changed self.old (dequeued self.old key.now (find (is_of key.now) self.old.items)) }
     {
-        match place_of_key(self.items.as_slice(), key) {
+        match self.line.place_of_key(key) {
             None => Outcome::Discarded(Discard::NoItem),
             Some(place) => self.dequeue_at(place),
         }
@@ -115,12 +110,11 @@ impl Listed {
         requires { place < length self.old.items }
         ensures { (self.new, result) ≡ changed self.old (dequeued_at self.old place) }
     {
-        let Some(next) = next_after(self.manager, self.items.as_slice(), place + 1, self.next)
-        else {
+        let Some(_next) = self.line.next_after(place + 1) else {
             return Outcome::Discarded(Discard::Numbers);
         };
-        take_out(self.manager, &mut self.items, place, self.next);
-        self.next = next;
+        let _item = self.line.remove(place);
+        self.line.renew_from(place);
         Outcome::Applied
     }
 
@@ -128,7 +122,7 @@ impl Listed {
     fn reset(&mut self, key: &Key) -> Outcome
         ensures { (self.new, result) ≡ changed self.old (reset self.old key.now (find (is_of key.now) self.old.items)) }
     {
-        match place_of_key(self.items.as_slice(), key) {
+        match self.line.place_of_key(key) {
             None => Outcome::Discarded(Discard::NoItem),
             Some(place) => self.reset_at(place),
         }
@@ -139,12 +133,10 @@ impl Listed {
         requires { place < length self.old.items }
         ensures { (d : Item) → (self.new, result) ≡ changed self.old (reset_at self.old place (slice_index_or self.old.items place d)) }
     {
-        let Some(next) = next_after_one(self.manager, self.items.as_slice(), place + 1, self.next)
-        else {
+        let Some(_next) = self.line.next_after(place) else {
             return Outcome::Discarded(Discard::Numbers);
         };
-        start_again(self.manager, &mut self.items, place, self.next);
-        self.next = next;
+        self.line.renew_from(place);
         Outcome::Applied
     }
 
@@ -152,7 +144,7 @@ impl Listed {
     fn result(&mut self, outcome: &JobResult) -> Outcome
         ensures { (self.new, result) ≡ changed self.old (resulted self.old outcome.now (find (has_set outcome.now.set) self.old.items)) }
     {
-        match place_of_set(self.items.as_slice(), outcome.set) {
+        match self.line.place_of_set(outcome.set) {
             None => Outcome::Discarded(Discard::NotCurrent),
             Some(place) => self.result_at(place, outcome),
         }
@@ -163,11 +155,11 @@ impl Listed {
         requires { place < length self.old.items }
         ensures { (d : Item) → (self.new, result) ≡ changed self.old (ended_at self.old place outcome.now (slice_index_or self.old.items place d) (find (is_job outcome.now.job) (slice_index_or self.old.items place d).jobs)) }
     {
-        match self.items[place].state_of(outcome.job.as_str()) {
+        match self.line.item(place).state_of(outcome.job.as_str()) {
             None => Outcome::Discarded(Discard::NoJob),
             Some(Some(_)) => Outcome::Discarded(Discard::Repeated),
             Some(None) => {
-                let renews = self.items[place].is_first_failure(outcome.success);
+                let renews = self.line.item(place).is_first_failure(outcome.success);
                 self.record_at(place, outcome, renews)
             }
         }
@@ -179,15 +171,14 @@ impl Listed {
         ensures { (d : Item) → (self.new, result) ≡ changed self.old (recorded_at self.old place outcome.now (slice_index_or self.old.items place d) renews) }
     {
         if !renews {
-            record_outcome(&mut self.items, place, outcome);
+            self.line.record(place, outcome);
             return Outcome::Applied;
         }
-        let Some(next) = next_after(self.manager, self.items.as_slice(), place + 1, self.next)
-        else {
+        let Some(_next) = self.line.next_after(place + 1) else {
             return Outcome::Discarded(Discard::Numbers);
         };
-        fail(self.manager, &mut self.items, place, outcome, self.next);
-        self.next = next;
+        self.line.record(place, outcome);
+        self.line.renew_from(place + 1);
         Outcome::Applied
     }
 
@@ -216,12 +207,13 @@ impl Listed {
 
     // The place of an older patch set's item, or nothing where the key has no item, or why a trigger is discarded.
     fn older_place(&self, key: &Key, patchset: i64) -> Result<Option<usize>, Discard>
-        ensures { (jobs : List (List ℕ)) → Judges self.now key.now patchset jobs result }
+        ensures judges { (jobs : List (List ℕ)) → Judges self.now key.now patchset jobs result }
+        ensures place { IfOk result (λ place. place ≡ position (is_of key.now) self.now.items) }
     {
-        let Some(place) = place_of_key(self.items.as_slice(), key) else {
+        let Some(place) = self.line.place_of_key(key) else {
             return Ok(None);
         };
-        match self.items[place].why_not(patchset) {
+        match self.line.item(place).why_not(patchset) {
             Some(why) => Err(why),
             None => Ok(Some(place)),
         }
@@ -234,18 +226,18 @@ impl Listed {
         patchset: i64,
         jobs: &Sequence<Text>,
     ) -> Result<Outcome, Memory>
+        requires { None ≡ position (is_of key.now) self.old.items }
         ensures does { Does self.old (changed self.old (placed_last self.old key.now patchset jobs.now)) self.new result }
         ensures memory { OnErr result ((changed self.old (placed_last self.old key.now patchset jobs.now)).1 ≡ Outcome.Applied) }
     {
-        let Some(next) = self.next.checked_add(1) else {
+        let Some(_next) = self.line.next().checked_add(1) else {
             return Ok(Outcome::Discarded(Discard::Numbers));
         };
-        let alloc = *self.items.allocator();
-        let item = new_item(alloc, key, patchset, self.next, jobs)?;
-        self.items.reserve(1)?;
-        self.reported.reserve(self.items.len() + 1)?;
-        self.items.push_reserved(item);
-        self.next = next;
+        let alloc = *self.reported.allocator();
+        let item = new_item(alloc, key, patchset, self.line.next(), jobs)?;
+        let copy = key.copy(alloc)?;
+        self.reported.reserve(self.line.len() + 1)?;
+        self.line.put_last(copy, item)?;
         Ok(Outcome::Applied)
     }
 
@@ -257,19 +249,17 @@ impl Listed {
         patchset: i64,
         jobs: &Sequence<Text>,
     ) -> Result<Outcome, Memory>
-        requires { place < length self.old.items }
+        requires { Some place ≡ position (is_of key.now) self.old.items }
         ensures does { Does self.old (changed self.old (replaced_at self.old place key.now patchset jobs.now)) self.new result }
         ensures memory { OnErr result ((changed self.old (replaced_at self.old place key.now patchset jobs.now)).1 ≡ Outcome.Applied) }
     {
-        let Some(next) = next_after_one(self.manager, self.items.as_slice(), place + 1, self.next)
-        else {
+        let Some(next) = self.line.next_after(place) else {
             return Ok(Outcome::Discarded(Discard::Numbers));
         };
-        let alloc = *self.items.allocator();
+        let alloc = *self.reported.allocator();
         let item = new_item(alloc, key, patchset, next - 1, jobs)?;
-        take_out(self.manager, &mut self.items, place, self.next);
-        self.items.push_reserved(item);
-        self.next = next;
+        self.line.renew_from(place + 1);
+        self.line.replace(place, item);
         Ok(Outcome::Applied)
     }
 
@@ -277,6 +267,6 @@ impl Listed {
     fn settle(&mut self)
         ensures { self.new ≡ settled self.old }
     {
-        report_complete(self.manager, &mut self.items, &mut self.reported);
+        report_complete(&mut self.line, &mut self.reported);
     }
 }

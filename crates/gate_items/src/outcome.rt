@@ -1,12 +1,16 @@
-ghost use Rattle.std.specs.Prelude.{◌≡◌, ◌<◌, ℕ, Bool, List, Option, option_map, map, slice_set, slice_index_or, vec_len};
+ghost use Rattle.std.specs.Prelude.{◌≡◌, ◌<◌, ℕ, Bool, List, Option, option_map, map, slice_set, slice_index_or};
+ghost use Rattle.std.specs.VecDeque.{deque_len};
 ghost use Rattle.std.specs.List.{find, list_any};
 ghost use Rattle.gate_items.specs.Machine.{has_failed, is_complete, is_first_failure, is_job, record_at, with_outcome};
-ghost use Rattle.gate_items.specs.declared.item.QueueItem.{QueueItem as Item};
+ghost use Rattle.gate_items.specs.Line.{numbered_outcome};
+ghost use Rattle.gate_items.specs.declared.line.Numbered.{Numbered as Entry};
 
 use crate::action::JobResult;
 use crate::item::QueueItem;
+use crate::line::Numbered;
 use gate_record::{Sequence, Text};
 use std::alloc::Global;
+use std::collections::VecDeque;
 use std::mem;
 
 impl QueueItem {
@@ -80,12 +84,12 @@ pub(crate) fn record_in(item: &mut QueueItem, alloc: Global, outcome: &JobResult
 }
 
 // Records an outcome in the item at a place, without memory.
-pub(crate) fn record_outcome(items: &mut Vec<QueueItem>, place: usize, outcome: &JobResult)
-    requires { place < vec_len items.old }
-    ensures items { (d : Item) → items.new.items ≡ slice_set items.old.items place (with_outcome outcome.now.job outcome.now.success (slice_index_or items.old.items place d)) }
-    ensures len { vec_len items.new ≡ vec_len items.old }
+pub(crate) fn record_outcome(items: &mut VecDeque<Numbered>, place: usize, outcome: &JobResult)
+    requires { place < deque_len items.old }
+    ensures items { (d : Entry) → items.new.items ≡ slice_set items.old.items place (numbered_outcome outcome.now.job outcome.now.success (slice_index_or items.old.items place d)) }
+    ensures len { deque_len items.new ≡ deque_len items.old }
 {
     let alloc = *items.allocator();
-    let item = &mut items[place];
-    record_in(item, alloc, outcome);
+    let entry = &mut items[place];
+    record_in(&mut entry.item, alloc, outcome);
 }

@@ -1,5 +1,7 @@
 use crate::item::QueueItem;
+use crate::line::Numbered;
 use std::collections::btree_map::Values;
+use std::collections::vec_deque::Iter;
 use std::marker::Model;
 
 /// The items of a pipeline, one after another from the first. Contracts see those that are still to come.
@@ -11,7 +13,7 @@ pub struct QueueItems<'a> {
 // What is still to come, of a list or of an index.
 #[derive(Drop)]
 pub(crate) enum Rest<'a> {
-    Listed(&'a [QueueItem]),
+    Listed(Iter<'a, Numbered>),
     Indexed(Values<'a, u64, QueueItem>),
 }
 
@@ -27,10 +29,12 @@ impl<'a> Model for QueueItems<'a> {
 
 impl<'a> QueueItems<'a> {
     ghost use Rattle.std.specs.Prelude.{◌≡◌};
+    ghost use Rattle.std.specs.VecDeque.Iter.{deque_iter_rest};
+    ghost use Rattle.gate_items.specs.Line.{items_of};
 
-    // The items of a slice.
-    pub(crate) fn of_slice(items: &'a [QueueItem]) -> QueueItems<'a>
-        ensures { result ≡ items.entry.now }
+    // The items of a line.
+    pub(crate) fn of_line(items: Iter<'a, Numbered>) -> QueueItems<'a>
+        ensures { result ≡ items_of (deque_iter_rest items.entry) }
     {
         QueueItems {
             rest: Rest::Listed(items),
@@ -59,9 +63,8 @@ impl<'a> Iterator for QueueItems<'a> {
     fn next(&mut self) -> Option<&'a QueueItem> {
         match &mut self.rest {
             Rest::Listed(rest) => {
-                let (first, others) = rest.split_first()?;
-                *rest = others;
-                Some(first)
+                let entry = rest.next()?;
+                Some(&entry.item)
             }
             Rest::Indexed(rest) => rest.next(),
         }

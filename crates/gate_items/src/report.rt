@@ -1,30 +1,9 @@
-ghost use Rattle.std.specs.Prelude.{◌≡◌, ◌<◌, ◌≤◌, ◌+◌, ◌++◌, drop, length, map, take, vec_capacity};
-ghost use Rattle.std.specs.List.{position};
-ghost use Rattle.gate_items.specs.Machine.{is_complete, leaving, report_of, staying};
-ghost use Rattle.gate_items.specs.Steps.{leaves_at};
+ghost use Rattle.std.specs.Prelude.{◌≡◌, ◌≤◌, ◌+◌, ◌++◌, length, map, vec_capacity};
+ghost use Rattle.gate_items.specs.Line.{after_line};
+ghost use Rattle.gate_items.specs.Machine.{head_of, report_of, rest_of};
 
 use crate::item::{QueueItem, Report};
-use gate_record::ManagerKind;
-
-// The place of the first complete item.
-fn place_of_complete(items: &[QueueItem]) -> Option<usize>
-    ensures { result ≡ position is_complete items.now }
-{
-    items.iter().position(|item| item.is_complete())
-}
-
-// The place of the first item that is reported.
-fn first_leaving(manager: ManagerKind, items: &[QueueItem]) -> Option<usize>
-    ensures { result ≡ leaves_at manager items.now }
-{
-    match manager {
-        ManagerKind::Independent => place_of_complete(items),
-        ManagerKind::Dependent => match items.first() {
-            Some(item) if item.is_complete() => Some(0),
-            _ => None,
-        },
-    }
-}
+use crate::line::Line;
 
 // The report of an item, without memory.
 pub(crate) fn report_of(item: QueueItem) -> Report
@@ -39,30 +18,14 @@ pub(crate) fn report_of(item: QueueItem) -> Report
     }
 }
 
-// Reports the item at a place, which leaves. There is room.
-pub(crate) fn report_at(items: &mut Vec<QueueItem>, reported: &mut Vec<Report>, place: usize)
-    requires place { place < length items.old.items }
-    requires room { length reported.old.items + length items.old.items ≤ vec_capacity reported.old }
-    ensures items { items.new.items ≡ take place items.old.items ++ drop (place + 1) items.old.items }
-    ensures reported { reported.new.items ≡ reported.old.items ++ map report_of (take 1 (drop place items.old.items)) }
-    ensures room { length reported.new.items + length items.new.items ≤ vec_capacity reported.new }
+// Reports complete items at the head, which leave. There is room.
+pub(crate) fn report_complete(line: &mut Line, reported: &mut Vec<Report>)
+    requires { length reported.old.items + length line.old.items ≤ vec_capacity reported.old }
+    ensures line { line.new ≡ after_line line.old.next (rest_of line.old.items) }
+    ensures reported { reported.new.items ≡ reported.old.items ++ map report_of (head_of line.old.items) }
+    ensures room { length reported.new.items + length line.new.items ≤ vec_capacity reported.new }
 {
-    let item = items.remove(place);
-    reported.push_reserved(report_of(item));
-}
-
-// Reports complete items, which leave: with an independent manager each one, else those at the head. There is room.
-pub(crate) fn report_complete(
-    manager: ManagerKind,
-    items: &mut Vec<QueueItem>,
-    reported: &mut Vec<Report>,
-)
-    requires { length reported.old.items + length items.old.items ≤ vec_capacity reported.old }
-    ensures items { items.new.items ≡ staying manager items.old.items }
-    ensures reported { reported.new.items ≡ reported.old.items ++ map report_of (leaving manager items.old.items) }
-    ensures room { length reported.new.items + length items.new.items ≤ vec_capacity reported.new }
-{
-    while let Some(place) = first_leaving(manager, items.as_slice()) {
-        report_at(items, reported, place);
+    while let Some(item) = line.take_complete() {
+        reported.push_reserved(report_of(item));
     }
 }

@@ -2,6 +2,8 @@ mod causes;
 mod examples;
 mod index;
 mod keys;
+mod line;
+mod refs;
 
 use super::*;
 use gate_record::{ConnId, Sequence, Text};

@@ -1,13 +1,14 @@
 use Rattle.std.proofs.Common.{◌≡◌, ◌≤◌, ◌+◌, ◌++◌, length, map, vec_capacity}
-use Rattle.gate_items.specs.Machine.{leaving, report_of, staying}
+use Rattle.gate_items.specs.Machine.{head_of, report_of, rest_of}
 use Rattle.gate_items.proofs.report.report_complete.Given as goal
 
-abbrev pub invariant-loop-place : goal.invariant-loop-place
-invariant-loop-place l = record {
-  items : staying l.manager l.items.items ≡ staying l.manager l.fn.items.items;
-  reported : l.reported.items ++ map report_of (leaving l.manager l.items.items) ≡ l.fn.reported.items ++ map report_of (leaving l.manager l.fn.items.items);
-  room : length l.reported.items + length l.items.items ≤ vec_capacity l.reported;
+abbrev pub invariant-loop-item : goal.invariant-loop-item
+invariant-loop-item l = record {
+  items : rest_of l.line.items ≡ rest_of l.fn.line.items;
+  next : l.line.next ≡ l.fn.line.next;
+  reported : l.reported.items ++ map report_of (head_of l.line.items) ≡ l.fn.reported.items ++ map report_of (head_of l.fn.line.items);
+  room : length l.reported.items + length l.line.items ≤ vec_capacity l.reported;
 }
 
-abbrev pub decreases-loop-place : goal.decreases-loop-place
-decreases-loop-place l = length l.items.items
+abbrev pub decreases-loop-item : goal.decreases-loop-item
+decreases-loop-item l = length l.line.items

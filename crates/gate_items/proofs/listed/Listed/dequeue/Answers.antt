@@ -7,9 +7,9 @@ use Rattle.gate_items.proofs.listed.Listed.dequeue.Goals as goal
 
 pub returns-in-None : goal.returns-in-None
 returns-in-None c =
-    ap (changed c.args.self.now) (sym (dequeues_nothing c.args.self.now c.args.key.now (c.in-None.ensures ∙ ap (position (is_of c.args.key.now)) (c.as_slice.ensures.value ∙ ap (λ (s : State). s.items) c.self.view_is))))
+    ap (changed c.args.self.now) (sym (dequeues_nothing c.args.self.now c.args.key.now (c.in-None.ensures ∙ ap (λ (s : State). position (is_of c.args.key.now) s.items) c.self.view_is)))
 
 pub returns-in-Some : goal.returns-in-Some
 returns-in-Some c =
     c.dequeue_at.ensures
-    ∙ ap (changed c.args.self.now) (sym (dequeues_at c.args.self.now c.args.key.now c.in-Some.place (c.in-Some.ensures ∙ ap (position (is_of c.args.key.now)) (c.as_slice.ensures.value ∙ ap (λ (s : State). s.items) c.self.view_is))))
+    ∙ ap (changed c.args.self.now) (sym (dequeues_at c.args.self.now c.args.key.now c.in-Some.place (c.in-Some.ensures ∙ ap (λ (s : State). position (is_of c.args.key.now) s.items) c.self.view_is)))
