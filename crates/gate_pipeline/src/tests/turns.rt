@@ -6,47 +6,81 @@ const PATCH_SET_1: &str =
 const PATCH_SET_2: &str =
     r#"{"type":"patchset-created","change":{"project":"demo","number":7},"patchSet":{"number":2}}"#;
 
+const ANOTHER_CHANGE: &str =
+    r#"{"type":"patchset-created","change":{"project":"demo","number":8},"patchSet":{"number":1}}"#;
+
 const APPLIED: Option<Outcome> = Some(Outcome::Applied);
 
 fn discarded(why: Discard) -> Option<Outcome> {
     Some(Outcome::Discarded(why))
 }
 
+// A turn has this outcome.
+fn check(
+    alloc: Global,
+    pipeline: &mut Pipeline,
+    config: &Config,
+    act: Act<'_>,
+    wanted: Option<Outcome>,
+) -> Result<(), Fail> {
+    if turn(alloc, pipeline, config, act)? != wanted {
+        return Ok(None.ok_or("a turn has another outcome")?);
+    }
+    Ok(())
+}
+
+// Both queues before the triggers' are empty.
+fn to_triggers(alloc: Global, pipeline: &mut Pipeline, config: &Config) -> Result<(), Fail> {
+    check(alloc, pipeline, config, Act::Empty, None)?;
+    check(alloc, pipeline, config, Act::Empty, None)
+}
+
 #[test]
 fn goes_through_its_queues(rt: HostRuntime) -> Result<(), Fail> {
     let config = config(rt.alloc())?;
     let mut pipeline = Pipeline::new(rt.alloc(), &config, MAIN, CHECK);
-    for _ in 0..2u32 {
-        let outcome = turn(rt.alloc(), &mut pipeline, &config, Act::Dequeue(9))?;
-        assert_eq!(rt; outcome, discarded(Discard::NoItem));
-    }
-    turn(rt.alloc(), &mut pipeline, &config, Act::Empty)?;
+    let nobody = Act::Dequeue(9);
+    check(
+        rt.alloc(),
+        &mut pipeline,
+        &config,
+        nobody,
+        discarded(Discard::NoItem),
+    )?;
+    check(
+        rt.alloc(),
+        &mut pipeline,
+        &config,
+        nobody,
+        discarded(Discard::NoItem),
+    )?;
+    check(rt.alloc(), &mut pipeline, &config, Act::Empty, None)?;
+    let late = Act::Ended(5, "build", true);
     for _ in 0..256u32 {
         assert_eq!(rt; pipeline.wants(), Which::Result);
-        let outcome = turn(
+        check(
             rt.alloc(),
             &mut pipeline,
             &config,
-            Act::Ended(5, "build", true),
+            late,
+            discarded(Discard::NotCurrent),
         )?;
-        assert_eq!(rt; outcome, discarded(Discard::NotCurrent));
     }
-    let outcome = turn(
+    check(
         rt.alloc(),
         &mut pipeline,
         &config,
         Act::Event(0, PATCH_SET_1),
+        APPLIED,
     )?;
-    assert_eq!(rt; outcome, APPLIED);
-    turn(rt.alloc(), &mut pipeline, &config, Act::Empty)?;
-    turn(rt.alloc(), &mut pipeline, &config, Act::Empty)?;
-    let outcome = turn(
+    to_triggers(rt.alloc(), &mut pipeline, &config)?;
+    check(
         rt.alloc(),
         &mut pipeline,
         &config,
-        Act::Ended(5, "build", true),
+        late,
+        discarded(Discard::NotCurrent),
     )?;
-    assert_eq!(rt; outcome, discarded(Discard::NotCurrent));
     assert_eq!(rt; pipeline.wants(), Which::Result);
     Ok(())
 }
@@ -55,18 +89,35 @@ fn goes_through_its_queues(rt: HostRuntime) -> Result<(), Fail> {
 fn does_what_it_discards(rt: HostRuntime) -> Result<(), Fail> {
     let config = config(rt.alloc())?;
     let mut pipeline = Pipeline::new(rt.alloc(), &config, MAIN, CHECK);
-    turn(rt.alloc(), &mut pipeline, &config, Act::Empty)?;
-    turn(rt.alloc(), &mut pipeline, &config, Act::Empty)?;
-    let turns = [
-        (0, PATCH_SET_1, APPLIED),
-        (1, PATCH_SET_2, APPLIED),
-        (2, PATCH_SET_1, discarded(Discard::Older)),
-        (3, PATCH_SET_2, discarded(Discard::Known)),
-    ];
-    for (number, line, wanted) in turns {
-        let outcome = turn(rt.alloc(), &mut pipeline, &config, Act::Event(number, line))?;
-        assert_eq!(rt; outcome, wanted);
-    }
+    to_triggers(rt.alloc(), &mut pipeline, &config)?;
+    check(
+        rt.alloc(),
+        &mut pipeline,
+        &config,
+        Act::Event(0, PATCH_SET_1),
+        APPLIED,
+    )?;
+    check(
+        rt.alloc(),
+        &mut pipeline,
+        &config,
+        Act::Event(1, PATCH_SET_2),
+        APPLIED,
+    )?;
+    check(
+        rt.alloc(),
+        &mut pipeline,
+        &config,
+        Act::Event(2, PATCH_SET_1),
+        discarded(Discard::Older),
+    )?;
+    check(
+        rt.alloc(),
+        &mut pipeline,
+        &config,
+        Act::Event(3, PATCH_SET_2),
+        discarded(Discard::Known),
+    )?;
     let mut number = 0;
     for stamp in pipeline.done() {
         assert_eq!(rt;
@@ -91,24 +142,41 @@ fn does_what_it_discards(rt: HostRuntime) -> Result<(), Fail> {
 fn takes_results_and_management(rt: HostRuntime) -> Result<(), Fail> {
     let config = config(rt.alloc())?;
     let mut pipeline = Pipeline::new(rt.alloc(), &config, MAIN, CHECK);
-    let turns = [
-        (Act::Empty, None),
-        (Act::Empty, None),
-        (Act::Event(0, PATCH_SET_1), APPLIED),
-        (Act::Empty, None),
-        (Act::Reset(7), APPLIED),
-        (Act::Empty, None),
-        (
-            Act::Ended(0, "build", false),
-            discarded(Discard::NotCurrent),
-        ),
-        (Act::Ended(1, "build", true), APPLIED),
-        (Act::Ended(1, "build", true), discarded(Discard::Repeated)),
-        (Act::Ended(1, "lint", true), APPLIED),
-    ];
-    for (act, wanted) in turns {
-        assert_eq!(rt; turn(rt.alloc(), &mut pipeline, &config, act)?, wanted);
-    }
+    to_triggers(rt.alloc(), &mut pipeline, &config)?;
+    check(
+        rt.alloc(),
+        &mut pipeline,
+        &config,
+        Act::Event(0, PATCH_SET_1),
+        APPLIED,
+    )?;
+    check(rt.alloc(), &mut pipeline, &config, Act::Empty, None)?;
+    check(rt.alloc(), &mut pipeline, &config, Act::Reset(7), APPLIED)?;
+    check(rt.alloc(), &mut pipeline, &config, Act::Empty, None)?;
+    let late = Act::Ended(0, "build", false);
+    check(
+        rt.alloc(),
+        &mut pipeline,
+        &config,
+        late,
+        discarded(Discard::NotCurrent),
+    )?;
+    let build = Act::Ended(1, "build", true);
+    check(rt.alloc(), &mut pipeline, &config, build, APPLIED)?;
+    check(
+        rt.alloc(),
+        &mut pipeline,
+        &config,
+        build,
+        discarded(Discard::Repeated),
+    )?;
+    check(
+        rt.alloc(),
+        &mut pipeline,
+        &config,
+        Act::Ended(1, "lint", true),
+        APPLIED,
+    )?;
     let report = pipeline
         .state()
         .reported()
@@ -124,28 +192,37 @@ fn takes_results_and_management(rt: HostRuntime) -> Result<(), Fail> {
 fn keeps_the_order_of_a_dependent_pipeline(rt: HostRuntime) -> Result<(), Fail> {
     let config = config(rt.alloc())?;
     let mut pipeline = Pipeline::new(rt.alloc(), &config, MAIN, GATE);
-    let other =
-        r#"{"type":"patchset-created","change":{"project":"demo","number":8},"patchSet":{"number":1}}"#;
-    let turns = [
-        (Act::Empty, None),
-        (Act::Empty, None),
-        (Act::Event(0, PATCH_SET_1), APPLIED),
-        (Act::Event(1, other), APPLIED),
-        (Act::Empty, None),
-        (Act::Empty, None),
-        (Act::Ended(1, "build", true), APPLIED),
-    ];
-    for (act, wanted) in turns {
-        assert_eq!(rt; turn(rt.alloc(), &mut pipeline, &config, act)?, wanted);
-    }
+    to_triggers(rt.alloc(), &mut pipeline, &config)?;
+    check(
+        rt.alloc(),
+        &mut pipeline,
+        &config,
+        Act::Event(0, PATCH_SET_1),
+        APPLIED,
+    )?;
+    check(
+        rt.alloc(),
+        &mut pipeline,
+        &config,
+        Act::Event(1, ANOTHER_CHANGE),
+        APPLIED,
+    )?;
+    to_triggers(rt.alloc(), &mut pipeline, &config)?;
+    check(
+        rt.alloc(),
+        &mut pipeline,
+        &config,
+        Act::Ended(1, "build", true),
+        APPLIED,
+    )?;
     assert_eq!(rt; pipeline.state().reported().len(), 0);
-    let outcome = turn(
+    check(
         rt.alloc(),
         &mut pipeline,
         &config,
         Act::Ended(0, "build", true),
+        APPLIED,
     )?;
-    assert_eq!(rt; outcome, APPLIED);
     assert_eq!(rt; pipeline.state().reported().len(), 2);
     Ok(())
 }
@@ -154,10 +231,9 @@ fn keeps_the_order_of_a_dependent_pipeline(rt: HostRuntime) -> Result<(), Fail> 
 fn finishes_with_the_end_mark(rt: HostRuntime) -> Result<(), Fail> {
     let config = config(rt.alloc())?;
     let mut pipeline = Pipeline::new(rt.alloc(), &config, MAIN, CHECK);
-    turn(rt.alloc(), &mut pipeline, &config, Act::Empty)?;
-    turn(rt.alloc(), &mut pipeline, &config, Act::Empty)?;
+    to_triggers(rt.alloc(), &mut pipeline, &config)?;
     assert!(rt; !pipeline.finished());
-    assert_eq!(rt; turn(rt.alloc(), &mut pipeline, &config, Act::End)?, None);
+    check(rt.alloc(), &mut pipeline, &config, Act::End, None)?;
     assert!(rt; pipeline.finished());
     assert_eq!(rt; pipeline.wants(), Which::Finished);
     assert_eq!(rt; pipeline.done().len(), 0);
