@@ -31,13 +31,10 @@ fn config(alloc: Global) -> Result<Config, ConfigFault> {
 enum Act<'a> {
     // Nothing: the queue is empty.
     Empty,
-    // Changes of connection 0 are managed.
+    // A change of connection 0 is to be taken out.
     Dequeue(i64),
-    Reset(i64),
     // A result: build set, job, success.
     Ended(u64, &'a str, bool),
-    // A trigger event: its number and its record.
-    Event(u64, &'a str),
     // The end mark.
     End,
 }
@@ -68,15 +65,11 @@ fn taken(alloc: Global, act: Act<'_>) -> Result<Option<Taken>, Fail> {
     Ok(match act {
         Act::Empty => None,
         Act::Dequeue(number) => Some(Taken::Manage(Manage::Dequeue(change(number)))),
-        Act::Reset(number) => Some(Taken::Manage(Manage::Reset(change(number)))),
         Act::Ended(set, job, success) => Some(Taken::Result(JobResult {
             set,
             job: Text::copy(alloc, job)?,
             success,
         })),
-        Act::Event(number, line) => Some(Taken::Trigger(PipelineItem::Event(stamped(
-            alloc, number, line,
-        )?))),
         Act::End => Some(Taken::Trigger(PipelineItem::End)),
     })
 }
