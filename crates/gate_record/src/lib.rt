@@ -26,7 +26,7 @@ pub use event::Event;
 pub use ids::{ConnId, ManagerKind, PipelineId, Stamp, TenantId};
 pub use memory::Memory;
 pub use names::name_text;
-pub use number::read_number;
+pub use number::{number_of_text, read_number};
 pub use queue::Queue;
 pub use read::read_record;
 pub use reading::{Reading, Why};

@@ -15,7 +15,8 @@ pub fn read_number(value: &Value) -> Option<i64>
     }
 }
 
-fn number_of_text(text: &str) -> Option<i64>
+/// The number that a text writes: one sign or none and decimal digits, and an `i64` in value. Any other text writes none.
+pub fn number_of_text(text: &str) -> Option<i64>
     ensures { result ≡ number_in text.now }
 {
     text.parse::<i64>().ok()

@@ -1,6 +1,6 @@
 //! What is a number, and what isn't.
 use super::read_event;
-use crate::read_number;
+use crate::{number_of_text, read_number};
 use serde_json::Value;
 use std::test::Fail;
 
@@ -48,5 +48,13 @@ fn reads_numbers(rt: HostRuntime) -> Result<(), Fail> {
         let event = read_event(&rt, rt.alloc(), line.as_str())?;
         assert_eq!(rt; event.change, wanted, "at {json}");
     }
+    Ok(())
+}
+
+#[test]
+fn reads_numbers_of_texts(rt: HostRuntime) -> Result<(), Fail> {
+    assert_eq!(rt; number_of_text("+7"), Some(7));
+    assert_eq!(rt; number_of_text("-007"), Some(-7));
+    assert_eq!(rt; number_of_text("7 "), None);
     Ok(())
 }
