@@ -24,6 +24,17 @@ fn refuses_no_capacity(rt: HostRuntime) {
 }
 
 #[test]
+fn writes_faults(rt: HostRuntime) -> Result<(), Fail> {
+    let capacity = OpenFault::Capacity;
+    let memory = OpenFault::Memory;
+    let full = Full(7u8);
+    assert_eq!(rt; format!(in rt.alloc(); "{capacity}")?.as_str(), "capacity");
+    assert_eq!(rt; format!(in rt.alloc(); "{memory}")?.as_str(), "memory");
+    assert_eq!(rt; format!(in rt.alloc(); "{full}")?.as_str(), "full");
+    Ok(())
+}
+
+#[test]
 fn one_sender_fills_two_places(rt: HostRuntime) -> Result<(), Fail> {
     let (queue, mut tails, mut head) = open(rt.alloc(), 2, 1)?;
     assert_eq!(rt; queue.put(&rt, &mut tails[0], 'a'), Ok(()));
