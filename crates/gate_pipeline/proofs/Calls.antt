@@ -34,24 +34,24 @@ pass_of_taken (taken.Trigger (item.Event stamped)) state = refl
 pass_of_taken (taken.Trigger item.End) state = refl
 pass_of_taken taken.Again state = refl
 
-pass_of_call : (config : Config) (state : State) (call : Call) → (after_call config state call).pass ≡ pass_after state.pass (takings_of call)
-pass_of_call config state (Took given) = pass_of_processed config (to_process state.held given) (taken_in given state) ∙ pass_of_taken given state
-pass_of_call config state (Refused given) = pass_of_taken given state
-pass_of_call config state FoundEmpty = refl
+pass_of_call : (state : State) (call : Call) → (after_call state call).pass ≡ pass_after state.pass (takings_of call)
+pass_of_call state (Took config given) = pass_of_processed config (to_process state.held given) (taken_in given state) ∙ pass_of_taken given state
+pass_of_call state (Refused given) = pass_of_taken given state
+pass_of_call state FoundEmpty = refl
 
 pass_after-append : (pass : Pass) (xs ys : List Taking) → pass_after pass (xs ++ ys) ≡ pass_after (pass_after pass xs) ys
 pass_after-append pass [] ys = refl
 pass_after-append pass (x ∷ xs) ys = pass_after-append (after_taking pass x) xs ys
 
-pass_of_calls : (config : Config) (state : State) (calls : List Call) → (after_calls config state calls).pass ≡ pass_after state.pass (takings calls)
-pass_of_calls config state [] = refl
-pass_of_calls config state (call ∷ calls) =
-    pass_of_calls config (after_call config state call) calls
-    ∙ ap (λ (pass : Pass). pass_after pass (takings calls)) (pass_of_call config state call)
+pass_of_calls : (state : State) (calls : List Call) → (after_calls state calls).pass ≡ pass_after state.pass (takings calls)
+pass_of_calls state [] = refl
+pass_of_calls state (call ∷ calls) =
+    pass_of_calls (after_call state call) calls
+    ∙ ap (λ (pass : Pass). pass_after pass (takings calls)) (pass_of_call state call)
     ∙ sym (pass_after-append state.pass (takings_of call) (takings calls))
 
 pub phases_follow : PhasesFollow
-phases_follow config t p calls = pass_of_calls config (first_state config t p) calls
+phases_follow config t p calls = pass_of_calls (first_state config t p) calls
 
 -- ---- items
 
@@ -81,19 +81,19 @@ items_of_took config state given =
     items_of_processed config (to_process state.held given) (taken_in given state)
     ∙ ap (λ (s : items.State). after s (map action_of (option_to_list (takes config state given).1))) (items_of_taken given state)
 
-items_of_calls : (config : Config) (state : State) (calls : List Call) → (after_calls config state calls).items ≡ after state.items (map action_of (processed_in config state calls))
-items_of_calls config state [] = refl
-items_of_calls config state (Took given ∷ calls) =
+items_of_calls : (state : State) (calls : List Call) → (after_calls state calls).items ≡ after state.items (map action_of (processed_in state calls))
+items_of_calls state [] = refl
+items_of_calls state (Took config given ∷ calls) =
     let next = takes config state given in
-    items_of_calls config next.0 calls
-    ∙ ap (λ (s : items.State). after s (map action_of (processed_in config next.0 calls))) (items_of_took config state given)
-    ∙ sym (after-append state.items (map action_of (option_to_list next.1)) (map action_of (processed_in config next.0 calls)))
-    ∙ ap (after state.items) (sym (map-option action_of next.1 (processed_in config next.0 calls)))
-items_of_calls config state (Refused given ∷ calls) =
+    items_of_calls next.0 calls
+    ∙ ap (λ (s : items.State). after s (map action_of (processed_in next.0 calls))) (items_of_took config state given)
+    ∙ sym (after-append state.items (map action_of (option_to_list next.1)) (map action_of (processed_in next.0 calls)))
+    ∙ ap (after state.items) (sym (map-option action_of next.1 (processed_in next.0 calls)))
+items_of_calls state (Refused given ∷ calls) =
     let next = held_as (to_process state.held given) (taken_in given state) in
-    items_of_calls config next calls
-    ∙ ap (λ (s : items.State). after s (map action_of (processed_in config next calls))) (items_of_taken given state)
-items_of_calls config state (FoundEmpty ∷ calls) = items_of_calls config (found_empty state) calls
+    items_of_calls next calls
+    ∙ ap (λ (s : items.State). after s (map action_of (processed_in next calls))) (items_of_taken given state)
+items_of_calls state (FoundEmpty ∷ calls) = items_of_calls (found_empty state) calls
 
 -- ---- what is done
 
@@ -115,24 +115,24 @@ done_of_took config state given =
     done_of_processed config (to_process state.held given) (taken_in given state)
     ∙ ap (λ (stamps : List Stamp). stamps ++ filter_map stamp_of (option_to_list (takes config state given).1)) (done_of_taken given state)
 
-done_of_calls : (config : Config) (state : State) (calls : List Call) → (after_calls config state calls).done ≡ state.done ++ filter_map stamp_of (processed_in config state calls)
-done_of_calls config state [] = sym (append-nil state.done)
-done_of_calls config state (Took given ∷ calls) =
+done_of_calls : (state : State) (calls : List Call) → (after_calls state calls).done ≡ state.done ++ filter_map stamp_of (processed_in state calls)
+done_of_calls state [] = sym (append-nil state.done)
+done_of_calls state (Took config given ∷ calls) =
     let next = takes config state given in
     let first = filter_map stamp_of (option_to_list next.1) in
-    let others = filter_map stamp_of (processed_in config next.0 calls) in
-    done_of_calls config next.0 calls
+    let others = filter_map stamp_of (processed_in next.0 calls) in
+    done_of_calls next.0 calls
     ∙ ap (λ (stamps : List Stamp). stamps ++ others) (done_of_took config state given)
     ∙ append_assoc state.done first others
-    ∙ ap (λ (stamps : List Stamp). state.done ++ stamps) (sym (filter_map-append stamp_of (option_to_list next.1) (processed_in config next.0 calls)))
-done_of_calls config state (Refused given ∷ calls) =
+    ∙ ap (λ (stamps : List Stamp). state.done ++ stamps) (sym (filter_map-append stamp_of (option_to_list next.1) (processed_in next.0 calls)))
+done_of_calls state (Refused given ∷ calls) =
     let next = held_as (to_process state.held given) (taken_in given state) in
-    done_of_calls config next calls
-    ∙ ap (λ (stamps : List Stamp). stamps ++ filter_map stamp_of (processed_in config next calls)) (done_of_taken given state)
-done_of_calls config state (FoundEmpty ∷ calls) = done_of_calls config (found_empty state) calls
+    done_of_calls next calls
+    ∙ ap (λ (stamps : List Stamp). stamps ++ filter_map stamp_of (processed_in next calls)) (done_of_taken given state)
+done_of_calls state (FoundEmpty ∷ calls) = done_of_calls (found_empty state) calls
 
 pub applied_once : AppliedOnce
 applied_once = record {
-  items = λ config t p calls. items_of_calls config (first_state config t p) calls;
-  done = λ config t p calls. done_of_calls config (first_state config t p) calls;
+  items = λ config t p calls. items_of_calls (first_state config t p) calls;
+  done = λ config t p calls. done_of_calls (first_state config t p) calls;
 }
