@@ -1,9 +1,10 @@
 -- Each step keeps what holds.
-use Rattle.std.proofs.Common.{◌≡◌, ◌∙◌, refl, sym, ap, subst, ℕ, zero, suc, ◌+◌, ◌==◌, List, [], ◌∷◌, ◌++◌, Bool, true, false, length, Option, Some, None, slice_set, arith, if◌then◌else◌}
-use Rattle.std.specs.Prelude.{◌&&◌, nat_lt, not, slice_get}
+use Rattle.std.proofs.Common.{◌≡◌, ◌∙◌, refl, sym, ap, subst, ℕ, zero, suc, ◌+◌, ◌==◌, List, [], ◌∷◌, ◌++◌, Bool, true, false, length, Option, Some, None, slice_set, append-nil, arith, if◌then◌else◌}
+use Rattle.std.specs.Prelude.{◌&&◌, ◌||◌, is_some, nat_lt, not, slice_get}
 use Rattle.std.proofs.lemmas.Bool.{ltb-true}
 use Rattle.gate_record.specs.declared.ids.ConnId.{ConnId}
 use Rattle.gate_record.specs.declared.ids.PipelineId.{PipelineId}
+use Rattle.gate_record.specs.declared.ids.Stamp.{Stamp}
 use Rattle.gate_record.specs.declared.ids.TenantId.{TenantId}
 use Rattle.gate_record.specs.declared.record.Record.{Record}
 use Rattle.gate_record.specs.declared.transit.ConnEntry.{ConnEntry}
@@ -12,26 +13,37 @@ use Rattle.gate_record.specs.declared.transit.TenantItem.{TenantItem}
 use Rattle.gate_record.specs.declared.transit.PipelineItem.{PipelineItem}
 use Rattle.gate_record.specs.declared.transit.PipelineItem.TheVariants as item
 use Rattle.gate_config.specs.declared.config.Config.{Config}
+use Rattle.gate_items.specs.declared.action.Action.{Action}
+use Rattle.gate_items.specs.declared.action.Action.TheVariants as action
+use Rattle.gate_items.specs.declared.action.JobResult.{JobResult}
+use Rattle.gate_items.specs.declared.action.Manage.{Manage}
+use Rattle.gate_items.specs.declared.action.Outcome.{Outcome}
+use Rattle.gate_items.specs.Machine.{apply}
+use Rattle.gate_pipeline.specs.declared.pass.Phase.{Phase}
+use Rattle.gate_pipeline.specs.declared.pass.Phase.TheVariants as phase
+use Rattle.gate_pipeline.specs.declared.which.Held.{Held}
+use Rattle.gate_pipeline.specs.declared.which.Taken.TheVariants as taken
+use Rattle.gate_pipeline.specs.declared.which.Which.TheVariants as which
+use Rattle.gate_pipeline.specs.States.{queue_of}
+use Rattle.gate_pipeline.specs.Triggers.{trigger_of}
 use Rattle.gate_tenant.specs.States.{has_ended, room_of}
 use Rattle.gate_core.specs.declared.answer.Answer.{Answer}
 use Rattle.gate_core.specs.declared.answer.Answer.TheVariants.{Accepted, Closed, Full, Idle, Moved, Passed, Turned}
-use Rattle.gate_core.specs.declared.pass.Phase.{Phase}
-use Rattle.gate_core.specs.declared.pass.Phase.TheVariants.{Management, Result, Trigger}
-use Rattle.gate_core.specs.declared.pass.Taking.TheVariants.{Value, Nothing}
 use Rattle.gate_core.specs.declared.pipeline.Pipeline.{Pipeline}
 use Rattle.gate_core.specs.declared.step.Step.{Step}
 use Rattle.gate_core.specs.declared.step.Step.TheVariants as step
-use Rattle.gate_core.specs.History.{History}
-use Rattle.gate_core.specs.Passes.{after_taking}
-use Rattle.gate_core.specs.Pipelines.{took_trigger, turned_in}
+use Rattle.gate_core.specs.History.{History, finished, manage_posts, result_posts}
+use Rattle.gate_core.specs.History.{turned as turned_of}
+use Rattle.gate_core.specs.Pipelines.{first_ended, first_managed, first_triggered, found_where, passed_on, post_manage, post_result, took, turned, turned_by}
 use Rattle.gate_core.specs.States.{ConnectionState, TenantState, State}
-use Rattle.gate_core.specs.Steps.{close, fetch, fetch_from, give, give_from, give_to, match_from, match_gathered, may_gather, offer, send_from, send_of, send_to, step_of, take, take_from, turn, turn_of, with_connection, with_tenant}
+use Rattle.gate_core.specs.Steps.{close, fetch, fetch_from, give, give_from, give_to, match_from, match_gathered, may_gather, offer, send_from, on_pipeline, send_of, send_to, step_of, take, take_from, with_connection, with_pipeline, with_tenant}
 use Rattle.gate_core.proofs.Going.{closed_holds, offered_holds, taken_holds}
-use Rattle.gate_core.proofs.Pushes.{IsQuiet, puts_quiet, quiet_closed, quiet_full, quiet_idle, same_quiet, takes_quiet}
+use Rattle.gate_core.proofs.Fits.{PipeFits, fits_end, fits_ended, fits_event, fits_manage_post, fits_managed, fits_passed, fits_result_post, fits_same}
+use Rattle.gate_core.proofs.Pushes.{IsQuiet, or_false, puts_quiet, quiet_closed, quiet_full, quiet_idle, quiet_passed, same_quiet, takes_quiet}
 use Rattle.gate_core.proofs.SendSteps.{sent_holds}
 use Rattle.gate_core.proofs.Sendings.{differs}
-use Rattle.gate_core.proofs.Streams.{ConnSame, Holds, PipeHolds, PipeSame, conn_same, conn_untouched, pipe_untouched, put_same, tenant_same}
-use Rattle.gate_core.proofs.Turning.{pipe_end, pipe_event, pipe_quiet, turn_goes}
+use Rattle.gate_core.proofs.Streams.{ConnSame, Holds, PipeHolds, PipeSame, conn_same, conn_untouched, pipe_same, pipe_untouched, put_same, tenant_same}
+use Rattle.gate_core.proofs.Turning.{another_one, manage_fits, pipeline_goes, result_fits, turn_fits}
 use Rattle.gate_core.proofs.Working.{fetched_holds, given_holds, matched_holds}
 use Rattle.gate_forward.specs.Forwarding.{forwarded}
 
@@ -44,20 +56,33 @@ set_same (y ∷ ys) zero x e = ap (λ z. z ∷ ys) (sym (ap (λ (o : Option _). 
     first_or (Some z) d = z
 set_same (y ∷ ys) (suc i) x e = ap (λ zs. y ∷ zs) (set_same ys i x e)
 
+or_true : (b : Bool) → (b || true) ≡ true
+or_true true = refl
+or_true false = refl
+
 -- ---- answers that leave the state as it is
+
+quiet_conn : (h : History) (s : Step) (a : Answer) → IsQuiet a → (c : ℕ) → ConnSame c h (h ++ (s, a) ∷ [])
+quiet_conn h s a q c =
+    let same = same_quiet h s a q in
+    record { accepts = same.accepts c; closes = same.closes c; puts = puts_quiet c h s a q; takes = takes_quiet c h s a q }
+
+quiet_pipe : (h : History) (s : Step) (a : Answer) → IsQuiet a → (t p : ℕ) → PipeSame t p h (h ++ (s, a) ∷ [])
+quiet_pipe h s a q t p =
+    let same = same_quiet h s a q in
+    record { turns = same.turns t p; finishes = same.finishes t p; manages = same.manages t p; ends = same.ends t p }
 
 pub quiet : (config : Config) (h : History) (state : State) (s : Step) (a : Answer) → IsQuiet a → Holds config h state → Holds config (h ++ (s, a) ∷ []) state
 quiet config h state s a q holds =
-    let same = same_quiet h s a q in
-    let conns : (c : ℕ) → ConnSame c h (h ++ (s, a) ∷ []) = λ c. record { accepts = same.accepts c; closes = same.closes c; puts = puts_quiet c h s a q; takes = takes_quiet c h s a q } in
-    let pipes : (t p : ℕ) → PipeSame t p h (h ++ (s, a) ∷ []) = λ t p. record { does = same.does t p; finishes = same.finishes t p } in
+    let conns : (c : ℕ) → ConnSame c h (h ++ (s, a) ∷ []) = quiet_conn h s a q in
+    let pipes : (t p : ℕ) → PipeSame t p h (h ++ (s, a) ∷ []) = quiet_pipe h s a q in
     record {
       count = holds.count;
       conn_count = holds.conn_count;
       conns = λ c. conn_same config h (h ++ (s, a) ∷ []) c (slice_get state.connections c) (conns c) (holds.conns c);
       tenants = λ t ten at. tenant_same config h (h ++ (s, a) ∷ []) state.connections state.connections t ten (pipes t)
           (λ c rest kept. kept ∙ ap (forwarded config t c) (put_same c h (h ++ (s, a) ∷ []) (conns c))) (holds.tenants t ten at);
-      others = λ t p none. ((pipes t p).does ∙ (holds.others t p none).0, (pipes t p).finishes ∙ (holds.others t p none).1);
+      others = λ t p none. ((pipes t p).turns ∙ (holds.others t p none).0, (pipes t p).finishes ∙ (holds.others t p none).1);
     }
 
 -- what holds once a step gave a state and an answer
@@ -155,7 +180,7 @@ module _ (config : Config) (h : History) (state : State) (holds : Holds config h
   fetch_by tid n ten at true e (x ∷ queue) f =
       let may = both (nat_lt 0 (room_of ten.dispatch)) (not (has_ended config tid.0 ten.dispatch)) (both (n == 1) (may_gather config tid.0 ten) e).1 in
       fetched_holds config h state (step.Fetch tid n) Moved tid.0 ten at
-      (λ past. ((λ c. conn_untouched c past (step.Fetch tid n) Moved refl refl refl), (λ t p. pipe_untouched t p past (step.Fetch tid n) Moved refl)))
+      (λ past. ((λ c. conn_untouched c past (step.Fetch tid n) Moved refl refl refl), (λ t p. pipe_untouched t p past (step.Fetch tid n) Moved refl refl refl)))
       x queue f (ltb-true 0 (room_of ten.dispatch) may.0) (is_not (has_ended config tid.0 ten.dispatch) may.1) holds
 
   fetch_goes : (tid : TenantId) (n : ℕ) (o : Option TenantState) → slice_get state.tenants tid.0 ≡ o → Goes config h (step.Fetch tid n) (with_tenant (fetch config tid.0 n) tid.0 o state)
@@ -166,7 +191,7 @@ module _ (config : Config) (h : History) (state : State) (holds : Holds config h
   match_by tid ten at [] e = idle (step.Match tid) tid.0 ten at
   match_by tid ten at (x ∷ items) e =
       matched_holds config h state (step.Match tid) Moved tid.0 ten at
-      (λ past. ((λ c. conn_untouched c past (step.Match tid) Moved refl refl refl), (λ t p. pipe_untouched t p past (step.Match tid) Moved refl)))
+      (λ past. ((λ c. conn_untouched c past (step.Match tid) Moved refl refl refl), (λ t p. pipe_untouched t p past (step.Match tid) Moved refl refl refl)))
       (ap (λ xs. length xs == 0) e ∙ differs (suc (length items)) 0 (λ no_such. absurd (omega (arith, no_such)))) holds
 
   match_goes : (tid : TenantId) (o : Option TenantState) → slice_get state.tenants tid.0 ≡ o → Goes config h (step.Match tid) (with_tenant (match_gathered config tid.0) tid.0 o state)
@@ -176,17 +201,17 @@ module _ (config : Config) (h : History) (state : State) (holds : Holds config h
   give_by : (tid : TenantId) (ten : TenantState) → slice_get state.tenants tid.0 ≡ Some ten → (first : PipelineId × PipelineItem) (hand : List (PipelineId × PipelineItem)) → ten.dispatch.items ≡ first ∷ hand →
       (pipe : Pipeline) → slice_get ten.pipelines first.0.0 ≡ Some pipe → (room : Bool) →
       TenantGoes (step.Give tid) tid.0
-      (if room then (record ten { dispatch = record ten.dispatch { items = hand; out = None }; pipelines = slice_set ten.pipelines first.0.0 (record pipe { queue = pipe.queue ++ first.1 ∷ [] }) }, Moved) else (ten, Full))
+      (if room then (record ten { dispatch = record ten.dispatch { items = hand; out = None }; pipelines = slice_set ten.pipelines first.0.0 (record pipe { triggers = pipe.triggers ++ first.1 ∷ [] }) }, Moved) else (ten, Full))
   give_by tid ten at first hand front pipe whose true =
       given_holds config h state (step.Give tid) Moved tid.0 ten at
-      (λ past. ((λ c. conn_untouched c past (step.Give tid) Moved refl refl refl), (λ t p. pipe_untouched t p past (step.Give tid) Moved refl)))
+      (λ past. ((λ c. conn_untouched c past (step.Give tid) Moved refl refl refl), (λ t p. pipe_untouched t p past (step.Give tid) Moved refl refl refl)))
       first hand pipe front whose holds
   give_by tid ten at first hand front pipe whose false = tenant_quiet config h state (step.Give tid) Full tid.0 ten at quiet_full holds
 
   give_to_goes : (tid : TenantId) (ten : TenantState) → slice_get state.tenants tid.0 ≡ Some ten → (first : PipelineId × PipelineItem) (hand : List (PipelineId × PipelineItem)) → ten.dispatch.items ≡ first ∷ hand →
       (o : Option Pipeline) → slice_get ten.pipelines first.0.0 ≡ o → TenantGoes (step.Give tid) tid.0 (give_to first.0 first.1 hand o ten)
   give_to_goes tid ten at first hand front None whose = idle (step.Give tid) tid.0 ten at
-  give_to_goes tid ten at first hand front (Some pipe) whose = give_by tid ten at first hand front pipe whose (nat_lt (length pipe.queue) 4096)
+  give_to_goes tid ten at first hand front (Some pipe) whose = give_by tid ten at first hand front pipe whose (nat_lt (length pipe.triggers) 4096)
 
   give_from_goes : (tid : TenantId) (ten : TenantState) → slice_get state.tenants tid.0 ≡ Some ten → (hand : List (PipelineId × PipelineItem)) → ten.dispatch.items ≡ hand → TenantGoes (step.Give tid) tid.0 (give_from hand ten)
   give_from_goes tid ten at [] e = idle (step.Give tid) tid.0 ten at
@@ -198,46 +223,111 @@ module _ (config : Config) (h : History) (state : State) (holds : Holds config h
 
   -- ---- pipelines
 
-  abbrev PipeGoes : TenantId → PipelineId → TenantState → Pipeline × Answer → Type 0
-  PipeGoes tid pid ten next = TenantGoes (step.Turn tid pid) tid.0 (record ten { pipelines = slice_set ten.pipelines pid.0 next.0 }, next.1)
+  abbrev PipeGoes : Step → TenantId → PipelineId → TenantState → Pipeline × Answer → Type 0
+  PipeGoes s tid pid ten next = TenantGoes s tid.0 (record ten { pipelines = slice_set ten.pipelines pid.0 next.0 }, next.1)
 
   module _ (tid : TenantId) (pid : PipelineId) (ten : TenantState) (pipe : Pipeline) (at : slice_get state.tenants tid.0 ≡ Some ten) (whose : slice_get ten.pipelines pid.0 ≡ Some pipe) where
-    old : PipeHolds h tid.0 pid.0 (holds.tenants tid.0 ten at).past.given pipe
+    abbrev given : List (PipelineId × PipelineItem)
+    given = (holds.tenants tid.0 ten at).past.given
+
+    old : PipeHolds config h tid.0 pid.0 given pipe
     old = (holds.tenants tid.0 ten at).pipes pid.0 pipe whose
 
-    pass_goes : (next : Pipeline) (a : Answer) → IsQuiet a → next.queue ≡ pipe.queue → next.done ≡ pipe.done → next.finished ≡ pipe.finished → PipeGoes tid pid ten (next, a)
-    pass_goes next a q queue stamps ending =
-        turn_goes config h state tid pid a ten pipe next at whose holds
-        (pipe_quiet h tid.0 pid.0 tid pid a (holds.tenants tid.0 ten at).past.given pipe next q.not_processed q.not_moved queue stamps ending old)
+    -- nothing is processed, posted or ended
+    quiet_goes : (s : Step) (next : Pipeline) (a : Answer) → IsQuiet a → PipeHolds config h tid.0 pid.0 given next → PipeGoes s tid pid ten (next, a)
+    quiet_goes s next a q fits =
+        pipeline_goes config h state s tid pid a ten pipe next at whose (quiet_conn h s a q) (λ t p differ. quiet_pipe h s a q t p) holds
+        (pipe_same config h (h ++ (s, a) ∷ []) tid.0 pid.0 given next (quiet_pipe h s a q tid.0 pid.0) fits)
 
-    quiet_passed : IsQuiet Passed
-    quiet_passed = record { not_accepted = refl; not_moved = refl; not_processed = refl }
+    turn_moves : (next : Pipeline) (a : Answer) → PipeHolds config (h ++ (step.Turn tid pid, a) ∷ []) tid.0 pid.0 given next → PipeGoes (step.Turn tid pid) tid pid ten (next, a)
+    turn_moves next a new =
+        pipeline_goes config h state (step.Turn tid pid) tid pid a ten pipe next at whose
+        (λ c. conn_untouched c h (step.Turn tid pid) a refl refl refl)
+        (λ t p differ. pipe_untouched t p h (step.Turn tid pid) a (another_one tid pid t p differ) refl refl) holds new
 
-    trigger_goes : (queue : List PipelineItem) → pipe.queue ≡ queue → PipeGoes tid pid ten (took_trigger queue pipe)
-    trigger_goes [] e = pass_goes (record pipe { pass = after_taking pipe.pass Nothing }) Passed quiet_passed refl refl refl
-    trigger_goes (item.Event s ∷ queue) e =
-        turn_goes config h state tid pid (Turned s.stamp) ten pipe (record pipe { queue = queue; pass = after_taking pipe.pass Value; done = pipe.done ++ s.stamp ∷ [] }) at whose holds
-        (pipe_event h tid pid s queue (after_taking pipe.pass Value) (holds.tenants tid.0 ten at).past.given pipe e old)
-    trigger_goes (item.End ∷ queue) e =
-        turn_goes config h state tid pid Moved ten pipe (record pipe { queue = queue; pass = after_taking pipe.pass Value; finished = true }) at whose holds
-        (pipe_end h tid pid queue (after_taking pipe.pass Value) (holds.tenants tid.0 ten at).past.given pipe e old)
+    -- an action is processed
+    processes : (next : Pipeline) (stamp : Option Stamp) (a : Action) (o : Outcome) →
+        PipeFits config tid.0 pid.0 given next (turned_of tid.0 pid.0 h ++ (stamp, a, o) ∷ []) (finished tid.0 pid.0 h) (manage_posts tid.0 pid.0 h) (result_posts tid.0 pid.0 h) →
+        PipeGoes (step.Turn tid pid) tid pid ten (next, Turned stamp a o)
+    processes next stamp a o fits =
+        turn_moves next (Turned stamp a o) (turn_fits config h tid pid (Turned stamp a o) given next (fits_same refl (sym (or_false (finished tid.0 pid.0 h))) refl refl fits))
 
-    phase_goes : (phase : Phase) → PipeGoes tid pid ten (turned_in phase pipe)
-    phase_goes Management = pass_goes (record pipe { pass = after_taking pipe.pass Nothing }) Passed quiet_passed refl refl refl
-    phase_goes Result = pass_goes (record pipe { pass = after_taking pipe.pass Nothing }) Passed quiet_passed refl refl refl
-    phase_goes Trigger = trigger_goes pipe.queue refl
+    passes : PipeGoes (step.Turn tid pid) tid pid ten (passed_on pipe)
+    passes = quiet_goes (step.Turn tid pid) (passed_on pipe).0 Passed quiet_passed (fits_passed old)
 
-    turned_goes : (finished : Bool) → PipeGoes tid pid ten (if finished then (pipe, Idle) else turned_in pipe.pass.phase pipe)
-    turned_goes true = pass_goes pipe Idle quiet_idle refl refl refl
-    turned_goes false = phase_goes pipe.pass.phase
+    managed_goes : (ms : List Manage) → pipe.management ≡ ms → PipeGoes (step.Turn tid pid) tid pid ten (turned_by config (first_managed ms pipe) pipe)
+    managed_goes [] e = passes
+    managed_goes (m ∷ rest) e =
+        processes (took config (taken.Manage m) (record pipe { management = rest })).0 None (action.Manage m) (apply pipe.worker.items (action.Manage m)).1 (fits_managed old m rest e)
 
-  turn_of_goes : (tid : TenantId) (pid : PipelineId) (ten : TenantState) → slice_get state.tenants tid.0 ≡ Some ten → (o : Option Pipeline) → slice_get ten.pipelines pid.0 ≡ o → TenantGoes (step.Turn tid pid) tid.0 (turn_of pid.0 o ten)
+    ended_goes : (rs : List JobResult) → pipe.results ≡ rs → PipeGoes (step.Turn tid pid) tid pid ten (turned_by config (first_ended rs pipe) pipe)
+    ended_goes [] e = passes
+    ended_goes (r ∷ rest) e =
+        processes (took config (taken.Result r) (record pipe { results = rest })).0 None (action.Result r) (apply pipe.worker.items (action.Result r)).1 (fits_ended old r rest e)
+
+    triggered_goes : (items : List PipelineItem) → pipe.triggers ≡ items → PipeGoes (step.Turn tid pid) tid pid ten (turned_by config (first_triggered items pipe) pipe)
+    triggered_goes [] e = passes
+    triggered_goes (item.Event s ∷ rest) e =
+        let a = trigger_of config pipe.worker.tenant pipe.worker.pipeline s in
+        processes (took config (taken.Trigger (item.Event s)) (record pipe { triggers = rest })).0 (Some s.stamp) a (apply pipe.worker.items a).1 (fits_event old s rest e)
+    triggered_goes (item.End ∷ rest) e =
+        turn_moves (took config (taken.Trigger item.End) (record pipe { triggers = rest })).0 Moved
+        (turn_fits config h tid pid Moved given (took config (taken.Trigger item.End) (record pipe { triggers = rest })).0
+        (fits_same (sym (append-nil (turned_of tid.0 pid.0 h))) (sym (or_true (finished tid.0 pid.0 h))) refl refl (fits_end old rest e)))
+
+    -- nothing is ever held, since memory was never refused
+    turn_by : (fin : Bool) (waiting : Option Held) (now : Phase) → pipe.worker.held ≡ waiting →
+        PipeGoes (step.Turn tid pid) tid pid ten (turned_by config (found_where (if fin then which.Finished else (if is_some waiting then which.Held else queue_of now)) pipe) pipe)
+    turn_by true waiting now e = quiet_goes (step.Turn tid pid) pipe Idle quiet_idle old
+    turn_by false (Some waits) now e = let none : pipe.worker.held ≡ None = old.free in absurd (cc)
+    turn_by false None phase.Management e = managed_goes pipe.management refl
+    turn_by false None phase.Result e = ended_goes pipe.results refl
+    turn_by false None phase.Trigger e = triggered_goes pipe.triggers refl
+
+    turned_goes : PipeGoes (step.Turn tid pid) tid pid ten (turned config pipe)
+    turned_goes = turn_by pipe.worker.finished pipe.worker.held pipe.worker.pass.phase refl
+
+    managed_by : (m : Manage) (room : Bool) → PipeGoes (step.PostManage tid pid m) tid pid ten (if room then (record pipe { management = pipe.management ++ m ∷ [] }, Moved) else (pipe, Full))
+    managed_by m true =
+        pipeline_goes config h state (step.PostManage tid pid m) tid pid Moved ten pipe (record pipe { management = pipe.management ++ m ∷ [] }) at whose
+        (λ c. conn_untouched c h (step.PostManage tid pid m) Moved refl refl refl)
+        (λ t p differ. pipe_untouched t p h (step.PostManage tid pid m) Moved refl (ap (λ b. if b then Some m else None) (another_one tid pid t p differ)) refl) holds
+        (manage_fits config h tid pid Moved given (record pipe { management = pipe.management ++ m ∷ [] }) m (fits_manage_post old m))
+    managed_by m false = quiet_goes (step.PostManage tid pid m) pipe Full quiet_full old
+
+    ended_by : (r : JobResult) (room : Bool) → PipeGoes (step.PostResult tid pid r) tid pid ten (if room then (record pipe { results = pipe.results ++ r ∷ [] }, Moved) else (pipe, Full))
+    ended_by r true =
+        pipeline_goes config h state (step.PostResult tid pid r) tid pid Moved ten pipe (record pipe { results = pipe.results ++ r ∷ [] }) at whose
+        (λ c. conn_untouched c h (step.PostResult tid pid r) Moved refl refl refl)
+        (λ t p differ. pipe_untouched t p h (step.PostResult tid pid r) Moved refl refl (ap (λ b. if b then Some r else None) (another_one tid pid t p differ))) holds
+        (result_fits config h tid pid Moved given (record pipe { results = pipe.results ++ r ∷ [] }) r (fits_result_post old r))
+    ended_by r false = quiet_goes (step.PostResult tid pid r) pipe Full quiet_full old
+
+  turn_of_goes : (tid : TenantId) (pid : PipelineId) (ten : TenantState) → slice_get state.tenants tid.0 ≡ Some ten → (o : Option Pipeline) → slice_get ten.pipelines pid.0 ≡ o → TenantGoes (step.Turn tid pid) tid.0 (with_pipeline (turned config) pid.0 o ten)
   turn_of_goes tid pid ten at None whose = idle (step.Turn tid pid) tid.0 ten at
-  turn_of_goes tid pid ten at (Some pipe) whose = turned_goes tid pid ten pipe at whose pipe.finished
+  turn_of_goes tid pid ten at (Some pipe) whose = turned_goes tid pid ten pipe at whose
 
-  turn_step_goes : (tid : TenantId) (pid : PipelineId) (o : Option TenantState) → slice_get state.tenants tid.0 ≡ o → Goes config h (step.Turn tid pid) (with_tenant (turn pid.0) tid.0 o state)
+  turn_step_goes : (tid : TenantId) (pid : PipelineId) (o : Option TenantState) → slice_get state.tenants tid.0 ≡ o → Goes config h (step.Turn tid pid) (with_tenant (on_pipeline (turned config) pid.0) tid.0 o state)
   turn_step_goes tid pid None at = quiet config h state (step.Turn tid pid) Idle quiet_idle holds
   turn_step_goes tid pid (Some ten) at = turn_of_goes tid pid ten at (slice_get ten.pipelines pid.0) refl
+
+  manage_of_goes : (tid : TenantId) (pid : PipelineId) (m : Manage) (ten : TenantState) → slice_get state.tenants tid.0 ≡ Some ten → (o : Option Pipeline) → slice_get ten.pipelines pid.0 ≡ o →
+      TenantGoes (step.PostManage tid pid m) tid.0 (with_pipeline (post_manage m) pid.0 o ten)
+  manage_of_goes tid pid m ten at None whose = idle (step.PostManage tid pid m) tid.0 ten at
+  manage_of_goes tid pid m ten at (Some pipe) whose = managed_by tid pid ten pipe at whose m (nat_lt (length pipe.management) 4096)
+
+  manage_step_goes : (tid : TenantId) (pid : PipelineId) (m : Manage) (o : Option TenantState) → slice_get state.tenants tid.0 ≡ o → Goes config h (step.PostManage tid pid m) (with_tenant (on_pipeline (post_manage m) pid.0) tid.0 o state)
+  manage_step_goes tid pid m None at = quiet config h state (step.PostManage tid pid m) Idle quiet_idle holds
+  manage_step_goes tid pid m (Some ten) at = manage_of_goes tid pid m ten at (slice_get ten.pipelines pid.0) refl
+
+  result_of_goes : (tid : TenantId) (pid : PipelineId) (r : JobResult) (ten : TenantState) → slice_get state.tenants tid.0 ≡ Some ten → (o : Option Pipeline) → slice_get ten.pipelines pid.0 ≡ o →
+      TenantGoes (step.PostResult tid pid r) tid.0 (with_pipeline (post_result r) pid.0 o ten)
+  result_of_goes tid pid r ten at None whose = idle (step.PostResult tid pid r) tid.0 ten at
+  result_of_goes tid pid r ten at (Some pipe) whose = ended_by tid pid ten pipe at whose r (nat_lt (length pipe.results) 4096)
+
+  result_step_goes : (tid : TenantId) (pid : PipelineId) (r : JobResult) (o : Option TenantState) → slice_get state.tenants tid.0 ≡ o → Goes config h (step.PostResult tid pid r) (with_tenant (on_pipeline (post_result r) pid.0) tid.0 o state)
+  result_step_goes tid pid r None at = quiet config h state (step.PostResult tid pid r) Idle quiet_idle holds
+  result_step_goes tid pid r (Some ten) at = result_of_goes tid pid r ten at (slice_get ten.pipelines pid.0) refl
 
 -- what holds, holds after a step
 pub holds_on : (config : Config) (h : History) (state : State) (s : Step) → Holds config h state → Goes config h s (step_of config state s)
@@ -248,4 +338,6 @@ holds_on config h state (step.Send d) holds = send_goes config h state holds d (
 holds_on config h state (step.Fetch tid n) holds = fetch_goes config h state holds tid n (slice_get state.tenants tid.0) refl
 holds_on config h state (step.Match tid) holds = match_goes config h state holds tid (slice_get state.tenants tid.0) refl
 holds_on config h state (step.Give tid) holds = give_goes config h state holds tid (slice_get state.tenants tid.0) refl
+holds_on config h state (step.PostManage tid pid m) holds = manage_step_goes config h state holds tid pid m (slice_get state.tenants tid.0) refl
+holds_on config h state (step.PostResult tid pid r) holds = result_step_goes config h state holds tid pid r (slice_get state.tenants tid.0) refl
 holds_on config h state (step.Turn tid pid) holds = turn_step_goes config h state holds tid pid (slice_get state.tenants tid.0) refl

@@ -6,7 +6,6 @@ use Rattle.std.proofs.lemmas.List.{length-map}
 use Rattle.std.proofs.lemmas.List.FromFn.{length-map-range_with_len}
 use Rattle.std.proofs.lemmas.Option.{slice_get-get_or}
 use Rattle.gate_config.specs.declared.config.Config.{Config}
-use Rattle.gate_config.specs.declared.config.PipelineSpec.{PipelineSpec}
 use Rattle.gate_config.specs.Lookups.{connections_of, pipelines_of, tenants_of}
 use Rattle.gate_forward.specs.Forwarding.{forwarded}
 use Rattle.gate_tenant.specs.Histories.{begins, beginning}
@@ -15,6 +14,7 @@ use Rattle.gate_core.specs.Pipelines.{fresh_pipeline}
 use Rattle.gate_core.specs.States.{ConnectionState}
 use Rattle.gate_core.specs.Steps.{first, new_connection, new_tenant}
 use Rattle.gate_core.specs.Worlds.{HaveNumbers}
+use Rattle.gate_core.proofs.Fits.{fits_new}
 use Rattle.gate_core.proofs.Sendings.{items_to}
 use Rattle.gate_core.proofs.Streams.{ConnHolds, Holds, PipeHolds, TenantHolds, count_of, hand_of, queue_of}
 use Rattle.gate_core.proofs.Working.{the_same}
@@ -52,9 +52,9 @@ module _ (config : Config) where
   nothing_put t c None nothing = refl
   nothing_put t c (Some k) that = refl
 
-  new_pipe : (t p : ℕ) (pipe : Pipeline) (o : Option Pipeline) → AllSame fresh_pipeline o → o ≡ Some pipe → PipeHolds [] t p [] pipe
-  new_pipe t p pipe None nothing e = absurd (cc)
-  new_pipe t p pipe (Some q) that e = subst (PipeHolds [] t p []) (the_same fresh_pipeline pipe e) (record { taken = []; parts = refl; stamps = refl; marked = refl; does = refl; finishes = refl })
+  new_pipe : (t p : ℕ) (pipe : Pipeline) → slice_get (map (fresh_pipeline config t) (range_with_len 0 (length (pipelines_of config t)))) p ≡ Some pipe → PipeHolds config [] t p [] pipe
+  new_pipe t p pipe at =
+      subst (PipeHolds config [] t p []) (ap (fresh_pipeline config t) (sym (omega arith)) ∙ sym (found_in_range (fresh_pipeline config t) 0 (length (pipelines_of config t)) p pipe at)) (fits_new config t p)
 
   new_tenant_holds : (t : ℕ) → TenantHolds config [] conns t (new_tenant config t)
   unfolding conns
@@ -63,8 +63,8 @@ module _ (config : Config) where
     happens = begins;
     now = refl;
     in_hand = refl;
-    count = length-map (pipelines_of config t) (λ (_ : PipelineSpec). fresh_pipeline);
-    pipes = λ p pipe at. new_pipe t p pipe (slice_get (map (λ _. fresh_pipeline) (pipelines_of config t)) p) (all_same fresh_pipeline (pipelines_of config t) p) at;
+    count = length-map-range_with_len (fresh_pipeline config t) 0 (length (pipelines_of config t));
+    pipes = λ p pipe at. new_pipe t p pipe at;
     ways = λ c. nothing_put t c (slice_get conns c) (all_same new_connection (connections_of config) c);
   }
 

@@ -1,6 +1,8 @@
 -- What holds of every list of steps.
 use Rattle.std.proofs.Common.{sym, subst, List, [], ◌∷◌, ◌++◌, append-nil, append_assoc}
 use Rattle.gate_config.specs.declared.config.Config.{Config}
+use Rattle.gate_items.specs.History.{CancelledChangesNothing}
+use Rattle.gate_items.specs.Outcomes.{OutcomesAreSaid}
 use Rattle.gate_tenant.specs.Histories.{EachGetsItsOwn, NothingIsLost}
 use Rattle.gate_core.specs.declared.step.Step.{Step}
 use Rattle.gate_core.specs.History.{History}
@@ -10,6 +12,7 @@ use Rattle.gate_core.specs.Steps.{first, left_by, run_from, step_of}
 use Rattle.gate_core.proofs.AllSteps.{holds_on}
 use Rattle.gate_core.proofs.Beginnings.{first_holds}
 use Rattle.gate_core.proofs.Outcomes.{delivers}
+use Rattle.gate_core.proofs.Processing.{keeps, processes}
 use Rattle.gate_core.proofs.Reported.{reported}
 use Rattle.gate_core.proofs.RightAnswers.{right_answer}
 use Rattle.gate_core.proofs.Streams.{Holds}
@@ -26,11 +29,15 @@ answers_rightly config [] h state holds = tt
 answers_rightly config (s ∷ steps) h state holds =
     (right_answer config h state s holds, answers_rightly config steps (h ++ (s, (step_of config state s).1) ∷ []) (step_of config state s).0 (holds_on config h state s holds))
 
-pub every_run : EachGetsItsOwn → NothingIsLost → EveryRunDelivers
-every_run own lossless = record {
+pub every_run : EachGetsItsOwn → NothingIsLost → OutcomesAreSaid → CancelledChangesNothing → EveryRunDelivers
+every_run own lossless says late = record {
   delivers = λ config steps.
       delivers own lossless config (run_from config (first config) steps) (left_by config (first config) steps) (holds_all config steps [] (first config) (first_holds config));
   rightly = λ config steps. answers_rightly config steps [] (first config) (first_holds config);
   report = λ config steps.
       reported config (run_from config (first config) steps) (left_by config (first config) steps) (holds_all config steps [] (first config) (first_holds config));
+  processes = λ config steps.
+      processes own lossless late config (run_from config (first config) steps) (left_by config (first config) steps) (holds_all config steps [] (first config) (first_holds config));
+  keeps = λ config steps.
+      keeps says config (run_from config (first config) steps) (left_by config (first config) steps) (holds_all config steps [] (first config) (first_holds config));
 }

@@ -67,7 +67,7 @@ module _ (config : Config) (h h' : History) (state : State) (c0 : ℕ) (k k' : C
         let few : length state.tenants ≡ length (tenants_of config) = holds.count in
         tenant_same config h h' state.connections conns' t ten (pipes t)
         (λ c rest. way_goes t c (after_set state.connections c0 c k k' at) (ways t (omega (arith, inside, few))) rest) (holds.tenants t ten there);
-    others = λ t p none. ((pipes t p).does ∙ (holds.others t p none).0, (pipes t p).finishes ∙ (holds.others t p none).1);
+    others = λ t p none. ((pipes t p).turns ∙ (holds.others t p none).0, (pipes t p).finishes ∙ (holds.others t p none).1);
   }
 
 -- ---- one entry more
@@ -121,7 +121,7 @@ module _ (config : Config) (h : History) (state : State) (d : ConnId) (line : Re
       let long : length (k.queue ++ entry.Numbered k.accepted line ∷ []) ≡ length k.queue + 1 = length-append k.queue (entry.Numbered k.accepted line ∷ []) in
       connection_goes config h h1 state d.0 k k1 at
       (λ c differ. conn_untouched c h (step.Offer d line) (Accepted k.accepted) (differs d.0 c differ) refl refl)
-      (λ t p. pipe_untouched t p h (step.Offer d line) (Accepted k.accepted) refl)
+      (λ t p. pipe_untouched t p h (step.Offer d line) (Accepted k.accepted) refl refl refl)
       (record {
         count = ap (λ n. n + 1) old.count ∙ sym (ap length accepts_it ∙ length-append (accepted d.0 h) (line ∷ []));
         closing = old.closing ∙ sym stays;
@@ -163,7 +163,7 @@ module _ (config : Config) (h : History) (state : State) (d : ConnId) (k : Conne
       let shut : closed d.0 h ≡ false = sym old.closing ∙ is_open in
       connection_goes config h h2 state d.0 k k2 at
       (λ c differ. conn_untouched c h (step.Close d) Moved refl (differs d.0 c differ) refl)
-      (λ t p. pipe_untouched t p h (step.Close d) Moved refl)
+      (λ t p. pipe_untouched t p h (step.Close d) Moved refl refl refl)
       (record {
         count = old.count ∙ sym (ap length accepts_none);
         closing = sym (shuts shut);
@@ -233,7 +233,7 @@ module _ (config : Config) (h : History) (state : State) (d : ConnId) (k : Conne
       let short = old.within in
       connection_goes config h h3 state d.0 k k3 at
       (λ c differ. conn_untouched c h (step.Take d) Moved refl refl (differs d.0 c differ))
-      (λ t p. pipe_untouched t p h (step.Take d) Moved refl)
+      (λ t p. pipe_untouched t p h (step.Take d) Moved refl refl refl)
       (record {
         count = old.count ∙ sym (ap length taken_accepts);
         closing = old.closing ∙ sym taken_closes;

@@ -3,11 +3,15 @@ pub mod Arrivals
 pub mod Beginnings
 pub mod Elements
 pub mod EveryRun
+pub mod Fits
+pub mod Genuine
 pub mod Going
 pub mod Hands
+pub mod Lines
 pub mod Makings
 pub mod Maps
 pub mod Outcomes
+pub mod Processing
 pub mod Pushes
 pub mod Reported
 pub mod RightAnswers

@@ -5,16 +5,22 @@ use Rattle.std.specs.Option.{option_to_list}
 use Rattle.std.proofs.lemmas.List.Folds.{list_any-append}
 use Rattle.std.proofs.lemmas.List.Sums.{sum_by-append}
 use Rattle.gate_core.specs.declared.answer.Answer.{Answer}
-use Rattle.gate_core.specs.declared.answer.Answer.TheVariants.{Closed, Full, Idle}
+use Rattle.gate_core.specs.declared.answer.Answer.TheVariants.{Closed, Full, Idle, Passed}
 use Rattle.gate_core.specs.declared.step.Step.{Step}
-use Rattle.gate_core.specs.History.{History, accepted, accepted_in, done, processed_in, finished, closed, is_put, is_taking, is_turn, is_close, is_take, is_offer, is_moved, is_accepted, offered_to, processed}
+use Rattle.gate_core.specs.History.{History, accepted, accepted_in, finished, closed, manage_posted_in, manage_posts, posted_manage, posted_result, result_posted_in, result_posts, turned, turned_in, is_put, is_taking, is_turn, is_close, is_take, is_offer, is_moved, is_accepted, offered_to, processed}
 use Rattle.gate_core.proofs.Maps.{filter_map_push}
 
 pub accepted_push : (c : ℕ) (h : History) (e : Step × Answer) → accepted c (h ++ e ∷ []) ≡ accepted c h ++ option_to_list (accepted_in c e)
 accepted_push c h e = filter_map_push (accepted_in c) h e
 
-pub done_push : (t p : ℕ) (h : History) (e : Step × Answer) → done t p (h ++ e ∷ []) ≡ done t p h ++ option_to_list (processed_in t p e)
-done_push t p h e = filter_map_push (processed_in t p) h e
+pub turned_push : (t p : ℕ) (h : History) (e : Step × Answer) → turned t p (h ++ e ∷ []) ≡ turned t p h ++ option_to_list (turned_in t p e)
+turned_push t p h e = filter_map_push (turned_in t p) h e
+
+pub managed_push : (t p : ℕ) (h : History) (e : Step × Answer) → manage_posts t p (h ++ e ∷ []) ≡ manage_posts t p h ++ option_to_list (manage_posted_in t p e)
+managed_push t p h e = filter_map_push (manage_posted_in t p) h e
+
+pub ended_push : (t p : ℕ) (h : History) (e : Step × Answer) → result_posts t p (h ++ e ∷ []) ≡ result_posts t p h ++ option_to_list (result_posted_in t p e)
+ended_push t p h e = filter_map_push (result_posted_in t p) h e
 
 pub finished_push : (t p : ℕ) (h : History) (e : Step × Answer) → finished t p (h ++ e ∷ []) ≡ finished t p h || ((is_turn t p e.0 && is_moved e.1) || false)
 finished_push t p h e = list_any-append (λ (event : Step × Answer). is_turn t p event.0 && is_moved event.1) h (e ∷ [])
@@ -25,11 +31,13 @@ closed_push c h e = list_any-append (λ (event : Step × Answer). is_close c eve
 pub count_push : (test : Step × Answer → Bool) (h : History) (e : Step × Answer) → count_by test (h ++ e ∷ []) ≡ count_by test h + count_by test (e ∷ [])
 count_push test h e = sum_by-append (λ (x : Step × Answer). cond (test x) 1 0) h (e ∷ [])
 
--- ---- a step that changes nothing of what was accepted, processed, finished or closed
+-- ---- a step that changes nothing of what was accepted, posted, processed, finished or closed
 
 pub record Same (h h' : History) : Type 0 where
   pub accepts : (c : ℕ) → accepted c h' ≡ accepted c h
-  pub does : (t p : ℕ) → done t p h' ≡ done t p h
+  pub turns : (t p : ℕ) → turned t p h' ≡ turned t p h
+  pub manages : (t p : ℕ) → manage_posts t p h' ≡ manage_posts t p h
+  pub ends : (t p : ℕ) → result_posts t p h' ≡ result_posts t p h
   pub finishes : (t p : ℕ) → finished t p h' ≡ finished t p h
   pub closes : (c : ℕ) → closed c h' ≡ closed c h
 
@@ -45,11 +53,14 @@ pub cond_none : {A : Type 0} (b : Bool) → ◌≡◌ {A = Option A} (cond b Non
 cond_none true = refl
 cond_none false = refl
 
-pub same_after : (h : History) (e : Step × Answer) → ((c : ℕ) → accepted_in c e ≡ None) → ((t p : ℕ) → processed_in t p e ≡ None) →
+pub same_after : (h : History) (e : Step × Answer) → ((c : ℕ) → accepted_in c e ≡ None) → ((t p : ℕ) → turned_in t p e ≡ None) →
+    ((t p : ℕ) → manage_posted_in t p e ≡ None) → ((t p : ℕ) → result_posted_in t p e ≡ None) →
     ((t p : ℕ) → (is_turn t p e.0 && is_moved e.1) ≡ false) → ((c : ℕ) → (is_close c e.0 && is_moved e.1) ≡ false) → Same h (h ++ e ∷ [])
-same_after h e a d f k = record {
+same_after h e a d m r f k = record {
   accepts = λ c. accepted_push c h e ∙ ap (λ o. accepted c h ++ option_to_list o) (a c) ∙ append-nil _;
-  does = λ t p. done_push t p h e ∙ ap (λ o. done t p h ++ option_to_list o) (d t p) ∙ append-nil _;
+  turns = λ t p. turned_push t p h e ∙ ap (λ o. turned t p h ++ option_to_list o) (d t p) ∙ append-nil _;
+  manages = λ t p. managed_push t p h e ∙ ap (λ o. manage_posts t p h ++ option_to_list o) (m t p) ∙ append-nil _;
+  ends = λ t p. ended_push t p h e ∙ ap (λ o. result_posts t p h ++ option_to_list o) (r t p) ∙ append-nil _;
   finishes = λ t p. finished_push t p h e ∙ ap (λ b. finished t p h || (b || false)) (f t p) ∙ or_false _;
   closes = λ c. closed_push c h e ∙ ap (λ b. closed c h || (b || false)) (k c) ∙ or_false _;
 }
@@ -64,6 +75,8 @@ pub same_quiet : (h : History) (step : Step) (answer : Answer) → IsQuiet answe
 same_quiet h step answer q = same_after h (step, answer)
     (λ c. ap (λ b. cond b (offered_to c step) None) q.not_accepted)
     (λ t p. ap (λ o. cond (is_turn t p step) o None) q.not_processed ∙ cond_none (is_turn t p step))
+    (λ t p. ap (λ b. cond b (posted_manage t p step) None) q.not_moved)
+    (λ t p. ap (λ b. cond b (posted_result t p step) None) q.not_moved)
     (λ t p. ap (λ b. is_turn t p step && b) q.not_moved ∙ and_false (is_turn t p step))
     (λ c. ap (λ b. is_close c step && b) q.not_moved ∙ and_false (is_close c step))
 
@@ -89,3 +102,6 @@ quiet_full = record { not_accepted = refl; not_moved = refl; not_processed = ref
 
 pub quiet_closed : IsQuiet Closed
 quiet_closed = record { not_accepted = refl; not_moved = refl; not_processed = refl }
+
+pub quiet_passed : IsQuiet Passed
+quiet_passed = record { not_accepted = refl; not_moved = refl; not_processed = refl }

@@ -2,6 +2,8 @@
 use Rattle.std.proofs.Common.{◌≡◌, ◌∙◌, refl, sym, ap, ℕ, suc, ◌+◌, List, [], ◌∷◌, length, map, Option, Some, None, arith, add-zero}
 use Rattle.std.specs.Prelude.{slice_get}
 use Rattle.std.specs.List.{enumerate_from}
+use Rattle.gate_record.specs.declared.ids.PipelineId.{PipelineId}
+use Rattle.gate_record.specs.declared.transit.PipelineItem.{PipelineItem}
 use Rattle.gate_config.specs.declared.config.Config.{Config}
 use Rattle.gate_config.specs.Lookups.{connections_of, pipelines_of, tenants_of}
 use Rattle.gate_core.specs.declared.pipeline.Pipeline.{Pipeline}
@@ -26,13 +28,13 @@ of_connection config h c (Some k) conn e holds = ap connection_report (sym (ap (
     conn_or None d = d
 of_connection config h c None conn e holds = absurd (cc)
 
-of_pipeline : {h : History} {t p : ℕ} {given : _} (pipe : Pipeline) → PipeHolds h t p given pipe → pipeline_report pipe ≡ pipeline_after h t p
-of_pipeline pipe holds = λ i. record { done = holds.does i; finished = holds.finishes i }
+of_pipeline : (config : Config) (h : History) (t p : ℕ) (given : List (PipelineId × PipelineItem)) (pipe : Pipeline) → PipeHolds config h t p given pipe → pipeline_report pipe ≡ pipeline_after h t p
+of_pipeline config h t p given pipe holds = λ i. record { done = holds.does i; finished = holds.finishes i }
 
 of_tenant : (config : Config) (h : History) (conns : List ConnectionState) (t : ℕ) (ten : TenantState) → TenantHolds config h conns t ten → tenant_report ten ≡ pipelines_after config h t
 of_tenant config h conns t ten holds =
     by_place pipeline_report (pipeline_after h t) ten.pipelines (pipelines_of config t) 0 holds.count
-    (λ p pipe at. of_pipeline pipe (holds.pipes p pipe at) ∙ ap (pipeline_after h t) (omega arith))
+    (λ p pipe at. of_pipeline config h t p holds.past.given pipe (holds.pipes p pipe at) ∙ ap (pipeline_after h t) (omega arith))
 
 pub reported : (config : Config) (h : History) (state : State) → Holds config h state → report_of state ≡ report_after config h
 reported config h state holds = λ i. record {

@@ -63,4 +63,6 @@ right_answer config h state (step.Send d) holds = tt
 right_answer config h state (step.Fetch t n) holds = tt
 right_answer config h state (step.Match t) holds = tt
 right_answer config h state (step.Give t) holds = tt
+right_answer config h state (step.PostManage t p manage) holds = tt
+right_answer config h state (step.PostResult t p ended) holds = tt
 right_answer config h state (step.Turn t p) holds = tt

@@ -6,7 +6,7 @@ use Rattle.gate_config.specs.declared.config.Config.{Config}
 use Rattle.gate_core.specs.declared.answer.Answer.{Answer}
 use Rattle.gate_core.specs.declared.step.Step.{Step}
 use Rattle.gate_core.specs.History.{History, accepted, accepted_in}
-use Rattle.gate_core.specs.Promises.{AnswersRightly, Delivers, EveryRunDelivers}
+use Rattle.gate_core.specs.Promises.{AnswersRightly, Delivers, EveryRunDelivers, Keeps, Processes}
 use Rattle.gate_core.specs.Reports.{report_after, report_of}
 use Rattle.gate_core.specs.States.{ConnectionState, State}
 use Rattle.gate_core.specs.Steps.{answers_to, first, left_by, run_from, step_of}
@@ -102,3 +102,11 @@ run_rightly law config steps answers e = subst (λ (h : History). AnswersRightly
 pub run_told : EveryRunDelivers → (config : Config) (steps : List Step) (answers : List Answer) (state : State) → answers ≡ answers_to config (first config) steps → state ≡ left_by config (first config) steps → report_of state ≡ report_after config (zip steps answers)
 run_told law config steps answers state e reached =
     ap report_of reached ∙ law.report config steps ∙ ap (report_after config) (history_is config steps answers e)
+
+pub run_processes : EveryRunDelivers → (config : Config) (steps : List Step) (answers : List Answer) → answers ≡ answers_to config (first config) steps → Processes config (zip steps answers)
+run_processes law config steps answers e = subst (λ (h : History). Processes config h) (history_is config steps answers e) (law.processes config steps)
+
+pub run_keeps : EveryRunDelivers → (config : Config) (steps : List Step) (answers : List Answer) (state : State) → answers ≡ answers_to config (first config) steps → state ≡ left_by config (first config) steps → Keeps config (zip steps answers) state
+run_keeps law config steps answers state e reached =
+    subst (λ (s : State). Keeps config (zip steps answers) s) (sym reached)
+    (subst (λ (h : History). Keeps config h (left_by config (first config) steps)) (history_is config steps answers e) (law.keeps config steps))

@@ -1,8 +1,10 @@
 -- Lemmas on the lines, words and numbers of a script.
 use Rattle.std.proofs.Common.{◌≡◌, ◌∙◌, sym, ap, refl, subst, ℕ, suc, ◌+◌, ◌*◌, ◌-◌, ◌<◌, ◌≤◌, List, [], ◌∷◌, ◌++◌, length, take, drop, Bool, true, false, cond, Option, Some, None, arith, get_or}
-use Rattle.std.specs.Prelude.{position, ◌==◌, nat_lt, fold, not}
+use Rattle.std.specs.Prelude.{position, ◌==◌, nat_lt, ◌&&◌, fold, not}
 use Rattle.std.specs.List.{position_or_len, before_first, after_first, slice_split, onto_first}
+use Rattle.std.specs.Str.{IsUtf8, is_utf8}
 use Rattle.std.specs.Str.Lines.{lines, lines_of_parts, strip_carriage_return}
+use Rattle.std.proofs.lemmas.Str.{IsUtf8-from_is_utf8, is_utf8-from_IsUtf8}
 use Rattle.std.proofs.lemmas.Bool.{ltb-true, ltb-false, eqb-true}
 use Rattle.std.proofs.Common.{length-drop}
 use Rattle.std.proofs.lemmas.List.{take_all, take-append-drop}
@@ -11,9 +13,9 @@ use Rattle.std.proofs.lemmas.List.Splits.{slice_split_first, length-slice_split}
 use Rattle.std.proofs.Common.{append_assoc, append-nil, Result, Ok, Err}
 use Rattle.gate_core.specs.declared.script.ScriptFault.{ScriptFault}
 use Rattle.gate_core.specs.declared.script.ScriptFault.TheVariants as fault
-use Rattle.gate_core.specs.declared.step.Step.{Step}
+use Rattle.gate_core.specs.declared.script.Scripted.{Scripted}
 use Rattle.gate_core.specs.Faults.{AddsLine, FailsScript}
-use Rattle.gate_core.specs.Script.{is_space, word_of, rest_of, value_of, followed_by, with_line, steps_from}
+use Rattle.gate_core.specs.Script.{is_space, word_of, rest_of, value_of, text_of, followed_by, with_line, lines_from}
 
 -- ---- the first place of a byte
 
@@ -134,29 +136,51 @@ too_large text i m inside e =
     let large : m ≤ value_of text = omega (arith, high, more, grows) in
     sym (ap (λ b. cond b (Some (value_of text)) None) (above_by (value_of text) m (nat_lt (value_of text) m) refl large))
 
+-- ---- texts
+
+some_byte : (bs : List ℕ) → (length bs == 0) ≡ false → 0 < length bs
+some_byte [] e = absurd (cc)
+some_byte (byte ∷ bs) e = omega arith
+
+-- of bytes there are, the test for UTF-8 decides
+text_by : (bs : List ℕ) (b : Bool) → (length bs == 0) ≡ false → is_utf8 bs ≡ b → text_of bs ≡ cond b (Some bs) None
+text_by bs b e tested =
+    ap (λ (a : Bool). cond (a && is_utf8 bs) (Some bs) None) (below_by 0 (length bs) (nat_lt 0 (length bs)) refl (some_byte bs e))
+    ∙ ap (λ (a : Bool). cond a (Some bs) None) tested
+
+pub text_whole : (bs : List ℕ) → (length bs == 0) ≡ false → IsUtf8 bs → Some bs ≡ text_of bs
+text_whole bs e utf8 = sym (text_by bs true e (is_utf8-from_IsUtf8 bs utf8))
+
+refused_by : (bs : List ℕ) (b : Bool) → is_utf8 bs ≡ b → (IsUtf8 bs → ⊥) → b ≡ false
+refused_by bs true e refused = absurd (refused (IsUtf8-from_is_utf8 bs e))
+refused_by bs false e refused = refl
+
+pub no_text : (bs : List ℕ) → (length bs == 0) ≡ false → (IsUtf8 bs → ⊥) → ◌≡◌ {A = Option (List ℕ)} None (text_of bs)
+no_text bs e refused = sym (text_by bs false e (refused_by bs (is_utf8 bs) refl refused))
+
 -- ---- one line more
 
-pub followed_nil : (r : Result (List Step) ℕ) → followed_by [] r ≡ r
+pub followed_nil : (r : Result (List Scripted) ℕ) → followed_by [] r ≡ r
 followed_nil (Ok steps) = refl
 followed_nil (Err line) = refl
 
-pub followed_twice : (xs ys : List Step) (r : Result (List Step) ℕ) → followed_by xs (followed_by ys r) ≡ followed_by (xs ++ ys) r
+pub followed_twice : (xs ys : List Scripted) (r : Result (List Scripted) ℕ) → followed_by xs (followed_by ys r) ≡ followed_by (xs ++ ys) r
 followed_twice xs ys (Ok steps) = ap Ok (sym (append_assoc xs ys steps))
 followed_twice xs ys (Err line) = refl
 
 -- a line whose steps were added
-pub line_added : (o : Option (List Step)) (old new : List Step) (n : ℕ) (done : Unit {0}) (rest : Result (List Step) ℕ) → AddsLine o old new n (Ok done) → followed_by old (with_line o n rest) ≡ followed_by new rest
+pub line_added : (o : Option (List Scripted)) (old new : List Scripted) (n : ℕ) (done : Unit {0}) (rest : Result (List Scripted) ℕ) → AddsLine o old new n (Ok done) → followed_by old (with_line o n rest) ≡ followed_by new rest
 line_added None old new n done rest h = absurd h
-line_added (Some steps) old new n done rest h = followed_twice old steps rest ∙ ap (λ (x : List Step). followed_by x rest) (sym h)
+line_added (Some steps) old new n done rest h = followed_twice old steps rest ∙ ap (λ (x : List Scripted). followed_by x rest) (sym h)
 
 -- a line that is the fault
-pub line_fails : (o : Option (List Step)) (old new : List Step) (n : ℕ) (fault : ScriptFault) (rest : Result (List Step) ℕ) → AddsLine o old new n (Err fault) → FailsScript (followed_by old (with_line o n rest)) fault
+pub line_fails : (o : Option (List Scripted)) (old new : List Scripted) (n : ℕ) (fault : ScriptFault) (rest : Result (List Scripted) ℕ) → AddsLine o old new n (Err fault) → FailsScript (followed_by old (with_line o n rest)) fault
 line_fails o old new n fault.Memory rest h = tt
 line_fails None old new n (fault.Script line) rest h = ap Err (sym h.1)
 line_fails (Some steps) old new n (fault.Script line) rest h = let no = h.0 in absurd (cc)
 
 -- where nothing is left, all was read
-pub all_read : (said : Result (List Step) ℕ) (steps : List Step) (n : ℕ) (rest : List ℕ) → said ≡ followed_by steps (steps_from n (lines rest)) → (length rest == 0) ≡ true → said ≡ Ok steps
+pub all_read : (said : Result (List Scripted) ℕ) (steps : List Scripted) (n : ℕ) (rest : List ℕ) → said ≡ followed_by steps (lines_from n (lines rest)) → (length rest == 0) ≡ true → said ≡ Ok steps
 all_read said steps n [] e none = e ∙ ap Ok (append-nil steps)
 all_read said steps n (byte ∷ rest) e none = let no : suc (length rest) ≡ 0 = eqb-true (suc (length rest)) 0 none in absurd (omega (arith, no))
 

@@ -11,7 +11,7 @@ use Rattle.gate_config.specs.declared.config.Config.{Config}
 use Rattle.gate_forward.specs.Forwarding.{forwarded}
 use Rattle.gate_core.specs.declared.answer.Answer.TheVariants.{Moved}
 use Rattle.gate_core.specs.declared.step.Step.TheVariants as step
-use Rattle.gate_core.specs.History.{History, done, finished}
+use Rattle.gate_core.specs.History.{History, finished, turned}
 use Rattle.gate_core.specs.States.{ConnectionState, TenantState, State}
 use Rattle.gate_core.proofs.Arrivals.{same_as_itself}
 use Rattle.gate_core.proofs.Sendings.{differs, items_to}
@@ -55,7 +55,7 @@ module _ (config : Config) (h : History) (state : State) (d : ConnId) (k : Conne
   conns_stay c = conn_untouched c h (step.Send d) Moved refl refl refl
 
   pipes_stay : (t p : ℕ) → PipeSame t p h h'
-  pipes_stay t p = pipe_untouched t p h (step.Send d) Moved refl
+  pipes_stay t p = pipe_untouched t p h (step.Send d) Moved refl refl refl
 
   conn_goes : (c : ℕ) → AfterSet state.connections d.0 k' c → Holds config h state → ConnHolds config h' c (slice_get conns' c)
   conn_goes c (it e g) holds =
@@ -113,7 +113,7 @@ module _ (config : Config) (h : History) (state : State) (d : ConnId) (k : Conne
         now = old.now;
         in_hand = old.in_hand;
         count = old.count;
-        pipes = λ p pipe seat. pipe_same h h' first.0.0 p old.past.given pipe (pipes_stay first.0.0 p) (old.pipes p pipe seat);
+        pipes = λ p pipe seat. pipe_same config h h' first.0.0 p old.past.given pipe (pipes_stay first.0.0 p) (old.pipes p pipe seat);
         ways = λ c.
             subst (λ items. Kept first.0.0 c h' (slice_get conns' c) items) (append_assoc old.past.taken ten.queue (first.1 ∷ []))
             (kept_here c (after_set state.connections d.0 c k k' at) (owner holds) (old.past.taken ++ ten.queue) (old.ways c));
@@ -126,18 +126,18 @@ module _ (config : Config) (h : History) (state : State) (d : ConnId) (k : Conne
         now = old.now;
         in_hand = old.in_hand;
         count = old.count;
-        pipes = λ p pipe seat. pipe_same h h' t p old.past.given pipe (pipes_stay t p) (old.pipes p pipe seat);
+        pipes = λ p pipe seat. pipe_same config h h' t p old.past.given pipe (pipes_stay t p) (old.pipes p pipe seat);
         ways = λ c. kept_elsewhere t c differ (after_set state.connections d.0 c k k' at) (old.past.taken ++ found.queue) (old.ways c);
       }
 
-  none_goes : (t p : ℕ) → AfterSet state.tenants first.0.0 ten' t → is_some (pipe_of p (slice_get (slice_set state.tenants first.0.0 ten') t)) ≡ false → Holds config h state → (done t p h' ≡ []) × (finished t p h' ≡ false)
+  none_goes : (t p : ℕ) → AfterSet state.tenants first.0.0 ten' t → is_some (pipe_of p (slice_get (slice_set state.tenants first.0.0 ten') t)) ≡ false → Holds config h state → (turned t p h' ≡ []) × (finished t p h' ≡ false)
   none_goes t p (it e g) none holds =
       let gone : is_some (slice_get ten.pipelines p) ≡ false = subst (λ o. is_some (pipe_of p o) ≡ false) g none in
       let old = holds.others first.0.0 p (subst (λ o. is_some (pipe_of p o) ≡ false) (sym whose) gone) in
-      subst (λ n. (done n p h' ≡ []) × (finished n p h' ≡ false)) e ((pipes_stay first.0.0 p).does ∙ old.0, (pipes_stay first.0.0 p).finishes ∙ old.1)
+      subst (λ n. (turned n p h' ≡ []) × (finished n p h' ≡ false)) e ((pipes_stay first.0.0 p).turns ∙ old.0, (pipes_stay first.0.0 p).finishes ∙ old.1)
   none_goes t p (another differ g) none holds =
       let old = holds.others t p (subst (λ o. is_some (pipe_of p o) ≡ false) g none) in
-      ((pipes_stay t p).does ∙ old.0, (pipes_stay t p).finishes ∙ old.1)
+      ((pipes_stay t p).turns ∙ old.0, (pipes_stay t p).finishes ∙ old.1)
 
   pub sent_holds : Holds config h state → Holds config h' (record { connections = conns'; tenants = slice_set state.tenants first.0.0 ten' })
   sent_holds holds = record {

@@ -2,8 +2,7 @@
 use Rattle.std.proofs.Common.{◌≡◌, ◌∙◌, refl, sym, ap, ℕ, ◌+◌, ◌<◌, ◌≤◌, ◌==◌, List, [], ◌∷◌, ◌++◌, Bool, true, false, length, Option, Some, None, cond, add-zero, append-nil}
 use Rattle.std.specs.Prelude.{◌&&◌, ◌||◌, slice_get, count_by, is_some}
 use Rattle.std.specs.Option.{option_to_list}
-use Rattle.std.specs.List.{filter, filter_map, list_any}
-use Rattle.gate_record.specs.declared.ids.Stamp.{Stamp}
+use Rattle.std.specs.List.{filter}
 use Rattle.gate_record.specs.declared.ids.PipelineId.{PipelineId}
 use Rattle.gate_record.specs.declared.ids.TenantId.{TenantId}
 use Rattle.gate_record.specs.declared.transit.ConnEntry.{ConnEntry}
@@ -11,19 +10,19 @@ use Rattle.gate_record.specs.declared.transit.ConnEntry.TheVariants as entry
 use Rattle.gate_record.specs.declared.transit.TenantItem.{TenantItem}
 use Rattle.gate_record.specs.declared.transit.TenantItem.TheVariants as tenant
 use Rattle.gate_record.specs.declared.transit.PipelineItem.{PipelineItem}
-use Rattle.gate_record.specs.declared.transit.PipelineItem.TheVariants as pipeline
 use Rattle.gate_config.specs.declared.config.Config.{Config}
 use Rattle.gate_config.specs.Lookups.{connections_of, pipelines_of, tenants_of}
 use Rattle.gate_forward.specs.Forwarding.{forwarded}
-use Rattle.gate_tenant.specs.Histories.{History as Past, Happens, items_for}
+use Rattle.gate_tenant.specs.Histories.{History as Past, Happens}
 use Rattle.gate_core.specs.declared.pipeline.Pipeline.{Pipeline}
 use Rattle.gate_core.specs.declared.answer.Answer.{Answer}
 use Rattle.gate_core.specs.declared.step.Step.{Step}
 use Rattle.gate_core.specs.declared.step.Step.TheVariants as step
-use Rattle.gate_core.specs.History.{History, accepted, done, finished, closed, is_put, is_taking, is_turn, is_close, is_take, is_offer, is_moved, is_accepted, offered_to, processed}
+use Rattle.gate_core.specs.History.{History, accepted, finished, closed, manage_posts, posted_manage, posted_result, result_posts, turned, is_put, is_taking, is_turn, is_close, is_take, is_offer, is_moved, is_accepted, offered_to, processed}
 use Rattle.gate_core.specs.States.{ConnectionState, TenantState, State}
 use Rattle.gate_core.specs.Ways.{entries_of}
-use Rattle.gate_core.proofs.Pushes.{accepted_push, closed_push, cond_none, count_push, done_push, finished_push, or_false}
+use Rattle.gate_core.proofs.Fits.{PipeFits, fits_same}
+use Rattle.gate_core.proofs.Pushes.{accepted_push, closed_push, cond_none, count_push, ended_push, finished_push, managed_push, or_false, turned_push}
 use Rattle.gate_core.proofs.Sendings.{items_to}
 
 -- ---- connections
@@ -75,14 +74,6 @@ put_by c h = entries_of (accepted c h) ++ mark (closed c h)
 
 -- ---- tenants
 
-abbrev pub stamp_in : PipelineItem → Option Stamp
-stamp_in (pipeline.Event s) = Some s.stamp
-stamp_in pipeline.End = None
-
-abbrev pub is_end : PipelineItem → Bool
-is_end (pipeline.Event s) = false
-is_end pipeline.End = true
-
 abbrev pub pipe_of : ℕ → Option TenantState → Option Pipeline
 pipe_of p None = None
 pipe_of p (Some ten) = slice_get ten.pipelines p
@@ -90,14 +81,9 @@ pipe_of p (Some ten) = slice_get ten.pipelines p
 abbrev pub pipe_at : ℕ → ℕ → State → Option Pipeline
 pipe_at t p state = pipe_of p (slice_get state.tenants t)
 
--- what a pipeline took, and what waits for it, is what it was given
-pub record PipeHolds (h : History) (t p : ℕ) (given : List (PipelineId × PipelineItem)) (pipe : Pipeline) : Type 0 where
-  pub taken : List PipelineItem
-  pub parts : items_for p given ≡ taken ++ pipe.queue
-  pub stamps : filter_map stamp_in taken ≡ pipe.done
-  pub marked : list_any is_end taken ≡ pipe.finished
-  pub does : pipe.done ≡ done t p h
-  pub finishes : pipe.finished ≡ finished t p h
+-- what holds of a pipeline after this history
+abbrev pub PipeHolds : Config → History → ℕ → ℕ → List (PipelineId × PipelineItem) → Pipeline → Type 0
+PipeHolds config h t p given pipe = PipeFits config t p given pipe (turned t p h) (finished t p h) (manage_posts t p h) (result_posts t p h)
 
 -- what a tenant took of a connection, and what is on its way to it, is what is forwarded of all that was put
 pub record TenantHolds (config : Config) (h : History) (conns : List ConnectionState) (t : ℕ) (ten : TenantState) : Type 0 where
@@ -106,7 +92,7 @@ pub record TenantHolds (config : Config) (h : History) (conns : List ConnectionS
   pub now : past.state ≡ ten.dispatch
   pub in_hand : past.out ≡ None
   pub count : length ten.pipelines ≡ length (pipelines_of config t)
-  pub pipes : (p : ℕ) (pipe : Pipeline) → slice_get ten.pipelines p ≡ Some pipe → PipeHolds h t p past.given pipe
+  pub pipes : (p : ℕ) (pipe : Pipeline) → slice_get ten.pipelines p ≡ Some pipe → PipeHolds config h t p past.given pipe
   pub ways : (c : ℕ) → filter (is_from c) (past.taken ++ ten.queue) ++ (items_to t (hand_of (slice_get conns c)) ++ forwarded config t c (queue_of (slice_get conns c))) ≡ forwarded config t c (put_by c h)
 
 pub record Holds (config : Config) (h : History) (state : State) : Type 0 where
@@ -115,7 +101,7 @@ pub record Holds (config : Config) (h : History) (state : State) : Type 0 where
   pub conns : (c : ℕ) → ConnHolds config h c (slice_get state.connections c)
   pub tenants : (t : ℕ) (ten : TenantState) → slice_get state.tenants t ≡ Some ten → TenantHolds config h state.connections t ten
   -- nothing is processed out of range
-  pub others : (t p : ℕ) → is_some (pipe_at t p state) ≡ false → (done t p h ≡ []) × (finished t p h ≡ false)
+  pub others : (t p : ℕ) → is_some (pipe_at t p state) ≡ false → (turned t p h ≡ []) × (finished t p h ≡ false)
 
 -- ---- what a step says of another connection or pipeline than its own
 
@@ -126,8 +112,10 @@ pub record ConnSame (c : ℕ) (h h' : History) : Type 0 where
   pub takes : count_by (is_taking c) h' ≡ count_by (is_taking c) h
 
 pub record PipeSame (t p : ℕ) (h h' : History) : Type 0 where
-  pub does : done t p h' ≡ done t p h
+  pub turns : turned t p h' ≡ turned t p h
   pub finishes : finished t p h' ≡ finished t p h
+  pub manages : manage_posts t p h' ≡ manage_posts t p h
+  pub ends : result_posts t p h' ≡ result_posts t p h
 
 no_offer : (c : ℕ) (s : Step) → is_offer c s ≡ false → offered_to c s ≡ None
 no_offer c (step.Offer d line) e = ap (λ b. cond b (Some line) None) e
@@ -137,6 +125,8 @@ no_offer c (step.Send d) e = refl
 no_offer c (step.Fetch t n) e = refl
 no_offer c (step.Match t) e = refl
 no_offer c (step.Give t) e = refl
+no_offer c (step.PostManage t p manage) e = refl
+no_offer c (step.PostResult t p ended) e = refl
 no_offer c (step.Turn t p) e = refl
 
 pub conn_untouched : (c : ℕ) (h : History) (s : Step) (a : Answer) → is_offer c s ≡ false → is_close c s ≡ false → is_take c s ≡ false → ConnSame c h (h ++ (s, a) ∷ [])
@@ -148,10 +138,12 @@ conn_untouched c h s a o k g = record {
   takes = count_push (is_taking c) h (s, a) ∙ ap (λ b. count_by (is_taking c) h + (0 + cond (b && is_moved a) 1 0)) g ∙ add-zero (count_by (is_taking c) h);
 }
 
-pub pipe_untouched : (t p : ℕ) (h : History) (s : Step) (a : Answer) → is_turn t p s ≡ false → PipeSame t p h (h ++ (s, a) ∷ [])
-pipe_untouched t p h s a e = record {
-  does = done_push t p h (s, a) ∙ ap (λ b. done t p h ++ option_to_list (cond b (processed a) None)) e ∙ append-nil (done t p h);
+pub pipe_untouched : (t p : ℕ) (h : History) (s : Step) (a : Answer) → is_turn t p s ≡ false → posted_manage t p s ≡ None → posted_result t p s ≡ None → PipeSame t p h (h ++ (s, a) ∷ [])
+pipe_untouched t p h s a e m r = record {
+  turns = turned_push t p h (s, a) ∙ ap (λ b. turned t p h ++ option_to_list (cond b (processed a) None)) e ∙ append-nil (turned t p h);
   finishes = finished_push t p h (s, a) ∙ ap (λ b. finished t p h || ((b && is_moved a) || false)) e ∙ or_false (finished t p h);
+  manages = managed_push t p h (s, a) ∙ ap (λ o. manage_posts t p h ++ option_to_list (cond (is_moved a) o None)) m ∙ ap (λ o. manage_posts t p h ++ option_to_list o) (cond_none (is_moved a)) ∙ append-nil (manage_posts t p h);
+  ends = ended_push t p h (s, a) ∙ ap (λ o. result_posts t p h ++ option_to_list (cond (is_moved a) o None)) r ∙ ap (λ o. result_posts t p h ++ option_to_list o) (cond_none (is_moved a)) ∙ append-nil (result_posts t p h);
 }
 
 pub conn_same : (config : Config) (h h' : History) (c : ℕ) (o : Option ConnectionState) → ConnSame c h h' → ConnHolds config h c o → ConnHolds config h' c o
@@ -167,15 +159,8 @@ conn_same config h h' c o same holds = record {
 pub put_same : (c : ℕ) (h h' : History) → ConnSame c h h' → put_by c h ≡ put_by c h'
 put_same c h h' same = λ i. entries_of (sym same.accepts i) ++ mark (sym same.closes i)
 
-pub pipe_same : (h h' : History) (t p : ℕ) (given : List (PipelineId × PipelineItem)) (pipe : Pipeline) → PipeSame t p h h' → PipeHolds h t p given pipe → PipeHolds h' t p given pipe
-pipe_same h h' t p given pipe same holds = record {
-  taken = holds.taken;
-  parts = holds.parts;
-  stamps = holds.stamps;
-  marked = holds.marked;
-  does = holds.does ∙ sym same.does;
-  finishes = holds.finishes ∙ sym same.finishes;
-}
+pub pipe_same : (config : Config) (h h' : History) (t p : ℕ) (given : List (PipelineId × PipelineItem)) (pipe : Pipeline) → PipeSame t p h h' → PipeHolds config h t p given pipe → PipeHolds config h' t p given pipe
+pipe_same config h h' t p given pipe same holds = fits_same (sym same.turns) (sym same.finishes) (sym same.manages) (sym same.ends) holds
 
 -- a tenant that the step leaves, where what the connections have for it stays the same
 pub tenant_same : (config : Config) (h h' : History) (conns conns' : List ConnectionState) (t : ℕ) (ten : TenantState) → ((p : ℕ) → PipeSame t p h h') →
@@ -188,6 +173,6 @@ tenant_same config h h' conns conns' t ten pipes ways holds = record {
   now = holds.now;
   in_hand = holds.in_hand;
   count = holds.count;
-  pipes = λ p pipe at. pipe_same h h' t p holds.past.given pipe (pipes p) (holds.pipes p pipe at);
+  pipes = λ p pipe at. pipe_same config h h' t p holds.past.given pipe (pipes p) (holds.pipes p pipe at);
   ways = λ c. ways c (filter (is_from c) (holds.past.taken ++ ten.queue)) (holds.ways c);
 }

@@ -5,26 +5,35 @@ use Rattle.gate_record.specs.declared.memory.Memory.{Memory}
 use Rattle.gate_record.specs.declared.ids.PipelineId.{PipelineId}
 use Rattle.gate_record.specs.declared.transit.PipelineItem.{PipelineItem}
 use Rattle.gate_tenant.specs.States.{State as DispatchState, moved_out, put_back}
+use Rattle.gate_config.specs.declared.config.Config.{Config}
 use Rattle.gate_core.specs.declared.answer.Answer.{Answer}
 use Rattle.gate_core.specs.declared.answer.Answer.TheVariants.{Full, Moved}
 use Rattle.gate_core.specs.declared.pipeline.Pipeline.{Pipeline}
 use Rattle.gate_core.specs.declared.TheConstants.{PLACES}
 use Rattle.gate_core.specs.Answers.{Does}
-use Rattle.gate_core.specs.Pipelines.{turned}
+use Rattle.gate_core.specs.Pipelines.{refused, turned}
 use Rattle.gate_core.specs.States.{TenantState}
-use Rattle.gate_core.specs.Steps.{give, give_from, give_to, turn, turn_of, with_item}
+use Rattle.gate_core.specs.Steps.{give, give_from, give_to, on_pipeline, refused_turn, with_item, with_pipeline, with_refused}
 use Rattle.gate_core.proofs.Elements.{written_back}
 
 abbrev with_pipelines : TenantState → List Pipeline → TenantState
 with_pipelines tenant pipelines = record tenant { pipelines = pipelines }
 
--- a turn of the pipeline that is looked up
-pub turns : (p : ℕ) (tenant : TenantState) (pipeline new : Pipeline) (result : Result Answer Memory) → slice_get tenant.pipelines p ≡ Some pipeline → Does pipeline (turned pipeline) new result →
-    Does tenant (turn p tenant) (record tenant { pipelines = slice_set tenant.pipelines p new }) result
-turns p tenant pipeline new (Ok answer) e does =
-    ap (λ (after : Pipeline × Answer). (with_pipelines tenant (slice_set tenant.pipelines p after.0), after.1)) does ∙ sym (ap (λ o. turn_of p o tenant) e)
-turns p tenant pipeline new (Err memory) e does =
+-- a post to the pipeline that is looked up
+pub posts : (move : Pipeline → Pipeline × Answer) (p : ℕ) (tenant : TenantState) (pipeline new : Pipeline) (result : Result Answer Memory) → slice_get tenant.pipelines p ≡ Some pipeline → Does pipeline (move pipeline) new result →
+    Does tenant (on_pipeline move p tenant) (record tenant { pipelines = slice_set tenant.pipelines p new }) result
+posts move p tenant pipeline new (Ok answer) e does =
+    ap (λ (after : Pipeline × Answer). (with_pipelines tenant (slice_set tenant.pipelines p after.0), after.1)) does ∙ sym (ap (λ o. with_pipeline move p o tenant) e)
+posts move p tenant pipeline new (Err memory) e does =
     ap (λ x. with_pipelines tenant (slice_set tenant.pipelines p x)) does ∙ ap (with_pipelines tenant) (written_back tenant.pipelines p pipeline e)
+
+-- a turn of it
+pub turns : (config : Config) (p : ℕ) (tenant : TenantState) (pipeline new : Pipeline) (result : Result Answer Memory) → slice_get tenant.pipelines p ≡ Some pipeline → Does (refused pipeline) (turned config pipeline) new result →
+    Does (refused_turn p tenant) (on_pipeline (turned config) p tenant) (record tenant { pipelines = slice_set tenant.pipelines p new }) result
+turns config p tenant pipeline new (Ok answer) e does =
+    ap (λ (after : Pipeline × Answer). (with_pipelines tenant (slice_set tenant.pipelines p after.0), after.1)) does ∙ sym (ap (λ o. with_pipeline (turned config) p o tenant) e)
+turns config p tenant pipeline new (Err memory) e does =
+    ap (λ x. with_pipelines tenant (slice_set tenant.pipelines p x)) does ∙ sym (ap (λ o. with_refused p o tenant) e)
 
 -- what is known once the first item of the hand is out
 pub record IsOut (old new : DispatchState) (first : PipelineId × PipelineItem) : Type 0 where
@@ -64,10 +73,10 @@ module _ (tenant : TenantState) (new : DispatchState) (first : PipelineId × Pip
   giving = ap (λ xs. give_from xs tenant) out.items ∙ ap (λ o. give_to first.0 first.1 new.items o tenant) at
 
   -- the pipeline's queue is full
-  pub gives_full : nat_lt (length pipeline.queue) PLACES ≡ false → give tenant ≡ (tenant, Full)
+  pub gives_full : nat_lt (length pipeline.triggers) PLACES ≡ false → give tenant ≡ (tenant, Full)
   gives_full full = giving ∙ rw full
 
   -- the pipeline gets it
-  pub gives : nat_lt (length pipeline.queue) PLACES ≡ true →
+  pub gives : nat_lt (length pipeline.triggers) PLACES ≡ true →
       give tenant ≡ (record tenant { dispatch = record tenant.dispatch { items = new.items; out = None }; pipelines = slice_set tenant.pipelines first.0.0 (with_item pipeline first.1) }, Moved)
   gives room = giving ∙ rw room

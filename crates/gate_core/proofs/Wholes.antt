@@ -2,16 +2,20 @@
 use Rattle.std.proofs.Common.{◌≡◌, ◌∙◌, sym, ap, subst, ℕ, List, map, Some, None, Result, Ok, Err, slice_set}
 use Rattle.std.specs.Prelude.{slice_get}
 use Rattle.std.proofs.lemmas.List.{map-set}
+use Rattle.gate_record.specs.declared.ids.PipelineId.{PipelineId}
+use Rattle.gate_record.specs.declared.ids.TenantId.{TenantId}
 use Rattle.gate_record.specs.declared.memory.Memory.{Memory}
 use Rattle.gate_config.specs.declared.config.Config.{Config}
 use Rattle.gate_core.specs.declared.answer.Answer.{Answer}
 use Rattle.gate_core.specs.declared.answer.Answer.TheVariants.{Idle}
 use Rattle.gate_core.specs.declared.connection.Connection.{Connection}
 use Rattle.gate_core.specs.declared.tenant.Tenant.{Tenant}
+use Rattle.gate_core.specs.declared.step.Step.TheVariants as step
 use Rattle.gate_core.specs.Answers.{Does}
 use Rattle.gate_core.specs.Sends.{Sends, state}
 use Rattle.gate_core.specs.States.{ConnectionState, TenantState}
-use Rattle.gate_core.specs.Steps.{on_connection, on_tenant, send, send_of, with_connection, with_tenant}
+use Rattle.gate_core.specs.Pipelines.{turned}
+use Rattle.gate_core.specs.Steps.{on_connection, on_pipeline, on_tenant, refused_in, refused_step, refused_turn, send, send_of, with_connection, with_tenant}
 use Rattle.gate_core.specs.Views.{AreConnections, AreTenants, IsConnection, IsTenant, config_of_connection, config_of_tenant, connection_view, number_of_connection, number_of_tenant, tenant_view}
 use Rattle.gate_core.proofs.Elements.{each_set, seen, seen_same, unseen}
 
@@ -60,6 +64,20 @@ module _ (move : TenantState → TenantState × Answer) (t : ℕ) (conns : List 
   -- where it isn't there
   pub tenant_idles : slice_get tenants t ≡ None → (state conns (map tenant_view tenants), Idle) ≡ on_tenant move t (state conns (map tenant_view tenants))
   tenant_idles gone = sym (ap (λ o. with_tenant move t o (state conns (map tenant_view tenants))) (unseen tenant_view tenants t gone))
+
+-- a turn of one of its pipelines, which may leave something held
+pub tenant_turns : (config : Config) (t : TenantId) (p : PipelineId) (conns : List ConnectionState) (tenants : List Tenant) (old new : Tenant) (result : Result Answer Memory) → slice_get tenants t.0 ≡ Some old →
+    Does (refused_turn p.0 (tenant_view old)) (on_pipeline (turned config) p.0 (tenant_view old)) (tenant_view new) result →
+    Does (refused_step (state conns (map tenant_view tenants)) (step.Turn t p)) (on_tenant (on_pipeline (turned config) p.0) t.0 (state conns (map tenant_view tenants))) (state conns (map tenant_view (slice_set tenants t.0 new))) result
+tenant_turns config t p conns tenants old new (Ok answer) at does = tenant_does (on_pipeline (turned config) p.0) t.0 conns tenants old new (Ok answer) at does
+tenant_turns config t p conns tenants old new (Err memory) at same =
+    ap (state conns) (map-set tenant_view tenants t.0 new ∙ ap (slice_set (map tenant_view tenants) t.0) same)
+    ∙ sym (ap (λ o. refused_in t.0 p.0 o (state conns (map tenant_view tenants))) (seen tenant_view tenants t.0 old at))
+
+-- a turn in a tenant that isn't there
+pub refused_idles : (t : TenantId) (p : PipelineId) (conns : List ConnectionState) (tenants : List Tenant) → slice_get tenants t.0 ≡ None →
+    state conns (map tenant_view tenants) ≡ refused_step (state conns (map tenant_view tenants)) (step.Turn t p)
+refused_idles t p conns tenants gone = sym (ap (λ o. refused_in t.0 p.0 o (state conns (map tenant_view tenants))) (unseen tenant_view tenants t.0 gone))
 
 -- sending from the connection that is looked up
 pub sending_does : (c : ℕ) (conns : List Connection) (tenants tenants' : List TenantState) (old new : Connection) (result : Result Answer Memory) → slice_get conns c ≡ Some old →

@@ -9,15 +9,16 @@ use Rattle.gate_record.specs.declared.transit.TenantItem.{TenantItem}
 use Rattle.gate_record.specs.declared.transit.PipelineItem.{PipelineItem}
 use Rattle.gate_config.specs.declared.config.Config.{Config}
 use Rattle.gate_forward.specs.Forwarding.{forwarded}
-use Rattle.gate_tenant.specs.Histories.{gathers, gives, item_for, matches, moves}
+use Rattle.gate_tenant.specs.Histories.{gathers, gives, item_for, items_for, matches, moves}
 use Rattle.gate_tenant.specs.States.{State as DispatchState, has_ended, matched, room_of}
 use Rattle.gate_core.specs.declared.answer.Answer.{Answer}
 use Rattle.gate_core.specs.declared.pipeline.Pipeline.{Pipeline}
 use Rattle.gate_core.specs.declared.step.Step.{Step}
-use Rattle.gate_core.specs.History.{History, done, finished}
+use Rattle.gate_core.specs.History.{History, finished, turned}
 use Rattle.gate_core.specs.States.{TenantState, State}
 use Rattle.gate_core.specs.Steps.{with_item}
 use Rattle.gate_core.proofs.Arrivals.{same_as_itself}
+use Rattle.gate_core.proofs.Fits.{fits_given, fits_still}
 use Rattle.gate_core.proofs.Maps.{filter_map_push, filter_map_still}
 use Rattle.gate_core.proofs.Sendings.{differs, items_to}
 use Rattle.gate_core.proofs.Spots.{AfterSet, after_set, another, it}
@@ -39,14 +40,14 @@ module _ (config : Config) (h h' : History) (state : State) (t0 : ℕ) (ten ten'
       (holds.tenants t found (sym g ∙ there))
 
   none_goes : (t p : ℕ) → AfterSet state.tenants t0 ten' t → is_some (pipe_of p (slice_get (slice_set state.tenants t0 ten') t)) ≡ false →
-      ((q : ℕ) → is_some (slice_get ten'.pipelines q) ≡ false → (done t0 q h' ≡ []) × (finished t0 q h' ≡ false)) → Holds config h state → (done t p h' ≡ []) × (finished t p h' ≡ false)
+      ((q : ℕ) → is_some (slice_get ten'.pipelines q) ≡ false → (turned t0 q h' ≡ []) × (finished t0 q h' ≡ false)) → Holds config h state → (turned t p h' ≡ []) × (finished t p h' ≡ false)
   none_goes t p (it e g) none new holds =
-      subst (λ n. (done n p h' ≡ []) × (finished n p h' ≡ false)) e (new p (subst (λ o. is_some (pipe_of p o) ≡ false) g none))
+      subst (λ n. (turned n p h' ≡ []) × (finished n p h' ≡ false)) e (new p (subst (λ o. is_some (pipe_of p o) ≡ false) g none))
   none_goes t p (another differ g) none new holds =
       let old = holds.others t p (subst (λ o. is_some (pipe_of p o) ≡ false) g none) in
-      ((pipes t p differ).does ∙ old.0, (pipes t p differ).finishes ∙ old.1)
+      ((pipes t p differ).turns ∙ old.0, (pipes t p differ).finishes ∙ old.1)
 
-  pub tenant_goes_on : TenantHolds config h' state.connections t0 ten' → ((q : ℕ) → is_some (slice_get ten'.pipelines q) ≡ false → (done t0 q h' ≡ []) × (finished t0 q h' ≡ false)) →
+  pub tenant_goes_on : TenantHolds config h' state.connections t0 ten' → ((q : ℕ) → is_some (slice_get ten'.pipelines q) ≡ false → (turned t0 q h' ≡ []) × (finished t0 q h' ≡ false)) →
       Holds config h state → Holds config h' (record state { tenants = slice_set state.tenants t0 ten' })
   tenant_goes_on new none holds = record {
     count = length-set state.tenants t0 ten' ∙ holds.count;
@@ -61,7 +62,7 @@ abbrev IsInside : Step → Answer → Type 0
 IsInside s a = (h : History) → ((c : ℕ) → ConnSame c h (h ++ (s, a) ∷ [])) × ((t p : ℕ) → PipeSame t p h (h ++ (s, a) ∷ []))
 
 pub none_before : (config : Config) (h : History) (state : State) (t : ℕ) (ten : TenantState) → slice_get state.tenants t ≡ Some ten → Holds config h state →
-    (p : ℕ) → is_some (slice_get ten.pipelines p) ≡ false → (done t p h ≡ []) × (finished t p h ≡ false)
+    (p : ℕ) → is_some (slice_get ten.pipelines p) ≡ false → (turned t p h ≡ []) × (finished t p h ≡ false)
 none_before config h state t ten at holds p none = holds.others t p (subst (λ o. is_some (pipe_of p o) ≡ false) (sym at) none)
 
 module _ (config : Config) (h : History) (state : State) (s : Step) (a : Answer) (t : ℕ) (ten : TenantState) (at : slice_get state.tenants t ≡ Some ten) (inside : IsInside s a) where
@@ -75,7 +76,7 @@ module _ (config : Config) (h : History) (state : State) (s : Step) (a : Answer)
       tenant_goes_on config h h1 state t ten ten' at (inside h).0 (λ u p differ. (inside h).1 u p) new
       (λ q none.
       let old = none_before config h state t ten at holds q (subst (λ ps. is_some (slice_get ps q) ≡ false) same none) in
-      (((inside h).1 t q).does ∙ old.0, ((inside h).1 t q).finishes ∙ old.1)) holds
+      (((inside h).1 t q).turns ∙ old.0, ((inside h).1 t q).finishes ∙ old.1)) holds
 
   pub fetched_holds : (item : TenantItem) (queue : List TenantItem) → ten.queue ≡ item ∷ queue → 0 < room_of ten.dispatch → has_ended config t ten.dispatch ≡ false → Holds config h state →
       Holds config h1 (record state { tenants = slice_set state.tenants t (record ten { queue = queue; dispatch = record ten.dispatch { gathered = ten.dispatch.gathered ++ item ∷ [] } }) })
@@ -88,7 +89,7 @@ module _ (config : Config) (h : History) (state : State) (s : Step) (a : Answer)
         now = ap (λ (d : DispatchState). record d { gathered = d.gathered ++ item ∷ [] }) old.now;
         in_hand = old.in_hand;
         count = old.count;
-        pipes = λ p pipe there. pipe_same h h1 t p old.past.given pipe ((inside h).1 t p) (old.pipes p pipe there);
+        pipes = λ p pipe there. pipe_same config h h1 t p old.past.given pipe ((inside h).1 t p) (old.pipes p pipe there);
         ways = λ c.
             ap (λ xs. filter (is_from c) xs ++ (items_to t (hand_of (slice_get state.connections c)) ++ forwarded config t c (queue_of (slice_get state.connections c))))
             (append_assoc old.past.taken (item ∷ []) queue ∙ ap (λ xs. old.past.taken ++ xs) (sym front))
@@ -105,7 +106,7 @@ module _ (config : Config) (h : History) (state : State) (s : Step) (a : Answer)
         now = ap (matched config t) old.now;
         in_hand = old.in_hand;
         count = old.count;
-        pipes = λ p pipe there. pipe_same h h1 t p old.past.given pipe ((inside h).1 t p) (old.pipes p pipe there);
+        pipes = λ p pipe there. pipe_same config h h1 t p old.past.given pipe ((inside h).1 t p) (old.pipes p pipe there);
         ways = λ c. old.ways c ∙ ap (forwarded config t c) (put_same c h h1 ((inside h).0 c));
       }) holds
 
@@ -125,28 +126,15 @@ module _ (config : Config) (h : History) (state : State) (s : Step) (a : Answer)
   for_another p differ = ap (λ b. if b then Some first.1 else None) (differs first.0.0 p differ)
 
   given_pipe : (h' : History) (given : List (PipelineId × PipelineItem)) (p : ℕ) (found : Pipeline) → AfterSet ten.pipelines first.0.0 pipe' p → slice_get (slice_set ten.pipelines first.0.0 pipe') p ≡ Some found →
-      PipeSame t p h h' → ((q : ℕ) (old : Pipeline) → slice_get ten.pipelines q ≡ Some old → PipeHolds h t q given old) → PipeHolds h' t p (given ++ first ∷ []) found
+      PipeSame t p h h' → ((q : ℕ) (old : Pipeline) → slice_get ten.pipelines q ≡ Some old → PipeHolds config h t q given old) → PipeHolds config h' t p (given ++ first ∷ []) found
   given_pipe h' given p found (it e g) there same holds =
       let old = holds p pipe (subst (λ n. slice_get ten.pipelines n ≡ Some pipe) e whose) in
-      subst (PipeHolds h' t p (given ++ first ∷ [])) (the_same pipe' found (sym g ∙ there))
-      (record {
-        taken = old.taken;
-        parts = filter_map_push (item_for p) given first ∙ (λ i. old.parts i ++ option_to_list (for_it p e i)) ∙ append_assoc old.taken pipe.queue (first.1 ∷ []);
-        stamps = old.stamps;
-        marked = old.marked;
-        does = old.does ∙ sym same.does;
-        finishes = old.finishes ∙ sym same.finishes;
-      })
+      subst (PipeHolds config h' t p (given ++ first ∷ [])) (the_same pipe' found (sym g ∙ there))
+      (pipe_same config h h' t p (given ++ first ∷ []) pipe' same
+      (fits_given old (given ++ first ∷ []) (first.1 ∷ []) (filter_map_push (item_for p) given first ∙ (λ i. items_for p given ++ option_to_list (for_it p e i)))))
   given_pipe h' given p found (another differ g) there same holds =
       let old = holds p found (sym g ∙ there) in
-      record {
-        taken = old.taken;
-        parts = filter_map_still (item_for p) given first (for_another p differ) ∙ old.parts;
-        stamps = old.stamps;
-        marked = old.marked;
-        does = old.does ∙ sym same.does;
-        finishes = old.finishes ∙ sym same.finishes;
-      }
+      pipe_same config h h' t p (given ++ first ∷ []) found same (fits_still old (given ++ first ∷ []) (filter_map_still (item_for p) given first (for_another p differ)))
 
   none_given : (p : ℕ) → AfterSet ten.pipelines first.0.0 pipe' p → is_some (slice_get (slice_set ten.pipelines first.0.0 pipe') p) ≡ false → is_some (slice_get ten.pipelines p) ≡ false
   none_given p (it e g) none = absurd (cc)
@@ -169,4 +157,4 @@ module _ (config : Config) (h : History) (state : State) (s : Step) (a : Answer)
       })
       (λ q none.
       let before = none_before config h state t ten at holds q (none_given q (after_set ten.pipelines first.0.0 q pipe pipe' whose) none) in
-      (((inside h).1 t q).does ∙ before.0, ((inside h).1 t q).finishes ∙ before.1)) holds
+      (((inside h).1 t q).turns ∙ before.0, ((inside h).1 t q).finishes ∙ before.1)) holds

@@ -1,14 +1,26 @@
--- What a history of steps and answers says: which records were accepted, which events are wanted, which were processed.
-use Rattle.std.specs.Prelude.{ℕ, ◌-◌, ◌==◌, ◌&&◌, ◌||◌, List, Bool, true, false, Option, Some, None, count_by, if◌then◌else◌}
+-- What a history of steps and answers says: which records were accepted, which events are wanted, what was posted to the
+-- pipelines, and what they have processed.
+use Rattle.std.specs.Prelude.{ℕ, ◌-◌, ◌==◌, ◌&&◌, ◌||◌, List, Bool, true, false, map, Option, Some, None, option_and_then, count_by, slice_get, if◌then◌else◌}
 use Rattle.std.specs.List.{filter_map, list_any, enumerate_from}
 use Rattle.gate_record.specs.declared.ids.Stamp.{Stamp}
+use Rattle.gate_record.specs.declared.reading.Reading.{Reading}
+use Rattle.gate_record.specs.declared.reading.Reading.TheVariants as reading
 use Rattle.gate_record.specs.declared.record.Record.{Record}
+use Rattle.gate_record.specs.Reading.{reading_of}
 use Rattle.gate_config.specs.declared.config.Config.{Config}
 use Rattle.gate_config.specs.Selection.{selects}
+use Rattle.gate_items.specs.declared.action.Action.{Action}
+use Rattle.gate_items.specs.declared.action.Action.TheVariants as action
+use Rattle.gate_items.specs.declared.action.JobResult.{JobResult}
+use Rattle.gate_items.specs.declared.action.Manage.{Manage}
+use Rattle.gate_items.specs.declared.action.Outcome.{Outcome}
+use Rattle.gate_pipeline.specs.Histories.{action_of, stamp_of}
+use Rattle.gate_pipeline.specs.States.{Processed}
+use Rattle.gate_pipeline.specs.Triggers.{trigger_of}
 use Rattle.gate_core.specs.declared.answer.Answer.{Answer}
 use Rattle.gate_core.specs.declared.answer.Answer.TheVariants.{Accepted, Closed, Full, Moved, Idle, Turned, Passed}
 use Rattle.gate_core.specs.declared.step.Step.{Step}
-use Rattle.gate_core.specs.declared.step.Step.TheVariants.{Offer, Close, Take, Send, Fetch, Match, Give, Turn}
+use Rattle.gate_core.specs.declared.step.Step.TheVariants.{Offer, Close, Take, Send, Fetch, Match, Give, PostManage, PostResult, Turn}
 
 -- the steps so far, each with its answer, in order
 abbrev pub History : Type 0
@@ -22,7 +34,7 @@ is_accepted Closed = false
 is_accepted Full = false
 is_accepted Moved = false
 is_accepted Idle = false
-is_accepted (Turned stamp) = false
+is_accepted (Turned stamp action outcome) = false
 is_accepted Passed = false
 
 abbrev pub is_moved : Answer → Bool
@@ -31,12 +43,12 @@ is_moved (Accepted n) = false
 is_moved Closed = false
 is_moved Full = false
 is_moved Idle = false
-is_moved (Turned stamp) = false
+is_moved (Turned stamp action outcome) = false
 is_moved Passed = false
 
--- the stamp of the event that was processed
-abbrev pub processed : Answer → Option Stamp
-processed (Turned stamp) = Some stamp
+-- what was processed: an action, the stamp of a trigger event's, and the outcome
+abbrev pub processed : Answer → Option Processed
+processed (Turned stamp action outcome) = Some (stamp, action, outcome)
 processed (Accepted n) = None
 processed Closed = None
 processed Full = None
@@ -53,6 +65,8 @@ offered_to c (Send d) = None
 offered_to c (Fetch t count) = None
 offered_to c (Match t) = None
 offered_to c (Give t) = None
+offered_to c (PostManage t p manage) = None
+offered_to c (PostResult t p ended) = None
 offered_to c (Turn t p) = None
 
 abbrev pub is_offer : ℕ → Step → Bool
@@ -63,6 +77,8 @@ is_offer c (Send d) = false
 is_offer c (Fetch t count) = false
 is_offer c (Match t) = false
 is_offer c (Give t) = false
+is_offer c (PostManage t p manage) = false
+is_offer c (PostResult t p ended) = false
 is_offer c (Turn t p) = false
 
 abbrev pub is_close : ℕ → Step → Bool
@@ -73,6 +89,8 @@ is_close c (Send d) = false
 is_close c (Fetch t count) = false
 is_close c (Match t) = false
 is_close c (Give t) = false
+is_close c (PostManage t p manage) = false
+is_close c (PostResult t p ended) = false
 is_close c (Turn t p) = false
 
 abbrev pub is_take : ℕ → Step → Bool
@@ -83,6 +101,8 @@ is_take c (Send d) = false
 is_take c (Fetch t count) = false
 is_take c (Match t) = false
 is_take c (Give t) = false
+is_take c (PostManage t p manage) = false
+is_take c (PostResult t p ended) = false
 is_take c (Turn t p) = false
 
 abbrev pub is_turn : ℕ → ℕ → Step → Bool
@@ -94,6 +114,33 @@ is_turn t p (Send d) = false
 is_turn t p (Fetch u count) = false
 is_turn t p (Match u) = false
 is_turn t p (Give u) = false
+is_turn t p (PostManage u q manage) = false
+is_turn t p (PostResult u q ended) = false
+
+-- the management event, and the result, that the step posts to pipeline p of tenant t
+abbrev pub posted_manage : ℕ → ℕ → Step → Option Manage
+posted_manage t p (PostManage u q manage) = if (u.0 == t) && (q.0 == p) then Some manage else None
+posted_manage t p (PostResult u q ended) = None
+posted_manage t p (Offer d line) = None
+posted_manage t p (Close d) = None
+posted_manage t p (Take d) = None
+posted_manage t p (Send d) = None
+posted_manage t p (Fetch u count) = None
+posted_manage t p (Match u) = None
+posted_manage t p (Give u) = None
+posted_manage t p (Turn u q) = None
+
+abbrev pub posted_result : ℕ → ℕ → Step → Option JobResult
+posted_result t p (PostResult u q ended) = if (u.0 == t) && (q.0 == p) then Some ended else None
+posted_result t p (PostManage u q manage) = None
+posted_result t p (Offer d line) = None
+posted_result t p (Close d) = None
+posted_result t p (Take d) = None
+posted_result t p (Send d) = None
+posted_result t p (Fetch u count) = None
+posted_result t p (Match u) = None
+posted_result t p (Give u) = None
+posted_result t p (Turn u q) = None
 
 -- ---- what was accepted and what is wanted
 
@@ -114,12 +161,26 @@ wanted config t p c records = filter_map (number_where (selects config t p c)) (
 
 -- ---- what was processed
 
-abbrev pub processed_in : ℕ → ℕ → Step × Answer → Option Stamp
-processed_in t p event = if is_turn t p event.0 then processed event.1 else None
+abbrev pub turned_in : ℕ → ℕ → Step × Answer → Option Processed
+turned_in t p event = if is_turn t p event.0 then processed event.1 else None
 
--- the stamps of the trigger events that pipeline p of tenant t has processed, in order
+-- what pipeline p of tenant t has processed, in order
+abbrev pub turned : ℕ → ℕ → History → List Processed
+turned t p history = filter_map (turned_in t p) history
+
+-- the actions that it has processed, and the same with their outcomes
+abbrev pub actions : ℕ → ℕ → History → List Action
+actions t p history = map action_of (turned t p history)
+
+abbrev pub outcome_of : Processed → Action × Outcome
+outcome_of done = (done.1, done.2)
+
+abbrev pub outcomes : ℕ → ℕ → History → List (Action × Outcome)
+outcomes t p history = map outcome_of (turned t p history)
+
+-- the stamps of the trigger events that it has processed
 abbrev pub done : ℕ → ℕ → History → List Stamp
-done t p history = filter_map (processed_in t p) history
+done t p history = filter_map stamp_of (turned t p history)
 
 -- the number of a stamp of connection c
 abbrev pub number_from : ℕ → Stamp → Option ℕ
@@ -128,6 +189,59 @@ number_from c stamp = if stamp.conn.0 == c then Some stamp.number else None
 -- those of connection c, by their numbers
 abbrev pub numbers_from : ℕ → List Stamp → List ℕ
 numbers_from c stamps = filter_map (number_from c) stamps
+
+-- the triggers among the actions that it has processed, each with its stamp
+abbrev pub triggering : Processed → Option (Option Stamp × Action)
+triggering (stamp, action.Trigger key patchset jobs, outcome) = Some (stamp, action.Trigger key patchset jobs)
+triggering (stamp, action.Manage manage, outcome) = None
+triggering (stamp, action.Result ended, outcome) = None
+
+abbrev pub triggered : ℕ → ℕ → History → List (Option Stamp × Action)
+triggered t p history = filter_map triggering (turned t p history)
+
+abbrev pub stamp_with : Option Stamp × Action → Option Stamp
+stamp_with trigger = trigger.0
+
+-- the action that a record of this stamp asks for, where it is an event
+abbrev pub asked_of : Config → ℕ → ℕ → Stamp → Reading → Option Action
+asked_of config t p stamp (reading.Event event) = Some (trigger_of config t p (record { stamp = stamp; event = event }))
+asked_of config t p stamp (reading.Nothing why) = None
+
+-- the action that the accepted record of this stamp asks for, where there is a stamp
+abbrev pub asked_by : Config → ℕ → ℕ → History → Option Stamp → Option Action
+asked_by config t p history None = None
+asked_by config t p history (Some stamp) =
+    option_and_then (λ (line : Record). asked_of config t p stamp (reading_of line)) (slice_get (accepted stamp.conn.0 history) stamp.number)
+
+-- the management events and the results among actions
+abbrev pub managing : Action → Option Manage
+managing (action.Manage manage) = Some manage
+managing (action.Result ended) = None
+managing (action.Trigger key patchset jobs) = None
+
+abbrev pub resulting : Action → Option JobResult
+resulting (action.Result ended) = Some ended
+resulting (action.Manage manage) = None
+resulting (action.Trigger key patchset jobs) = None
+
+abbrev pub managed : ℕ → ℕ → History → List Manage
+managed t p history = filter_map managing (actions t p history)
+
+abbrev pub resulted : ℕ → ℕ → History → List JobResult
+resulted t p history = filter_map resulting (actions t p history)
+
+-- those that were posted to pipeline p of tenant t
+abbrev pub manage_posted_in : ℕ → ℕ → Step × Answer → Option Manage
+manage_posted_in t p event = if is_moved event.1 then posted_manage t p event.0 else None
+
+abbrev pub result_posted_in : ℕ → ℕ → Step × Answer → Option JobResult
+result_posted_in t p event = if is_moved event.1 then posted_result t p event.0 else None
+
+abbrev pub manage_posts : ℕ → ℕ → History → List Manage
+manage_posts t p history = filter_map (manage_posted_in t p) history
+
+abbrev pub result_posts : ℕ → ℕ → History → List JobResult
+result_posts t p history = filter_map (result_posted_in t p) history
 
 -- a turn of pipeline p of tenant t met the end mark
 abbrev pub finished : ℕ → ℕ → History → Bool

@@ -1,14 +1,15 @@
 pub mod Answers
 pub mod Faults
 pub mod History
+pub mod Late
 pub mod Output
-pub mod Passes
 pub mod Pipelines
 pub mod Promises
 pub mod Replays
 pub mod Reports
 pub mod Script
 pub mod Sends
+pub mod Shows
 pub mod States
 pub mod Steps
 pub mod Views

@@ -1,11 +1,18 @@
 -- What is printed: the answers and the report.
-use Rattle.std.specs.Prelude.{ℕ, ◌+◌, List, [], ◌∷◌, ◌++◌, Bool, codes, decimal, flat_map, if◌then◌else◌}
+use Rattle.std.specs.Prelude.{ℕ, ◌+◌, List, [], ◌∷◌, ◌++◌, Bool, Option, Some, None, codes, decimal, flat_map, if◌then◌else◌}
 use Rattle.gate_record.specs.declared.ids.Stamp.{Stamp}
 use Rattle.gate_record.specs.Names.{name_text}
 use Rattle.gate_config.specs.declared.config.Config.{Config}
 use Rattle.gate_config.specs.declared.config.PipelineSpec.{PipelineSpec}
 use Rattle.gate_config.specs.declared.config.TenantSpec.{TenantSpec}
 use Rattle.gate_config.specs.Lookups.{connections_of, tenants_of, lists}
+use Rattle.gate_items.specs.declared.action.Action.{Action}
+use Rattle.gate_items.specs.declared.action.Action.TheVariants as action
+use Rattle.gate_items.specs.declared.action.Discard.{Discard}
+use Rattle.gate_items.specs.declared.action.Discard.TheVariants as discard
+use Rattle.gate_items.specs.declared.action.Manage.TheVariants as manage
+use Rattle.gate_items.specs.declared.action.Outcome.{Outcome}
+use Rattle.gate_items.specs.declared.action.Outcome.TheVariants as outcome
 use Rattle.gate_core.specs.declared.answer.Answer.{Answer}
 use Rattle.gate_core.specs.declared.answer.Answer.TheVariants as answer
 use Rattle.gate_core.specs.declared.report.ConnectionReport.{ConnectionReport}
@@ -20,11 +27,34 @@ use Rattle.gate_core.specs.History.{numbers_from}
 abbrev pub number_text : ℕ → List ℕ
 number_text n = codes " " ++ decimal n
 
-abbrev pub turned_start : ℕ → List ℕ
-turned_start conn = codes "turned trigger " ++ decimal conn
+abbrev pub discard_word : Discard → List ℕ
+discard_word discard.NoKey = codes "no-key"
+discard_word discard.NoJobs = codes "no-jobs"
+discard_word discard.Known = codes "known"
+discard_word discard.Older = codes "older"
+discard_word discard.NotCurrent = codes "not-current"
+discard_word discard.NoJob = codes "no-job"
+discard_word discard.Repeated = codes "repeated"
+discard_word discard.NoItem = codes "no-item"
+discard_word discard.Numbers = codes "numbers"
 
-abbrev pub turned_line : ℕ → ℕ → List ℕ
-turned_line conn number = turned_start conn ++ (number_text number ++ codes " applied\n")
+abbrev pub outcome_text : Outcome → List ℕ
+outcome_text outcome.Applied = codes " applied\n"
+outcome_text (outcome.Discarded why) = codes " discarded " ++ (discard_word why ++ codes "\n")
+
+abbrev pub stamp_text : Stamp → List ℕ
+stamp_text stamp = codes "trigger" ++ (number_text stamp.conn.0 ++ number_text stamp.number)
+
+-- what was processed: a trigger event by its stamp, a result by its build set
+abbrev pub action_text : Option Stamp → Action → List ℕ
+action_text (Some stamp) action = stamp_text stamp
+action_text None (action.Manage (manage.Dequeue key)) = codes "dequeue"
+action_text None (action.Manage (manage.Reset key)) = codes "reset"
+action_text None (action.Result ended) = codes "result" ++ number_text ended.set
+action_text None (action.Trigger key patchset jobs) = codes "trigger"
+
+abbrev pub turned_line : Option Stamp → Action → Outcome → List ℕ
+turned_line stamp action outcome = codes "turned " ++ (action_text stamp action ++ outcome_text outcome)
 
 abbrev pub answer_line : Answer → List ℕ
 answer_line (answer.Accepted n) = codes "accepted " ++ decimal n ++ codes "\n"
@@ -32,11 +62,8 @@ answer_line answer.Closed = codes "closed\n"
 answer_line answer.Full = codes "full\n"
 answer_line answer.Moved = codes "moved\n"
 answer_line answer.Idle = codes "idle\n"
-answer_line (answer.Turned stamp) = turned_line stamp.conn.0 stamp.number
+answer_line (answer.Turned stamp action outcome) = turned_line stamp action outcome
 answer_line answer.Passed = codes "passed\n"
-
-abbrev pub answer_lines : List Answer → List ℕ
-answer_lines answers = flat_map answer_line answers
 
 -- ---- the report
 

@@ -1,18 +1,29 @@
 -- What the core promises of every history of a run.
-use Rattle.std.specs.Prelude.{◌≡◌, ◌<◌, ◌==◌, ℕ, List, [], ◌∷◌, ◌++◌, true, length, if◌then◌else◌}
+use Rattle.std.specs.Prelude.{◌≡◌, ◌<◌, ◌==◌, ℕ, List, [], ◌∷◌, ◌++◌, Bool, true, length, Option, Some, slice_get, if◌then◌else◌}
+use Rattle.std.specs.List.{filter_map}
+use Rattle.std.specs.Option.{option_to_list}
+use Rattle.gate_record.specs.declared.ids.Stamp.{Stamp}
 use Rattle.gate_config.specs.declared.config.Config.{Config}
 use Rattle.gate_config.specs.Lookups.{connections_of}
+use Rattle.gate_items.specs.declared.action.Action.{Action}
+use Rattle.gate_items.specs.declared.item.QueueItem.{QueueItem}
+use Rattle.gate_items.specs.History.{after, start}
+use Rattle.gate_items.specs.Machine.{State as ItemsState}
+use Rattle.gate_items.specs.Outcomes.{run, said}
+use Rattle.gate_pipeline.specs.States.{manager_of}
 use Rattle.gate_core.specs.declared.answer.Answer.{Answer}
 use Rattle.gate_core.specs.declared.answer.Answer.TheVariants.{Accepted, Closed, Full, Moved}
 use Rattle.gate_core.specs.declared.step.Step.{Step}
-use Rattle.gate_core.specs.declared.step.Step.TheVariants.{Offer, Close, Take, Send, Fetch, Match, Give, Turn}
+use Rattle.gate_core.specs.declared.step.Step.TheVariants.{Offer, Close, Take, Send, Fetch, Match, Give, PostManage, PostResult, Turn}
 use Rattle.gate_core.specs.declared.TheConstants.{PLACES}
+use Rattle.gate_core.specs.History.{History, accepted, actions, asked_by, closed, done, finished, manage_posts, managed, numbers_from, outcomes, result_posts, resulted, stamp_with, triggered, waiting, wanted}
+use Rattle.gate_core.specs.Late.{LateIsDiscarded}
 use Rattle.gate_core.specs.Reports.{report_after, report_of}
+use Rattle.gate_core.specs.States.{State, items_at}
 use Rattle.gate_core.specs.Steps.{first, left_by, run_from}
-use Rattle.gate_core.specs.History.{History, accepted, wanted, done, numbers_from, finished, closed, waiting}
 
-abbrev pub IsPrefixOf : List ℕ → List ℕ → Type 0
-IsPrefixOf front whole = (rest : List ℕ) × (front ++ rest ≡ whole)
+abbrev pub IsPrefixOf : {X : Type 0} → List X → List X → Type 0
+IsPrefixOf {X} front whole = (rest : List X) × (front ++ rest ≡ whole)
 
 -- The trigger events that a pipeline has processed are, connection by connection, a prefix of the accepted records
 -- that its rules select, each once and in order, and all of them once its end mark is met.
@@ -39,6 +50,8 @@ IsRightAnswer config before (Send c) answer = Unit {0}
 IsRightAnswer config before (Fetch t count) answer = Unit {0}
 IsRightAnswer config before (Match t) answer = Unit {0}
 IsRightAnswer config before (Give t) answer = Unit {0}
+IsRightAnswer config before (PostManage t p manage) answer = Unit {0}
+IsRightAnswer config before (PostResult t p ended) answer = Unit {0}
 IsRightAnswer config before (Turn t p) answer = Unit {0}
 
 -- each offer and each close is answered by what came before it
@@ -47,10 +60,41 @@ AnswersRightly config before [] = Unit {0}
 AnswersRightly config before (event ∷ history) =
     IsRightAnswer config before event.0 event.1 × AnswersRightly config (before ++ event ∷ []) history
 
+-- ---- queue items
+
+-- the queue items of pipeline p of tenant t before anything was processed
+abbrev pub no_items : Config → ℕ → ℕ → ItemsState
+no_items config t p = start (manager_of config t p) 0
+
+-- What each pipeline has processed is what it was asked, and came of it what the rules of queue items say.
+pub record Processes (config : Config) (history : History) : Type 0 where
+  -- a trigger has a stamp, and is what the accepted record of that stamp asks for
+  pub triggers : (t p i : ℕ) (stamp : Option Stamp) (action : Action) → slice_get (triggered t p history) i ≡ Some (stamp, action) → asked_by config t p history stamp ≡ Some action
+  -- what is done is the stamps of the triggers
+  pub stamps : (t p : ℕ) → filter_map stamp_with (triggered t p history) ≡ done t p history
+  -- management events and results are those that were posted, in order
+  pub management : (t p : ℕ) → IsPrefixOf (managed t p history) (manage_posts t p history)
+  pub results : (t p : ℕ) → IsPrefixOf (resulted t p history) (result_posts t p history)
+  -- each action has the outcome that it has behind those before it
+  pub outcome : (t p : ℕ) → outcomes t p history ≡ run (no_items config t p) (actions t p history)
+  -- a result of a build set that was cancelled before is discarded, and changes no item and no report
+  pub late : (t p : ℕ) → LateIsDiscarded (manager_of config t p) (outcomes t p history)
+
+-- What each pipeline keeps is what the actions left that it has processed, one after another.
+pub record Keeps (config : Config) (history : History) (state : State) : Type 0 where
+  pub items : (t p : ℕ) (items : ItemsState) → items_at t p state ≡ Some items → items ≡ after (no_items config t p) (actions t p history)
+  -- a job of an item has the outcome of the one applied result with the item's build set and that job, or none
+  pub jobs : (t p i j : ℕ) (items : ItemsState) (item : QueueItem) (job : List ℕ × Option Bool) → items_at t p state ≡ Some items →
+      slice_get items.items i ≡ Some item → slice_get item.jobs j ≡ Some job → option_to_list job.1 ≡ said item.set job.0 (outcomes t p history)
+
+-- ---- every run
+
 -- For every configuration, with any number of connections, tenants and pipelines, and for every list of steps: what was
 -- processed is what was wanted, offers and closes are answered by what came before them, and the report of what is left
--- says what happened.
+-- says what happened; what was processed is what was asked, and the queue items are what came of it.
 pub record EveryRunDelivers : Type 0 where
   pub delivers : (config : Config) (steps : List Step) → Delivers config (run_from config (first config) steps)
   pub rightly : (config : Config) (steps : List Step) → AnswersRightly config [] (run_from config (first config) steps)
   pub report : (config : Config) (steps : List Step) → report_of (left_by config (first config) steps) ≡ report_after config (run_from config (first config) steps)
+  pub processes : (config : Config) (steps : List Step) → Processes config (run_from config (first config) steps)
+  pub keeps : (config : Config) (steps : List Step) → Keeps config (run_from config (first config) steps) (left_by config (first config) steps)

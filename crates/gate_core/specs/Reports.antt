@@ -45,7 +45,7 @@ abbrev pub connection_report : ConnectionState → ConnectionReport
 connection_report conn = record { accepted = conn.accepted; cause = cause_of conn.closed }
 
 abbrev pub pipeline_report : Pipeline → PipelineReport
-pipeline_report pipeline = record { done = pipeline.done; finished = pipeline.finished }
+pipeline_report pipeline = record { done = pipeline.worker.done; finished = pipeline.worker.finished }
 
 abbrev pub tenant_report : TenantState → List PipelineReport
 tenant_report tenant = map pipeline_report tenant.pipelines

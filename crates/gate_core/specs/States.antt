@@ -1,8 +1,9 @@
 -- What moves in a world, as plain lists.
-use Rattle.std.specs.Prelude.{ℕ, List, Bool}
+use Rattle.std.specs.Prelude.{ℕ, List, Bool, Option, option_and_then, option_map, slice_get}
 use Rattle.gate_record.specs.declared.ids.TenantId.{TenantId}
 use Rattle.gate_record.specs.declared.transit.ConnEntry.{ConnEntry}
 use Rattle.gate_record.specs.declared.transit.TenantItem.{TenantItem}
+use Rattle.gate_items.specs.Machine.{State as ItemsState}
 use Rattle.gate_tenant.specs.States.{State as DispatchState}
 use Rattle.gate_core.specs.declared.pipeline.Pipeline.{Pipeline}
 
@@ -24,3 +25,11 @@ pub record TenantState : Type 0 where
 pub record State : Type 0 where
   pub connections : List ConnectionState
   pub tenants : List TenantState
+
+-- pipeline p of tenant t, if it is there
+abbrev pub pipeline_at : ℕ → ℕ → State → Option Pipeline
+pipeline_at t p state = option_and_then (λ (tenant : TenantState). slice_get tenant.pipelines p) (slice_get state.tenants t)
+
+-- its queue items and what it reported
+abbrev pub items_at : ℕ → ℕ → State → Option ItemsState
+items_at t p state = option_map (λ (pipe : Pipeline). pipe.worker.items) (pipeline_at t p state)

@@ -19,7 +19,7 @@ use Rattle.gate_core.specs.declared.pipeline.Pipeline.{Pipeline}
 use Rattle.gate_core.specs.declared.step.Step.{Step}
 use Rattle.gate_core.specs.declared.step.Step.TheVariants as step
 use Rattle.gate_core.specs.declared.TheConstants.{PLACES}
-use Rattle.gate_core.specs.Pipelines.{fresh_pipeline, turned}
+use Rattle.gate_core.specs.Pipelines.{fresh_pipeline, post_manage, post_result, refused, turned}
 use Rattle.gate_core.specs.States.{ConnectionState, TenantState, State}
 
 -- ---- the state in which nothing was offered yet
@@ -28,7 +28,7 @@ abbrev pub new_connection : ConnectionState
 new_connection = record { accepted = 0; closed = false; queue = []; hand = [] }
 
 abbrev pub new_tenant : Config → ℕ → TenantState
-new_tenant config t = record { queue = []; dispatch = first_state config t; pipelines = map (λ _. fresh_pipeline) (pipelines_of config t) }
+new_tenant config t = record { queue = []; dispatch = first_state config t; pipelines = map (fresh_pipeline config t) (range_with_len 0 (length (pipelines_of config t))) }
 
 abbrev pub first : Config → State
 first config = record {
@@ -84,13 +84,13 @@ match_gathered config t tenant = match_from config t tenant.dispatch.gathered te
 
 -- the pipeline with the item at the back of its queue
 abbrev pub with_item : Pipeline → PipelineItem → Pipeline
-with_item pipeline item = record pipeline { queue = pipeline.queue ++ item ∷ [] }
+with_item pipeline item = record pipeline { triggers = pipeline.triggers ++ item ∷ [] }
 
 -- with this pipeline, whose item is the first of the hand
 abbrev pub give_to : PipelineId → PipelineItem → List (PipelineId × PipelineItem) → Option Pipeline → TenantState → TenantState × Answer
 give_to p item hand None tenant = (tenant, Idle)
 give_to p item hand (Some pipeline) tenant =
-    if nat_lt (length pipeline.queue) PLACES
+    if nat_lt (length pipeline.triggers) PLACES
     then (record tenant { dispatch = record tenant.dispatch { items = hand; out = None }; pipelines = slice_set tenant.pipelines p.0 (with_item pipeline item) }, Moved)
     else (tenant, Full)
 
@@ -102,13 +102,21 @@ give_from (first ∷ hand) tenant = give_to first.0 first.1 hand (slice_get tena
 abbrev pub give : TenantState → TenantState × Answer
 give tenant = give_from tenant.dispatch.items tenant
 
--- a turn of this pipeline, the one of number p
-abbrev pub turn_of : ℕ → Option Pipeline → TenantState → TenantState × Answer
-turn_of p None tenant = (tenant, Idle)
-turn_of p (Some pipeline) tenant = (record tenant { pipelines = slice_set tenant.pipelines p (turned pipeline).0 }, (turned pipeline).1)
+-- a post to this pipeline, the one of number p, or a turn of it
+abbrev pub with_pipeline : (Pipeline → Pipeline × Answer) → ℕ → Option Pipeline → TenantState → TenantState × Answer
+with_pipeline move p None tenant = (tenant, Idle)
+with_pipeline move p (Some pipe) tenant = (record tenant { pipelines = slice_set tenant.pipelines p (move pipe).0 }, (move pipe).1)
 
-abbrev pub turn : ℕ → TenantState → TenantState × Answer
-turn p tenant = turn_of p (slice_get tenant.pipelines p) tenant
+abbrev pub on_pipeline : (Pipeline → Pipeline × Answer) → ℕ → TenantState → TenantState × Answer
+on_pipeline move p tenant = with_pipeline move p (slice_get tenant.pipelines p) tenant
+
+-- a turn of this pipeline that is refused memory
+abbrev pub with_refused : ℕ → Option Pipeline → TenantState → TenantState
+with_refused p None tenant = tenant
+with_refused p (Some pipe) tenant = record tenant { pipelines = slice_set tenant.pipelines p (refused pipe) }
+
+abbrev pub refused_turn : ℕ → TenantState → TenantState
+refused_turn p tenant = with_refused p (slice_get tenant.pipelines p) tenant
 
 -- ---- steps of a world; an id out of range finds nothing to do
 
@@ -155,7 +163,27 @@ step_of config state (step.Send c) = send c.0 state
 step_of config state (step.Fetch t count) = on_tenant (fetch config t.0 count) t.0 state
 step_of config state (step.Match t) = on_tenant (match_gathered config t.0) t.0 state
 step_of config state (step.Give t) = on_tenant give t.0 state
-step_of config state (step.Turn t p) = on_tenant (turn p.0) t.0 state
+step_of config state (step.PostManage t p manage) = on_tenant (on_pipeline (post_manage manage) p.0) t.0 state
+step_of config state (step.PostResult t p ended) = on_tenant (on_pipeline (post_result ended) p.0) t.0 state
+step_of config state (step.Turn t p) = on_tenant (on_pipeline (turned config) p.0) t.0 state
+
+-- the state that a step leaves that is refused memory: as it was, save that a turn holds what it took, and has counted it in
+-- its phase
+abbrev pub refused_in : ℕ → ℕ → Option TenantState → State → State
+refused_in t p None state = state
+refused_in t p (Some tenant) state = record state { tenants = slice_set state.tenants t (refused_turn p tenant) }
+
+abbrev pub refused_step : State → Step → State
+refused_step state (step.Turn t p) = refused_in t.0 p.0 (slice_get state.tenants t.0) state
+refused_step state (step.Offer c line) = state
+refused_step state (step.Close c) = state
+refused_step state (step.Take c) = state
+refused_step state (step.Send c) = state
+refused_step state (step.Fetch t count) = state
+refused_step state (step.Match t) = state
+refused_step state (step.Give t) = state
+refused_step state (step.PostManage t p manage) = state
+refused_step state (step.PostResult t p ended) = state
 
 -- steps one after another, each with its answer
 abbrev pub run_from : Config → State → List Step → List (Step × Answer)

@@ -1,7 +1,8 @@
+use gate_items::{Action, Outcome};
 use gate_record::Stamp;
 
 /// What a step answers.
-#[derive(Clone, Copy, Debug, PartialEq, Eq)]
+#[derive(Debug, Drop)]
 pub enum Answer {
     /// The record was accepted, with this count of records accepted before it as its number.
     Accepted(u64),
@@ -13,8 +14,8 @@ pub enum Answer {
     Moved,
     /// There was nothing to do, or an id is out of range.
     Idle,
-    /// The pipeline processed the trigger event of this stamp.
-    Turned(Stamp),
+    /// The pipeline processed this action, which had this outcome. A trigger event's has its stamp.
+    Turned(Option<Stamp>, Action, Outcome),
     /// The pipeline found the queue of its phase empty, and went on to the next phase.
     Passed,
 }

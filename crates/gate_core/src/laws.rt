@@ -1,6 +1,7 @@
 ghost use Rattle.gate_core.specs.Promises.{EveryRunDelivers};
 ghost use Rattle.gate_core.specs.Ways.{WantedArrive};
 
+use gate_items::{cancelled_build_sets_change_nothing, each_outcome_is_that_of_one_result};
 use gate_tenant::{each_pipeline_gets_its_own, nothing_that_was_gathered_is_lost};
 
 /// Of a connection's entries, numbered from 0 in order, exactly the wanted numbers arrive at a pipeline once the entries
@@ -13,11 +14,15 @@ pub fn what_is_wanted_arrives()
 
 /// With any number of connections, tenants and pipelines: for every configuration and every list of steps, the trigger
 /// events that a pipeline has processed are, connection by connection, a prefix of the accepted records that its rules
-/// select, each once and in order, and all of them once its end mark is met; and offers and closes are answered by what
-/// came before them. It rests on the laws of the tenants' dispatch.
+/// select, each once and in order, and all of them once its end mark is met; offers and closes are answered by what came
+/// before them; and the queue items of a pipeline are what came of the actions that it has processed: of trigger events,
+/// each by its accepted record, and of the management events and results that were posted, in order. No result of a
+/// cancelled build set changes an item. It rests on the laws of the tenants' dispatch and of queue items.
 pub fn every_run_delivers()
     ensures { EveryRunDelivers }
 {
     each_pipeline_gets_its_own();
     nothing_that_was_gathered_is_lost();
+    each_outcome_is_that_of_one_result();
+    cancelled_build_sets_change_nothing();
 }

@@ -6,13 +6,16 @@ mod connection;
 mod laws;
 mod making;
 mod output;
-mod pass;
 mod pipeline;
+mod playing;
+mod posts;
 mod replaying;
 mod report;
 mod reporting;
 mod script;
+mod script_words;
 mod sending;
+mod showing;
 mod step;
 mod tenant;
 mod transcript;
@@ -23,13 +26,11 @@ pub use laws::{every_run_delivers, what_is_wanted_arrives};
 pub use output::report_text;
 pub use replaying::{ReplayFault, replay};
 pub use report::{ConnectionReport, EndCause, PipelineReport, RunReport};
-pub use script::{ScriptFault, read_script};
+pub use script::{ScriptFault, Scripted, read_script};
+pub use showing::show_text;
 pub use step::Step;
 pub use transcript::{Transcript, play, run};
 pub use world::World;
 
 /// How many values a queue holds.
 pub const PLACES: usize = 4096;
-
-/// How many values a pipeline takes in one phase of a pass before it goes on.
-pub const PHASE: u32 = 256;

@@ -1,33 +1,26 @@
-ghost use Rattle.std.specs.Prelude.{◌≡◌, ◌++◌, ◌+◌, ◌<◌, ◌≤◌, ◌^◌, length, decimal, codes, flat_map, string_bytes, IfOk, OnOk};
-ghost use Rattle.gate_core.specs.Output.{answer_line, answer_lines, cause_word, connection_line, connection_lines, state_word, number_text, done_line, done_lines, pipeline_line, pipeline_lines, tenant_lines, report_text};
-ghost use Rattle.gate_core.specs.History.{numbers_from};
+ghost use Rattle.std.specs.Prelude.{◌≡◌, ◌++◌, string_bytes, IfOk, OnOk};
+ghost use Rattle.gate_core.specs.Output.{answer_line, cause_word, connection_line, connection_lines, state_word, number_text, pipeline_line, tenant_lines, report_text};
 ghost use Rattle.gate_config.specs.Lookups.{connections_of, tenants_of};
 
 use crate::answer::Answer;
 use crate::report::{ConnectionReport, EndCause, PipelineReport, RunReport};
 use gate_config::{Config, PipelineSpec, TenantSpec};
+use gate_items::{Action, Discard, Manage, Outcome};
 use gate_record::{ConnId, Memory, Sequence, Stamp, TenantId, Text, name_text};
 use std::alloc::Global;
 
-/// Adds the answers to a text, each on a line.
-pub fn push_answers(out: &mut String, alloc: Global, answers: &[Answer]) -> Result<(), Memory>
-    ensures { OnOk result (string_bytes out.new ≡ string_bytes out.old ++ answer_lines answers.now) }
-{
-    for answer in answers {
-        push_answer(out, alloc, *answer)?;
-    }
-    Ok(())
-}
-
-fn push_answer(out: &mut String, alloc: Global, answer: Answer) -> Result<(), Memory>
-    ensures { OnOk result (string_bytes out.new ≡ string_bytes out.old ++ answer_line answer) }
+/// Adds an answer to a text, as a line.
+pub fn push_answer(out: &mut String, alloc: Global, answer: &Answer) -> Result<(), Memory>
+    ensures { OnOk result (string_bytes out.new ≡ string_bytes out.old ++ answer_line answer.now) }
 {
     match answer {
         Answer::Accepted(number) => {
             let line = format!(in alloc; "accepted {number}\n")?;
             out.push_str(line.as_str())?;
         }
-        Answer::Turned(stamp) => push_turned(out, alloc, stamp)?,
+        Answer::Turned(stamp, action, outcome) => {
+            push_turned(out, alloc, stamp, action, *outcome)?;
+        }
         Answer::Closed => out.push_str("closed\n")?,
         Answer::Full => out.push_str("full\n")?,
         Answer::Moved => out.push_str("moved\n")?,
@@ -37,22 +30,81 @@ fn push_answer(out: &mut String, alloc: Global, answer: Answer) -> Result<(), Me
     Ok(())
 }
 
-ghost use Rattle.gate_core.specs.Output.{turned_start, turned_line};
+ghost use Rattle.gate_core.specs.Output.{action_text, discard_word, outcome_text, stamp_text, turned_line};
 
-fn push_turned(out: &mut String, alloc: Global, stamp: Stamp) -> Result<(), Memory>
-    ensures { OnOk result (string_bytes out.new ≡ string_bytes out.old ++ turned_line stamp.conn.0 stamp.number) }
+fn push_turned(
+    out: &mut String,
+    alloc: Global,
+    stamp: &Option<Stamp>,
+    action: &Action,
+    outcome: Outcome,
+) -> Result<(), Memory>
+    ensures { OnOk result (string_bytes out.new ≡ string_bytes out.old ++ turned_line stamp.now action.now outcome) }
 {
-    let start = turned_start(alloc, u64::from(stamp.conn.0))?;
-    out.push_str(start.as_str())?;
-    push_number(out, alloc, stamp.number)?;
-    out.push_str(" applied\n")?;
+    out.push_str("turned ")?;
+    push_action(out, alloc, stamp, action)?;
+    push_outcome(out, outcome)?;
     Ok(())
 }
 
-fn turned_start(alloc: Global, conn: u64) -> Result<String, Memory>
-    ensures { IfOk result (λ line. string_bytes line ≡ turned_start conn) }
+fn push_action(
+    out: &mut String,
+    alloc: Global,
+    stamp: &Option<Stamp>,
+    action: &Action,
+) -> Result<(), Memory>
+    ensures { OnOk result (string_bytes out.new ≡ string_bytes out.old ++ action_text stamp.now action.now) }
 {
-    Ok(format!(in alloc; "turned trigger {conn}")?)
+    match (stamp, action) {
+        (Some(stamp), _) => push_stamp(out, alloc, *stamp)?,
+        (None, Action::Manage(Manage::Dequeue(_))) => out.push_str("dequeue")?,
+        (None, Action::Manage(Manage::Reset(_))) => out.push_str("reset")?,
+        (None, Action::Result(ended)) => {
+            out.push_str("result")?;
+            push_number(out, alloc, ended.set)?;
+        }
+        (None, Action::Trigger(..)) => out.push_str("trigger")?,
+    }
+    Ok(())
+}
+
+fn push_stamp(out: &mut String, alloc: Global, stamp: Stamp) -> Result<(), Memory>
+    ensures { OnOk result (string_bytes out.new ≡ string_bytes out.old ++ stamp_text stamp) }
+{
+    out.push_str("trigger")?;
+    push_number(out, alloc, u64::from(stamp.conn.0))?;
+    push_number(out, alloc, stamp.number)?;
+    Ok(())
+}
+
+fn push_outcome(out: &mut String, outcome: Outcome) -> Result<(), Memory>
+    ensures { OnOk result (string_bytes out.new ≡ string_bytes out.old ++ outcome_text outcome) }
+{
+    match outcome {
+        Outcome::Applied => out.push_str(" applied\n")?,
+        Outcome::Discarded(why) => {
+            out.push_str(" discarded ")?;
+            out.push_str(discard_word(why))?;
+            out.push_str("\n")?;
+        }
+    }
+    Ok(())
+}
+
+fn discard_word(why: Discard) -> &'static str
+    ensures { result.now ≡ discard_word why }
+{
+    match why {
+        Discard::NoKey => "no-key",
+        Discard::NoJobs => "no-jobs",
+        Discard::Known => "known",
+        Discard::Older => "older",
+        Discard::NotCurrent => "not-current",
+        Discard::NoJob => "no-job",
+        Discard::Repeated => "repeated",
+        Discard::NoItem => "no-item",
+        Discard::Numbers => "numbers",
+    }
 }
 
 fn push_connections(
@@ -301,7 +353,8 @@ fn push_numbers(
     Ok(())
 }
 
-fn push_number(out: &mut String, alloc: Global, number: u64) -> Result<(), Memory>
+/// Adds a number to a text, behind a space.
+pub(crate) fn push_number(out: &mut String, alloc: Global, number: u64) -> Result<(), Memory>
     ensures { OnOk result (string_bytes out.new ≡ string_bytes out.old ++ number_text number) }
 {
     let text = format!(in alloc; " {number}")?;

@@ -1,82 +1,109 @@
 ghost use Rattle.std.specs.Prelude.{◌≡◌};
+ghost use Rattle.gate_core.specs.declared.TheConstants.{PLACES};
+ghost use Rattle.gate_pipeline.specs.States.{asked, next_of};
 
+use crate::PLACES;
 use crate::answer::Answer;
-use crate::pass::{Pass, Phase, Taking};
-use gate_record::{Memory, PipelineItem, Queue, Sequence, Stamp};
+use gate_config::Config;
+use gate_items::{JobResult, Manage};
+use gate_pipeline::{Pipeline as Worker, Taken, Which};
+use gate_record::{Memory, PipelineId, PipelineItem, Queue, TenantId};
 use std::alloc::Global;
 
-/// A pipeline at work.
+/// A pipeline at work: what waits for it, at most 4,096 values of each kind, and its worker.
 #[derive(Drop)]
 pub struct Pipeline {
+    /// The queue of management events.
+    pub management: Queue<Manage>,
+    /// The queue of results.
+    pub results: Queue<JobResult>,
     /// The trigger queue.
-    pub queue: Queue<PipelineItem>,
-    /// Which phase it is in, and how far.
-    pub pass: Pass,
-    /// The stamps of the trigger events that were processed, in order.
-    pub done: Sequence<Stamp>,
-    /// Whether the end mark was taken.
-    pub finished: bool,
+    pub triggers: Queue<PipelineItem>,
+    /// Where its pass stands, what it has processed, and its queue items.
+    pub worker: Worker,
 }
 
 impl Pipeline {
-    ghost use Rattle.gate_core.specs.Pipelines.{fresh_pipeline, turned};
     ghost use Rattle.gate_core.specs.Answers.{Does};
+    ghost use Rattle.gate_core.specs.Pipelines.{fresh_pipeline, held_in, post_manage, post_result, refused, took, turned};
 
-    /// The pipeline before any trigger event came.
-    pub fn new(alloc: Global) -> Pipeline
-        ensures { result ≡ fresh_pipeline }
+    /// A pipeline of a tenant before anything came.
+    pub fn new(alloc: Global, config: &Config, tenant: TenantId, pipeline: PipelineId) -> Pipeline
+        ensures { result ≡ fresh_pipeline config.now tenant.0 pipeline.0 }
     {
         Pipeline {
-            queue: Queue::new(alloc),
-            pass: Pass::first(),
-            done: Sequence::empty(alloc),
-            finished: false,
+            management: Queue::new(alloc),
+            results: Queue::new(alloc),
+            triggers: Queue::new(alloc),
+            worker: Worker::new(alloc, config, tenant, pipeline),
         }
     }
 
-    /// Takes one value of the phase's queue, or finds it empty. Management events and results don't come yet.
-    pub fn turn(&mut self) -> Result<Answer, Memory>
-        ensures { Does self.old (turned self.old) self.new result }
+    /// Puts a management event at the back of its queue: `Full` where 4,096 wait there.
+    pub fn post_manage(&mut self, manage: Manage) -> Result<Answer, Memory>
+        ensures { Does self.old (post_manage manage self.old) self.new result }
     {
-        if self.finished {
-            return Ok(Answer::Idle);
+        if self.management.len() >= PLACES {
+            return Ok(Answer::Full);
         }
-        match self.pass.phase {
-            Phase::Trigger => self.take_trigger(),
-            _ => Ok(self.pass_on()),
+        self.management.push(manage)?;
+        Ok(Answer::Moved)
+    }
+
+    /// Puts a result at the back of its queue: `Full` where 4,096 wait there.
+    pub fn post_result(&mut self, ended: JobResult) -> Result<Answer, Memory>
+        ensures { Does self.old (post_result ended self.old) self.new result }
+    {
+        if self.results.len() >= PLACES {
+            return Ok(Answer::Full);
+        }
+        self.results.push(ended)?;
+        Ok(Answer::Moved)
+    }
+
+    /// Processes what is held, or takes one value of the phase's queue, or finds it empty. Where memory is refused, what
+    /// was taken is held.
+    pub fn turn(&mut self, config: &Config) -> Result<Answer, Memory>
+        ensures { Does (refused self.old) (turned config.now self.old) self.new result }
+    {
+        match self.worker.wants() {
+            Which::Finished => Ok(Answer::Idle),
+            Which::Held => self.hand_in(config, Taken::Again),
+            Which::Management => match self.management.pop() {
+                Some(manage) => self.hand_in(config, Taken::Manage(manage)),
+                None => Ok(self.pass_on()),
+            },
+            Which::Result => match self.results.pop() {
+                Some(ended) => self.hand_in(config, Taken::Result(ended)),
+                None => Ok(self.pass_on()),
+            },
+            Which::Trigger => match self.triggers.pop() {
+                Some(item) => self.hand_in(config, Taken::Trigger(item)),
+                None => Ok(self.pass_on()),
+            },
         }
     }
 
-    ghost use Rattle.gate_core.specs.Pipelines.{passed_on, took_trigger};
+    ghost use Rattle.std.specs.Prelude.{OnErr, true};
+    ghost use Rattle.gate_core.specs.Pipelines.{passed_on};
+    ghost use Rattle.gate_pipeline.specs.States.{MayBeRefused, is_taking, to_process};
 
     fn pass_on(&mut self) -> Answer
+        requires { is_taking (next_of self.old.worker) ≡ true }
         ensures { (self.new, result) ≡ passed_on self.old }
     {
-        self.pass = self.pass.after(Taking::Nothing);
+        self.worker.found_empty();
         Answer::Passed
     }
 
-    fn take_trigger(&mut self) -> Result<Answer, Memory>
-        ensures { Does self.old (took_trigger self.old.queue self.old) self.new result }
+    fn hand_in(&mut self, config: &Config, given: Taken) -> Result<Answer, Memory>
+        requires { next_of self.old.worker ≡ asked given }
+        ensures does { Does (held_in given self.old) (took config.now given self.old) self.new result }
+        ensures refused { OnErr result (MayBeRefused self.old.worker.items.manager (to_process self.old.worker.held given)) }
     {
-        let processed = match self.queue.get(0) {
-            None => return Ok(self.pass_on()),
-            Some(PipelineItem::Event(stamped)) => Some(stamped.stamp),
-            Some(PipelineItem::End) => None,
-        };
-        match processed {
-            Some(stamp) => {
-                self.done.push(stamp)?;
-                let _ = self.queue.pop();
-                self.pass = self.pass.after(Taking::Value);
-                Ok(Answer::Turned(stamp))
-            }
-            None => {
-                let _ = self.queue.pop();
-                self.pass = self.pass.after(Taking::Value);
-                self.finished = true;
-                Ok(Answer::Moved)
-            }
+        match self.worker.took(config, given)? {
+            Some((stamp, action, outcome)) => Ok(Answer::Turned(stamp, action, outcome)),
+            None => Ok(Answer::Moved),
         }
     }
 }

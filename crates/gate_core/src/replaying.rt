@@ -1,10 +1,10 @@
 ghost use Rattle.std.specs.Prelude.{◌≡◌, string_bytes, IfOk, IfErr};
 ghost use Rattle.gate_core.specs.Replays.{Replays, FailsReplay};
 
-use crate::output::{push_answers, push_report};
-use crate::script::{ScriptFault, read_script};
-use crate::step::Step;
-use crate::transcript::play;
+use crate::laws::every_run_delivers;
+use crate::output::push_report;
+use crate::playing::play_script;
+use crate::script::{ScriptFault, Scripted, read_script};
 use gate_config::{Config, ConfigFault, read_config};
 use gate_record::{Memory, Queue};
 use std::alloc::Global;
@@ -16,7 +16,7 @@ use std::fmt;
 pub enum ReplayFault {
     /// The document is no configuration: its first fault.
     Config(ConfigFault),
-    /// The first line of the script that is no step, counted from 1.
+    /// The first line of the script that stands for nothing, counted from 1.
     Script(usize),
     /// Memory was refused.
     Memory,
@@ -34,8 +34,8 @@ impl fmt::Display for ReplayFault {
 
 impl Error for ReplayFault {}
 
-/// Reads a configuration and a script, takes the script's steps from the beginning, and gives the answers, each on a
-/// line, and then the report. A fault of the configuration comes before one of the script.
+/// Reads a configuration and a script, takes the script's steps from the beginning, and gives what its lines print, the
+/// answers to steps and the items that are shown, and then the report. A fault of the configuration comes before one of the script.
 pub fn replay(alloc: Global, document: &[u8], script: &[u8]) -> Result<String, ReplayFault>
     ensures text { IfOk result (λ text. Replays document.now script.now (string_bytes text)) }
     ensures fault { IfErr result (FailsReplay document.now script.now) }
@@ -44,11 +44,11 @@ pub fn replay(alloc: Global, document: &[u8], script: &[u8]) -> Result<String, R
         Ok(config) => config,
         Err(fault) => return Err(of_config(fault)),
     };
-    let steps = match read_script(alloc, script) {
-        Ok(steps) => steps,
+    let script = match read_script(alloc, script) {
+        Ok(script) => script,
         Err(fault) => return Err(of_script(fault)),
     };
-    match play_text(alloc, &config, steps) {
+    match play_text(alloc, &config, script) {
         Ok(text) => Ok(text),
         Err(Memory) => Err(ReplayFault::Memory),
     }
@@ -75,14 +75,15 @@ fn of_script(fault: ScriptFault) -> ReplayFault
     }
 }
 
-// The answers to steps, and the report of the world that they leave.
-fn play_text(alloc: Global, config: &Config, steps: Queue<Step>) -> Result<String, Memory>
-    ensures { IfOk result (λ text. Plays config.now steps (string_bytes text)) }
+// What the lines of a script print, and the report of the world that they leave.
+fn play_text(alloc: Global, config: &Config, script: Queue<Scripted>) -> Result<String, Memory>
+    ensures { IfOk result (λ text. Plays config.now script (string_bytes text)) }
 {
-    let transcript = play(alloc, config, steps)?;
-    let report = transcript.world.report()?;
+    // What is promised of every history is a law of the definitions.
+    every_run_delivers();
     let mut text = String::new(alloc);
-    push_answers(&mut text, alloc, transcript.answers.as_slice())?;
+    let world = play_script(alloc, config, script, &mut text)?;
+    let report = world.report()?;
     push_report(&mut text, alloc, config, &report)?;
     Ok(text)
 }

@@ -58,10 +58,10 @@ fn report_pipelines(
 {
     let mut reports = Sequence::empty(alloc);
     for pipeline in pipelines {
-        let done = pipeline.done.as_slice().to_vec(alloc)?;
+        let done = pipeline.worker.done().to_vec(alloc)?;
         reports.push(PipelineReport {
             done: Sequence::new(done),
-            finished: pipeline.finished,
+            finished: pipeline.worker.finished(),
         })?;
     }
     Ok(reports)

@@ -1,9 +1,10 @@
-ghost use Rattle.std.specs.Prelude.{◌≡◌, ◌<◌, ◌+◌, ◌∷◌, ◌++◌, [], length, IfOk, Option, Some, None, option_map};
-ghost use Rattle.gate_core.specs.Script.{step_of, step_named, offer_of, two_of, is_skipped, number_of, word_of, rest_of, script_of};
+ghost use Rattle.std.specs.Prelude.{◌≡◌, ◌<◌, ◌∷◌, length, IfOk, option_map};
+ghost use Rattle.gate_core.specs.Script.{scripted_of, scripted_named, step_named, offer_of, two_of, is_skipped, script_of};
 ghost use Rattle.gate_core.specs.Faults.{GivesScript};
-ghost use Rattle.std.specs.Str.{bytes_eq};
 ghost use Rattle.std.specs.Str.Lines.{lines};
 
+use crate::posts::{dequeue_of, reset_of, result_of};
+use crate::script_words::{find_byte, is, number, split_word, two_numbers};
 use crate::step::Step;
 use gate_record::{ConnId, Memory, PipelineId, Queue, Record, Sequence, TenantId};
 use std::alloc::Global;
@@ -15,7 +16,7 @@ use std::fmt;
 pub enum ScriptFault {
     /// Memory was refused.
     Memory,
-    /// The first line that is no step, counted from 1.
+    /// The first line that stands for nothing, counted from 1.
     Script(usize),
 }
 
@@ -30,40 +31,49 @@ impl fmt::Display for ScriptFault {
 
 impl Error for ScriptFault {}
 
-/// Reads a script: a step a line. An empty line, and one that begins with `#`, is skipped. `Script` for the first
+/// A line of a script.
+#[derive(Debug, Drop)]
+pub enum Scripted {
+    /// A step is taken, and its answer printed.
+    Step(Step),
+    /// No step: the queue items of a pipeline, by the numbers of its tenant and its own, are printed, and what it reported.
+    Show(u32, u32),
+}
+
+/// Reads a script: a step or a show a line. An empty line, and one that begins with `#`, is skipped. `Script` for the first
 /// line that is none of these; `Memory` where it is refused.
-pub fn read_script(alloc: Global, script: &[u8]) -> Result<Queue<Step>, ScriptFault>
+pub fn read_script(alloc: Global, script: &[u8]) -> Result<Queue<Scripted>, ScriptFault>
     ensures { GivesScript (script_of script.now) result }
 {
-    let mut steps = Queue::new(alloc);
+    let mut lines = Queue::new(alloc);
     let mut rest = script;
     let mut before = 0;
     while !rest.is_empty() {
         let (line, more) = first_line(rest);
-        add_line(alloc, line, before + 1, &mut steps)?;
+        add_line(alloc, line, before + 1, &mut lines)?;
         before += 1;
         rest = more;
     }
-    Ok(steps)
+    Ok(lines)
 }
 
-ghost use Rattle.gate_core.specs.Script.{line_steps};
+ghost use Rattle.gate_core.specs.Script.{line_adds};
 ghost use Rattle.gate_core.specs.Faults.{AddsLine};
 
-// Adds the steps of the line of this number.
+// Adds what the line of this number stands for.
 fn add_line(
     alloc: Global,
     line: &[u8],
     number: usize,
-    steps: &mut Queue<Step>,
+    lines: &mut Queue<Scripted>,
 ) -> Result<(), ScriptFault>
-    ensures { AddsLine (line_steps line.now) steps.old steps.new number result }
+    ensures { AddsLine (line_adds line.now) lines.old lines.new number result }
 {
     if is_skipped(line) {
         return Ok(());
     }
-    match step_of(alloc, line) {
-        Ok(Some(step)) => match steps.push(step) {
+    match scripted_of(alloc, line) {
+        Ok(Some(scripted)) => match lines.push(scripted) {
             Ok(()) => Ok(()),
             Err(_) => Err(ScriptFault::Memory),
         },
@@ -105,14 +115,33 @@ fn is_skipped(line: &[u8]) -> bool
     }
 }
 
-fn step_of(alloc: Global, line: &[u8]) -> Result<Option<Step>, Memory>
-    ensures { IfOk result (λ step. step ≡ step_of line.now) }
+fn scripted_of(alloc: Global, line: &[u8]) -> Result<Option<Scripted>, Memory>
+    ensures { IfOk result (λ scripted. scripted ≡ scripted_of line.now) }
 {
     let (word, rest) = split_word(line);
     match rest {
         None => Ok(None),
-        Some(rest) => step_named(alloc, word, rest),
+        Some(rest) => scripted_named(alloc, word, rest),
     }
+}
+
+fn scripted_named(alloc: Global, word: &[u8], rest: &[u8]) -> Result<Option<Scripted>, Memory>
+    ensures { IfOk result (λ scripted. scripted ≡ scripted_named word.now rest.now) }
+{
+    if is(word, "show") {
+        return Ok(show_of(rest));
+    }
+    match step_named(alloc, word, rest)? {
+        Some(step) => Ok(Some(Scripted::Step(step))),
+        None => Ok(None),
+    }
+}
+
+fn show_of(rest: &[u8]) -> Option<Scripted>
+    ensures { result ≡ option_map (λ n. Scripted.Show n.0 n.1) (two_of rest.now) }
+{
+    let (tenant, pipeline) = two_numbers(rest)?;
+    Some(Scripted::Show(tenant, pipeline))
 }
 
 fn step_named(alloc: Global, word: &[u8], rest: &[u8]) -> Result<Option<Step>, Memory>
@@ -121,12 +150,21 @@ fn step_named(alloc: Global, word: &[u8], rest: &[u8]) -> Result<Option<Step>, M
     if is(word, "offer") {
         return offer_of(alloc, rest);
     }
+    if is(word, "dequeue") {
+        return dequeue_of(alloc, rest);
+    }
+    if is(word, "reset") {
+        return reset_of(alloc, rest);
+    }
+    if is(word, "result") {
+        return result_of(alloc, rest);
+    }
     Ok(plain_step(word, rest))
 }
 
 ghost use Rattle.gate_core.specs.Script.{plain_named};
 
-// The steps that hold no record's bytes.
+// The steps that bring nothing with them.
 fn plain_step(word: &[u8], rest: &[u8]) -> Option<Step>
     ensures { result ≡ plain_named word.now rest.now }
 {
@@ -179,88 +217,5 @@ fn offer_of(alloc: Global, rest: &[u8]) -> Result<Option<Step>, Memory>
             Ok(Some(Step::Offer(ConnId(conn), Record::Line(bytes))))
         }
         _ => Ok(None),
-    }
-}
-
-fn two_numbers(rest: &[u8]) -> Option<(u32, u32)>
-    ensures { result ≡ two_of rest.now }
-{
-    let (word, more) = split_word(rest);
-    let first = number(word)?;
-    let second = number(more?)?;
-    Some((first, second))
-}
-
-// What stands before the first space, and what behind it.
-fn split_word(text: &[u8]) -> (&[u8], Option<&[u8]>)
-    ensures word { result.0.now ≡ word_of text.now }
-    ensures rest { option_map (λ r. r.now) result.1 ≡ rest_of text.now }
-{
-    match find_byte(text, b' ') {
-        None => (text, None),
-        Some(at) => (&text[..at], Some(&text[at + 1..])),
-    }
-}
-
-fn is(word: &[u8], name: &str) -> bool
-    ensures { result ≡ bytes_eq word.now name.now }
-{
-    word == name.as_bytes()
-}
-
-ghost use Rattle.std.specs.Prelude.{position, ◌==◌};
-
-// The first place of a byte.
-fn find_byte(text: &[u8], wanted: u8) -> Option<usize>
-    ensures { result ≡ position (λ byte. byte == wanted) text.now }
-{
-    text.iter().position(|byte| *byte == wanted)
-}
-
-// One or more decimal digits whose value is a u32.
-fn number(text: &[u8]) -> Option<u32>
-    ensures { result ≡ number_of text.now }
-{
-    if text.is_empty() || !are_digits(text) {
-        return None;
-    }
-    value(text)
-}
-
-ghost use Rattle.std.specs.List.{list_all};
-ghost use Rattle.gate_core.specs.Script.{is_digit, value_of};
-ghost use Rattle.std.specs.Prelude.{if◌then◌else◌, nat_lt, ◌^◌};
-
-fn are_digits(text: &[u8]) -> bool
-    ensures { result ≡ list_all is_digit text.now }
-{
-    text.iter().all(|byte| *byte >= b'0' && *byte <= b'9')
-}
-
-// The value of digits, where it is a u32.
-fn value(digits: &[u8]) -> Option<u32>
-    ensures { result ≡ (if nat_lt (value_of digits.now) (2 ^ 32) then Some (value_of digits.now) else None) }
-{
-    let mut value: u32 = 0;
-    for digit in digits {
-        match with_digit(value, *digit) {
-            Some(more) => value = more,
-            None => return None,
-        }
-    }
-    Some(value)
-}
-
-ghost use Rattle.std.specs.Prelude.{◌*◌, ◌-◌};
-
-// A digit more, where the value stays a u32.
-fn with_digit(value: u32, digit: u8) -> Option<u32>
-    ensures { result ≡ (if nat_lt (10 * value + (digit - 48)) (2 ^ 32) then Some (10 * value + (digit - 48)) else None) }
-{
-    let more = 10 * u64::from(value) + u64::from(digit.saturating_sub(b'0'));
-    if more <= u64::from(u32::MAX) {
-        Some(more as u32)
-    } else {
-        None
     }
 }

@@ -1,6 +1,7 @@
 ghost use Rattle.std.specs.Prelude.{◌≡◌, IfOk};
 
-use gate_record::{ConnId, Memory, PipelineId, Record, TenantId};
+use gate_items::{JobResult, Manage};
+use gate_record::{ConnId, Memory, PipelineId, Record, TenantId, Text};
 use std::alloc::Global;
 
 /// One step of the core.
@@ -20,12 +21,16 @@ pub enum Step {
     Match(TenantId),
     /// The worker of a tenant gives the next matched item to its pipeline.
     Give(TenantId),
+    /// Somebody posts a management event to a pipeline.
+    PostManage(TenantId, PipelineId, Manage),
+    /// Somebody posts the result of a job to a pipeline.
+    PostResult(TenantId, PipelineId, JobResult),
     /// The worker of a pipeline takes one value of its phase's queue, or finds that queue empty.
     Turn(TenantId, PipelineId),
 }
 
 impl Step {
-    /// A copy of the step, with its record. `Memory` where the record finds no room.
+    /// A copy of the step, with what it brings. `Memory` where that finds no room.
     pub fn copy(&self, alloc: Global) -> Result<Step, Memory>
         ensures { IfOk result (λ copy. copy ≡ self.now) }
     {
@@ -37,7 +42,34 @@ impl Step {
             Step::Fetch(tenant, count) => Ok(Step::Fetch(*tenant, *count)),
             Step::Match(tenant) => Ok(Step::Match(*tenant)),
             Step::Give(tenant) => Ok(Step::Give(*tenant)),
+            Step::PostManage(tenant, pipeline, manage) => {
+                let manage = copy_manage(alloc, manage)?;
+                Ok(Step::PostManage(*tenant, *pipeline, manage))
+            }
+            Step::PostResult(tenant, pipeline, result) => {
+                let result = copy_result(alloc, result)?;
+                Ok(Step::PostResult(*tenant, *pipeline, result))
+            }
             Step::Turn(tenant, pipeline) => Ok(Step::Turn(*tenant, *pipeline)),
         }
     }
+}
+
+fn copy_manage(alloc: Global, manage: &Manage) -> Result<Manage, Memory>
+    ensures { IfOk result (λ copy. copy ≡ manage.now) }
+{
+    match manage {
+        Manage::Dequeue(key) => Ok(Manage::Dequeue(key.copy(alloc)?)),
+        Manage::Reset(key) => Ok(Manage::Reset(key.copy(alloc)?)),
+    }
+}
+
+fn copy_result(alloc: Global, ended: &JobResult) -> Result<JobResult, Memory>
+    ensures { IfOk result (λ copy. copy ≡ ended.now) }
+{
+    Ok(JobResult {
+        set: ended.set,
+        job: Text::copy(alloc, ended.job.as_str())?,
+        success: ended.success,
+    })
 }

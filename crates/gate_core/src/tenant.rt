@@ -6,6 +6,7 @@ use crate::PLACES;
 use crate::answer::Answer;
 use crate::pipeline::Pipeline;
 use gate_config::Config;
+use gate_items::{JobResult, Manage};
 use gate_record::{Memory, PipelineId, TenantId, TenantItem};
 use gate_tenant::Dispatch;
 use std::alloc::Global;
@@ -35,7 +36,8 @@ pub enum Unput {
 
 impl<'c> Tenant<'c> {
     ghost use Rattle.gate_core.specs.Answers.{Does};
-    ghost use Rattle.gate_core.specs.Steps.{new_tenant, fetch, match_gathered, give, turn};
+    ghost use Rattle.gate_core.specs.Steps.{new_tenant, fetch, match_gathered, give, on_pipeline, refused_turn};
+    ghost use Rattle.gate_core.specs.Pipelines.{post_manage, post_result, turned};
     ghost use Rattle.gate_core.specs.Sends.{Puts};
     ghost use Rattle.gate_core.specs.Views.{tenant_view, config_of_tenant, number_of_tenant};
 
@@ -118,11 +120,11 @@ impl<'c> Tenant<'c> {
                 self.dispatch.ungiven(item);
                 Ok(Answer::Idle)
             }
-            Some(worker) if worker.queue.len() >= PLACES => {
+            Some(worker) if worker.triggers.len() >= PLACES => {
                 self.dispatch.ungiven(item);
                 Ok(Answer::Full)
             }
-            Some(worker) => match worker.queue.push(item) {
+            Some(worker) => match worker.triggers.push(item) {
                 Ok(()) => {
                     self.dispatch.given();
                     Ok(Answer::Moved)
@@ -135,30 +137,55 @@ impl<'c> Tenant<'c> {
         }
     }
 
-    /// A turn of a pipeline, `Idle` where the tenant hasn't got it.
-    pub fn turn(&mut self, pipeline: PipelineId) -> Result<Answer, Memory>
+    /// Posts a management event to a pipeline, `Idle` where the tenant hasn't got it.
+    pub fn post_manage(&mut self, pipeline: PipelineId, manage: Manage) -> Result<Answer, Memory>
         ensures config { config_of_tenant self.new ≡ config_of_tenant self.old }
         ensures number { number_of_tenant self.new ≡ number_of_tenant self.old }
-        ensures does { Does (tenant_view self.old) (turn pipeline.0 (tenant_view self.old)) (tenant_view self.new) result }
+        ensures does { Does (tenant_view self.old) (on_pipeline (post_manage manage) pipeline.0 (tenant_view self.old)) (tenant_view self.new) result }
     {
         match self.pipelines.get_mut(pipeline.0 as usize) {
             None => Ok(Answer::Idle),
-            Some(worker) => worker.turn(),
+            Some(worker) => worker.post_manage(manage),
+        }
+    }
+
+    /// Posts a result to a pipeline, `Idle` where the tenant hasn't got it.
+    pub fn post_result(&mut self, pipeline: PipelineId, ended: JobResult) -> Result<Answer, Memory>
+        ensures config { config_of_tenant self.new ≡ config_of_tenant self.old }
+        ensures number { number_of_tenant self.new ≡ number_of_tenant self.old }
+        ensures does { Does (tenant_view self.old) (on_pipeline (post_result ended) pipeline.0 (tenant_view self.old)) (tenant_view self.new) result }
+    {
+        match self.pipelines.get_mut(pipeline.0 as usize) {
+            None => Ok(Answer::Idle),
+            Some(worker) => worker.post_result(ended),
+        }
+    }
+
+    /// A turn of a pipeline, `Idle` where the tenant hasn't got it.
+    pub fn turn(&mut self, config: &Config, pipeline: PipelineId) -> Result<Answer, Memory>
+        ensures config { config_of_tenant self.new ≡ config_of_tenant self.old }
+        ensures number { number_of_tenant self.new ≡ number_of_tenant self.old }
+        ensures does { Does (refused_turn pipeline.0 (tenant_view self.old)) (on_pipeline (turned config.now) pipeline.0 (tenant_view self.old)) (tenant_view self.new) result }
+    {
+        match self.pipelines.get_mut(pipeline.0 as usize) {
+            None => Ok(Answer::Idle),
+            Some(worker) => worker.turn(config),
         }
     }
 }
 
-ghost use Rattle.std.specs.Prelude.{map};
+ghost use Rattle.std.specs.Prelude.{length, map};
+ghost use Rattle.std.specs.List.{range_with_len};
 ghost use Rattle.gate_config.specs.Lookups.{pipelines_of};
 ghost use Rattle.gate_core.specs.Pipelines.{fresh_pipeline};
 
 // A pipeline at work for each one of the tenant.
 fn new_pipelines(alloc: Global, config: &Config, tenant: TenantId) -> Result<Vec<Pipeline>, Memory>
-    ensures { IfOk result (λ pipelines. pipelines.items ≡ map (λ _. fresh_pipeline) (pipelines_of config.now tenant.0)) }
+    ensures { IfOk result (λ pipelines. pipelines.items ≡ map (fresh_pipeline config.now tenant.0) (range_with_len 0 (length (pipelines_of config.now tenant.0)))) }
 {
     let mut pipelines = Vec::new(alloc);
-    for _ in config.pipelines(tenant) {
-        pipelines.push(Pipeline::new(alloc))?;
+    for number in 0..config.pipelines(tenant).len() {
+        pipelines.push(Pipeline::new(alloc, config, tenant, PipelineId(number as u32)))?;
     }
     Ok(pipelines)
 }

@@ -1,6 +1,6 @@
 ghost use Rattle.std.specs.Prelude.{◌≡◌, ◌++◌, ◌<◌, ◌^◌, IfOk, [], length, take};
 ghost use Rattle.std.specs.List.{zip};
-ghost use Rattle.gate_core.specs.Promises.{Delivers, AnswersRightly};
+ghost use Rattle.gate_core.specs.Promises.{AnswersRightly, Delivers, Keeps, Processes};
 ghost use Rattle.gate_core.specs.Reports.{report_of, report_after};
 ghost use Rattle.gate_core.specs.Steps.{answers_to, first, left_by};
 
@@ -34,6 +34,10 @@ pub fn run<'c>(alloc: Global, config: &'c Config, steps: &[Step]) -> Result<Tran
     ensures delivers { IfOk result (λ t. Delivers config.entry.now (zip steps.now t.answers)) }
     ensures rightly { IfOk result (λ t. AnswersRightly config.entry.now [] (zip steps.now t.answers)) }
     ensures report { IfOk result (λ t. report_of (state_of t.world) ≡ report_after config.entry.now (zip steps.now t.answers)) }
+
+    // Queue items are what came of the actions that were processed, and those are what was asked.
+    ensures processes { IfOk result (λ t. Processes config.entry.now (zip steps.now t.answers)) }
+    ensures keeps { IfOk result (λ t. Keeps config.entry.now (zip steps.now t.answers) (state_of t.world)) }
 {
     let mut queue = Queue::new(alloc);
     for step in steps {
@@ -54,6 +58,8 @@ pub fn play<'c>(
     ensures delivers { IfOk result (λ t. Delivers config.entry.now (zip steps t.answers)) }
     ensures rightly { IfOk result (λ t. AnswersRightly config.entry.now [] (zip steps t.answers)) }
     ensures report { IfOk result (λ t. report_of (state_of t.world) ≡ report_after config.entry.now (zip steps t.answers)) }
+    ensures processes { IfOk result (λ t. Processes config.entry.now (zip steps t.answers)) }
+    ensures keeps { IfOk result (λ t. Keeps config.entry.now (zip steps t.answers) (state_of t.world)) }
 {
     // What is promised of every history is a law of the definitions.
     every_run_delivers();

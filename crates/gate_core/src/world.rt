@@ -1,4 +1,4 @@
-ghost use Rattle.std.specs.Prelude.{◌≡◌, IfOk};
+ghost use Rattle.std.specs.Prelude.{◌≡◌, IfOk, option_map};
 ghost use Rattle.gate_core.specs.Views.{AreConnections, AreTenants};
 
 use crate::answer::Answer;
@@ -10,6 +10,7 @@ use crate::sending::send;
 use crate::step::Step;
 use crate::tenant::Tenant;
 use gate_config::Config;
+use gate_items::{Items, JobResult, Manage};
 use gate_record::{ConnId, Memory, PipelineId, Record, TenantId};
 use std::alloc::Global;
 
@@ -29,7 +30,9 @@ pub struct World<'c> {
 impl<'c> World<'c> {
     ghost use Rattle.gate_core.specs.Answers.{Does};
     ghost use Rattle.gate_core.specs.Reports.{report_of};
-    ghost use Rattle.gate_core.specs.Steps.{close, fetch, first, give, match_gathered, offer, on_connection, on_tenant, send, step_of, take, turn};
+    ghost use Rattle.gate_core.specs.Pipelines.{post_manage, post_result, turned};
+    ghost use Rattle.gate_core.specs.States.{items_at};
+    ghost use Rattle.gate_core.specs.Steps.{close, fetch, first, give, match_gathered, offer, on_connection, on_pipeline, on_tenant, refused_step, send, step_of, take};
     ghost use Rattle.gate_core.specs.Worlds.{HaveNumbers, config_of, state_of};
 
     /// The world in which nothing was offered yet. `Memory` where its connections and tenants find no room.
@@ -49,11 +52,11 @@ impl<'c> World<'c> {
     }
 
     /// Takes one step. An id out of range, or a step that finds nothing to do, is answered `Idle`. Where memory is
-    /// refused, all is as before.
+    /// refused, all is as before, save that a turn holds what it took: that is what the pipeline processes next.
     pub fn step(&mut self, step: Step) -> Result<Answer, Memory>
         requires { HaveNumbers (state_of self.old) }
         ensures config { config_of self.new ≡ config_of self.old }
-        ensures moves { Does (state_of self.old) (step_of (config_of self.old) (state_of self.old) step) (state_of self.new) result }
+        ensures moves { Does (refused_step (state_of self.old) step) (step_of (config_of self.old) (state_of self.old) step) (state_of self.new) result }
     {
         match step {
             Step::Offer(conn, line) => self.offer(conn, line),
@@ -63,6 +66,10 @@ impl<'c> World<'c> {
             Step::Fetch(tenant, count) => self.fetch(tenant, count),
             Step::Match(tenant) => self.match_gathered(tenant),
             Step::Give(tenant) => self.give(tenant),
+            Step::PostManage(tenant, pipeline, manage) => {
+                self.post_manage(tenant, pipeline, manage)
+            }
+            Step::PostResult(tenant, pipeline, ended) => self.post_result(tenant, pipeline, ended),
             Step::Turn(tenant, pipeline) => self.turn(tenant, pipeline),
         }
     }
@@ -75,6 +82,15 @@ impl<'c> World<'c> {
             connections: report_connections(self.alloc, self.connections.as_slice())?,
             pipelines: report_tenants(self.alloc, self.tenants.as_slice())?,
         })
+    }
+
+    /// The queue items of a pipeline and what it reported, if it is there.
+    pub(crate) fn items(&self, tenant: TenantId, pipeline: PipelineId) -> Option<&Items>
+        ensures { option_map (λ items. items.now) result ≡ items_at tenant.0 pipeline.0 (state_of self.now) }
+    {
+        let tenant = self.tenants.get(tenant.0 as usize)?;
+        let pipeline = tenant.pipelines.get(pipeline.0 as usize)?;
+        Some(pipeline.worker.state())
     }
 
     fn offer(&mut self, conn: ConnId, line: Record) -> Result<Answer, Memory>
@@ -148,12 +164,42 @@ impl<'c> World<'c> {
         }
     }
 
-    fn turn(&mut self, tenant: TenantId, pipeline: PipelineId) -> Result<Answer, Memory>
+    fn post_manage(
+        &mut self,
+        tenant: TenantId,
+        pipeline: PipelineId,
+        manage: Manage,
+    ) -> Result<Answer, Memory>
         ensures config { config_of self.new ≡ config_of self.old }
-        ensures moves { Does (state_of self.old) (on_tenant (turn pipeline.0) tenant.0 (state_of self.old)) (state_of self.new) result }
+        ensures moves { Does (state_of self.old) (on_tenant (on_pipeline (post_manage manage) pipeline.0) tenant.0 (state_of self.old)) (state_of self.new) result }
     {
         match self.tenants.get_mut(tenant.0 as usize) {
-            Some(worker) => worker.turn(pipeline),
+            Some(worker) => worker.post_manage(pipeline, manage),
+            None => Ok(Answer::Idle),
+        }
+    }
+
+    fn post_result(
+        &mut self,
+        tenant: TenantId,
+        pipeline: PipelineId,
+        ended: JobResult,
+    ) -> Result<Answer, Memory>
+        ensures config { config_of self.new ≡ config_of self.old }
+        ensures moves { Does (state_of self.old) (on_tenant (on_pipeline (post_result ended) pipeline.0) tenant.0 (state_of self.old)) (state_of self.new) result }
+    {
+        match self.tenants.get_mut(tenant.0 as usize) {
+            Some(worker) => worker.post_result(pipeline, ended),
+            None => Ok(Answer::Idle),
+        }
+    }
+
+    fn turn(&mut self, tenant: TenantId, pipeline: PipelineId) -> Result<Answer, Memory>
+        ensures config { config_of self.new ≡ config_of self.old }
+        ensures moves { Does (refused_step (state_of self.old) (Step.Turn tenant pipeline)) (on_tenant (on_pipeline (turned (config_of self.old)) pipeline.0) tenant.0 (state_of self.old)) (state_of self.new) result }
+    {
+        match self.tenants.get_mut(tenant.0 as usize) {
+            Some(worker) => worker.turn(self.config, pipeline),
             None => Ok(Answer::Idle),
         }
     }

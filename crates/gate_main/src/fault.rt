@@ -17,7 +17,7 @@ pub enum Fault {
     Usage,
     /// The document is no configuration.
     Config(ConfigFault),
-    /// The first line of the script that is no step, counted from 1.
+    /// The first line of the script that stands for nothing, counted from 1.
     Script(usize),
 }
 

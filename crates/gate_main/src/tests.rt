@@ -1,10 +1,11 @@
 mod check;
 mod many;
+mod queues;
 mod several;
 
 use crate::program::run_words;
 use gate_config::{Config, read_config};
-use gate_core::{Answer, Step, World, read_script, replay, report_text, run};
+use gate_core::{Answer, Step, World, read_script, replay, report_text, run, show_text};
 use gate_record::{ConnId, PipelineId, Record, Sequence, TenantId};
 use std::alloc::{AllocError, Global};
 use std::process::Abort;
@@ -226,10 +227,14 @@ fn runs_steps_and_reports(rt: HostRuntime) -> Result<(), Fail> {
         Step::Turn(TenantId(0), PipelineId(0)),
     ];
     let transcript = run(rt.alloc(), &config, &steps)?;
-    assert_eq!(rt;
-        transcript.answers.as_slice(),
-        [Answer::Accepted(0), Answer::Moved, Answer::Passed].as_slice()
+    assert!(rt;
+        matches!(
+            transcript.answers.as_slice(),
+            [Answer::Accepted(0), Answer::Moved, Answer::Passed]
+        )
     );
+    let items = show_text(rt.alloc(), &transcript.world, TenantId(0), PipelineId(0))?;
+    assert_eq!(rt; items.as_str(), "shown 0 0\n");
     let report = transcript.world.report()?;
     let text = report_text(rt.alloc(), &config, &report)?;
     assert_eq!(rt;
@@ -237,7 +242,7 @@ fn runs_steps_and_reports(rt: HostRuntime) -> Result<(), Fail> {
         "connection \"gerrit\" accepted 1 open\npipeline \"main\" \"check\" running\ndone \"main\" \"check\" \"gerrit\"\n"
     );
     let mut world = World::new(rt.alloc(), &config)?;
-    assert_eq!(rt; world.step(Step::Close(ConnId(0)))?, Answer::Moved);
+    assert!(rt; matches!(world.step(Step::Close(ConnId(0)))?, Answer::Moved));
     match read_script(rt.alloc(), b"give 0\nturn 0 0\n") {
         Ok(steps) => assert_eq!(rt; steps.len(), 2),
         Err(_) => panic!(rt; "the script is read"),

@@ -5,7 +5,7 @@ returns-in-Ok-play_text-clause-text c = record {
   config = c.in-Ok.config;
   read = c.in-Ok.ensures.read;
   passed = c.in-Ok.ensures.passed;
-  steps = c.in-Ok-read_script.steps;
+  lines = c.in-Ok-read_script.script;
   parsed = c.in-Ok-read_script.ensures;
   plays = c.in-Ok-play_text.ensures;
 }

@@ -1,12 +1,12 @@
 use Rattle.std.proofs.Common.{◌≡◌, ◌+◌, ◌≤◌, length}
 use Rattle.std.specs.Str.Lines.{lines}
-use Rattle.gate_core.specs.Script.{script_of, steps_from, followed_by}
+use Rattle.gate_core.specs.Script.{script_of, lines_from, followed_by}
 use Rattle.gate_core.proofs.script.read_script.Given as goal
 
--- the steps so far, followed by those of the rest, are those of the script
+-- what the lines so far stand for, followed by what those of the rest do, is what the script says
 abbrev pub invariant-loop-rest : goal.invariant-loop-rest
 invariant-loop-rest l = record {
-  read : script_of l.script ≡ followed_by l.steps (steps_from (l.before + 1) (lines l.rest));
+  read : script_of l.script ≡ followed_by l.lines (lines_from (l.before + 1) (lines l.rest));
   few : l.before + length l.rest ≤ length l.script;
 }
 

@@ -4,7 +4,7 @@ use Rattle.gate_core.specs.declared.answer.Answer.{Answer}
 use Rattle.gate_core.specs.States.{State}
 use Rattle.gate_core.specs.Steps.{answers_to, first, left_by, step_of}
 use Rattle.gate_core.specs.Worlds.{state_of}
-use Rattle.gate_core.proofs.Runs.{Runs, begins, has_number, one_more, all_answered, all_reached, run_delivers, run_rightly, run_told}
+use Rattle.gate_core.proofs.Runs.{Runs, begins, has_number, one_more, all_answered, all_reached, run_delivers, run_keeps, run_processes, run_rightly, run_told}
 use Rattle.gate_core.proofs.transcript.play.Goals as goal
 
 pub loop-step-init : goal.loop-step-init
@@ -57,3 +57,9 @@ returns-clause-rightly c = run_rightly c.every_run_delivers.ensures c.args.confi
 
 pub returns-clause-report : goal.returns-clause-report
 returns-clause-report c = run_told c.every_run_delivers.ensures c.args.config.now c.args.steps c.loop-step.answers (state_of c.loop-step.world) (answered c) (reached c)
+
+pub returns-clause-processes : goal.returns-clause-processes
+returns-clause-processes c = run_processes c.every_run_delivers.ensures c.args.config.now c.args.steps c.loop-step.answers (answered c)
+
+pub returns-clause-keeps : goal.returns-clause-keeps
+returns-clause-keeps c = run_keeps c.every_run_delivers.ensures c.args.config.now c.args.steps c.loop-step.answers (state_of c.loop-step.world) (answered c) (reached c)

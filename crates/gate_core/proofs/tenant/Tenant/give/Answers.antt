@@ -34,8 +34,8 @@ returns-in-Ok-clause-does c =
     let out = is_out tenant.dispatch new first c.in-Some.ensures.moves in
     let item = c.in-Some-get_mut.ensures.item in
     let at = lent tenant.pipelines p pipeline item.3.0 item.1 in
-    ap (λ (d : DispatchState). (record tenant { dispatch = d; pipelines = slice_set tenant.pipelines p (record pipeline { queue = c.push.new.self }) }, Moved)) (c.given.ensures.closes ∙ went tenant.dispatch new first out)
-    ∙ ap (λ queue. (record tenant { dispatch = record tenant.dispatch { items = new.items; out = None }; pipelines = slice_set tenant.pipelines p (record pipeline { queue = queue }) }, Moved)) c.in-Ok.ensures
+    ap (λ (d : DispatchState). (record tenant { dispatch = d; pipelines = slice_set tenant.pipelines p (record pipeline { triggers = c.push.new.self }) }, Moved)) (c.given.ensures.closes ∙ went tenant.dispatch new first out)
+    ∙ ap (λ queue. (record tenant { dispatch = record tenant.dispatch { items = new.items; out = None }; pipelines = slice_set tenant.pipelines p (record pipeline { triggers = queue }) }, Moved)) c.in-Ok.ensures
     ∙ sym (gives tenant new first out pipeline at (lt-ltb _ _ (omega arith)))
 
 pub returns-in-Err-clause-does : goal.returns-in-Err-clause-does
@@ -49,6 +49,6 @@ returns-in-Err-clause-does c =
     let item = c.in-Some-get_mut.ensures.item in
     let at = lent tenant.pipelines p pipeline item.3.0 item.1 in
     let dispatch_as_before = c.ungiven-in-Err.ensures.fills ∙ ap (λ back. put_back back new.out new) c.in-Err.ensures.1 ∙ came_back tenant.dispatch new first c.args.self.now.in_hand out in
-    ap (λ (d : DispatchState). record tenant { dispatch = d; pipelines = slice_set tenant.pipelines p (record pipeline { queue = c.push.new.self }) }) dispatch_as_before
-    ∙ ap (λ queue. record tenant { pipelines = slice_set tenant.pipelines p (record pipeline { queue = queue }) }) c.in-Err.ensures.0
+    ap (λ (d : DispatchState). record tenant { dispatch = d; pipelines = slice_set tenant.pipelines p (record pipeline { triggers = c.push.new.self }) }) dispatch_as_before
+    ∙ ap (λ queue. record tenant { pipelines = slice_set tenant.pipelines p (record pipeline { triggers = queue }) }) c.in-Err.ensures.0
     ∙ ap (λ (ps : List Pipeline). record tenant { pipelines = ps }) (written_back tenant.pipelines p pipeline at)

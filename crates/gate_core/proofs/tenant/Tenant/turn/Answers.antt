@@ -7,5 +7,5 @@ pub returns-in-Some-clause-does : goal.returns-in-Some-clause-does
 returns-in-Some-clause-does c =
     let tenant = tenant_view c.args.self.now in
     let item = c.in-Some.ensures.item in
-    turns c.args.pipeline.0 tenant c.in-Some.worker.now c.turn.new.self c.turn.result
+    turns c.args.config.now c.args.pipeline.0 tenant c.in-Some.worker.now c.turn.new.self c.turn.result
     (lent tenant.pipelines c.args.pipeline.0 c.in-Some.worker.now item.3.0 item.1) c.turn.ensures

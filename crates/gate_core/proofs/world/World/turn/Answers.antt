@@ -1,9 +1,10 @@
 use Rattle.std.proofs.Common.{map}
 use Rattle.std.proofs.lemmas.Option.{slice_get_past}
-use Rattle.gate_core.specs.Steps.{turn}
+use Rattle.gate_core.specs.Pipelines.{turned}
+use Rattle.gate_core.specs.Steps.{on_pipeline}
 use Rattle.gate_core.specs.Views.{connection_view}
 use Rattle.gate_core.proofs.Elements.{lent}
-use Rattle.gate_core.proofs.Wholes.{tenant_does, tenant_idles, still_tenants}
+use Rattle.gate_core.proofs.Wholes.{tenant_turns, tenant_idles, still_tenants}
 use Rattle.gate_core.proofs.world.World.turn.Goals as goal
 
 pub invariant_of-self-clause-tenants_by_number : goal.invariant_of-self-clause-tenants_by_number
@@ -20,9 +21,9 @@ returns-in-Some-clause-moves c =
     let old = c.in-Some.worker.now in
     let item = c.in-Some.ensures.item in
     let at = lent tenants c.args.tenant.0 old item.3.0 item.1 in
-    tenant_does (turn c.args.pipeline.0) c.args.tenant.0 (map connection_view c.args.self.now.connections.items) tenants old c.turn.new.self c.turn.result at c.turn.ensures.does
+    tenant_turns c.args.self.now.config.now c.args.tenant c.args.pipeline (map connection_view c.args.self.now.connections.items) tenants old c.turn.new.self c.turn.result at c.turn.ensures.does
 
 pub returns-in-None-clause-moves : goal.returns-in-None-clause-moves
 returns-in-None-clause-moves c =
     let tenants = c.args.self.now.tenants.items in
-    tenant_idles (turn c.args.pipeline.0) c.args.tenant.0 (map connection_view c.args.self.now.connections.items) tenants (slice_get_past tenants c.args.tenant.0 c.in-None.ensures.item.3)
+    tenant_idles (on_pipeline (turned c.args.self.now.config.now) c.args.pipeline.0) c.args.tenant.0 (map connection_view c.args.self.now.connections.items) tenants (slice_get_past tenants c.args.tenant.0 c.in-None.ensures.item.3)

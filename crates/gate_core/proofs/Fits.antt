@@ -1,0 +1,324 @@
+-- What holds of a pipeline at work, by what it was given, what it has processed and what was posted to it.
+use Rattle.std.proofs.Common.{◌≡◌, ◌∙◌, refl, sym, ap, subst, ℕ, List, [], ◌∷◌, ◌++◌, Bool, true, false, map, Option, Some, None, append_assoc, append-nil}
+use Rattle.std.specs.Prelude.{◌||◌}
+use Rattle.std.specs.List.{filter_map, list_any}
+use Rattle.std.specs.Option.{option_to_list}
+use Rattle.std.proofs.lemmas.List.{map-append}
+use Rattle.std.proofs.lemmas.List.Folds.{list_any-append}
+use Rattle.gate_record.specs.declared.ids.PipelineId.{PipelineId}
+use Rattle.gate_record.specs.declared.ids.Stamp.{Stamp}
+use Rattle.gate_record.specs.declared.transit.Stamped.{Stamped}
+use Rattle.gate_record.specs.declared.transit.PipelineItem.{PipelineItem}
+use Rattle.gate_record.specs.declared.transit.PipelineItem.TheVariants as pipeline
+use Rattle.gate_config.specs.declared.config.Config.{Config}
+use Rattle.gate_items.specs.declared.action.Action.{Action}
+use Rattle.gate_items.specs.declared.action.Action.TheVariants as action
+use Rattle.gate_items.specs.declared.action.JobResult.{JobResult}
+use Rattle.gate_items.specs.declared.action.Manage.{Manage}
+use Rattle.gate_items.specs.declared.action.Outcome.{Outcome}
+use Rattle.gate_items.specs.History.{after}
+use Rattle.gate_items.specs.Machine.{State as ItemsState, apply}
+use Rattle.gate_items.specs.Outcomes.{run}
+use Rattle.gate_pipeline.specs.declared.which.Taken.TheVariants as taking
+use Rattle.gate_pipeline.specs.Histories.{action_of, stamp_of}
+use Rattle.gate_pipeline.specs.States.{Processed, found_empty}
+use Rattle.gate_pipeline.specs.Triggers.{trigger_of}
+use Rattle.gate_tenant.specs.Histories.{items_for}
+use Rattle.gate_core.specs.declared.pipeline.Pipeline.{Pipeline}
+use Rattle.gate_core.specs.History.{managing, outcome_of, resulting, triggering}
+use Rattle.gate_core.specs.Pipelines.{fresh_pipeline, took}
+use Rattle.gate_core.specs.Promises.{no_items}
+use Rattle.gate_core.proofs.Maps.{filter_map_push}
+use Rattle.gate_core.proofs.Pushes.{or_false}
+
+abbrev pub stamp_in : PipelineItem → Option Stamp
+stamp_in (pipeline.Event s) = Some s.stamp
+stamp_in pipeline.End = None
+
+abbrev pub is_end : PipelineItem → Bool
+is_end (pipeline.Event s) = false
+is_end pipeline.End = true
+
+-- what a trigger event asks for
+abbrev pub asking : Config → ℕ → ℕ → PipelineItem → Option (Option Stamp × Action)
+asking config t p (pipeline.Event s) = Some (Some s.stamp, trigger_of config t p s)
+asking config t p pipeline.End = None
+
+-- what a pipeline took, and what waits for it, is what it was given; what it has processed is what it took, and what waits
+-- of what was posted to it is the rest of that
+pub record PipeFits (config : Config) (t p : ℕ) (given : List (PipelineId × PipelineItem)) (pipe : Pipeline) (ts : List Processed) (fin : Bool) (ms : List Manage) (rs : List JobResult) : Type 0 where
+  pub taken : List PipelineItem
+  pub parts : items_for p given ≡ taken ++ pipe.triggers
+  pub marked : list_any is_end taken ≡ pipe.worker.finished
+  pub finishes : pipe.worker.finished ≡ fin
+  pub tenant : pipe.worker.tenant ≡ t
+  pub number : pipe.worker.pipeline ≡ p
+  pub free : pipe.worker.held ≡ None
+  pub stamps : filter_map stamp_in taken ≡ pipe.worker.done
+  pub asks : filter_map triggering ts ≡ filter_map (asking config t p) taken
+  pub does : pipe.worker.done ≡ filter_map stamp_of ts
+  pub items : pipe.worker.items ≡ after (no_items config t p) (map action_of ts)
+  pub outcome : map outcome_of ts ≡ run (no_items config t p) (map action_of ts)
+  pub manages : filter_map managing (map action_of ts) ++ pipe.management ≡ ms
+  pub ends : filter_map resulting (map action_of ts) ++ pipe.results ≡ rs
+
+pub fits_new : (config : Config) (t p : ℕ) → PipeFits config t p [] (fresh_pipeline config t p) [] false [] []
+fits_new config t p = record {
+  taken = [];
+  parts = refl;
+  marked = refl;
+  finishes = refl;
+  tenant = refl;
+  number = refl;
+  free = refl;
+  stamps = refl;
+  asks = refl;
+  does = refl;
+  items = refl;
+  outcome = refl;
+  manages = refl;
+  ends = refl;
+}
+
+pub fits_same : {config : Config} {t p : ℕ} {given : List (PipelineId × PipelineItem)} {pipe : Pipeline} {ts ts' : List Processed} {fin fin' : Bool} {ms ms' : List Manage} {rs rs' : List JobResult} →
+    ts ≡ ts' → fin ≡ fin' → ms ≡ ms' → rs ≡ rs' → PipeFits config t p given pipe ts fin ms rs → PipeFits config t p given pipe ts' fin' ms' rs'
+fits_same {config} {t} {p} {given} {pipe} {ts} {ts'} {fin} {fin'} {ms} {ms'} {rs} {rs'} e f m r fits =
+    subst (λ (x : List Processed). PipeFits config t p given pipe x fin' ms' rs') e
+    (subst (λ (x : Bool). PipeFits config t p given pipe ts x ms' rs') f
+    (subst (λ (x : List Manage). PipeFits config t p given pipe ts fin x rs') m
+    (subst (λ (x : List JobResult). PipeFits config t p given pipe ts fin ms x) r fits)))
+
+-- ---- one more that is processed
+
+after_push : (s : ItemsState) (done : List Action) (a : Action) → after s (done ++ a ∷ []) ≡ (apply (after s done) a).0
+after_push s [] a = refl
+after_push s (x ∷ done) a = after_push (apply s x).0 done a
+
+run_push : (s : ItemsState) (done : List Action) (a : Action) → run s (done ++ a ∷ []) ≡ run s done ++ (a, (apply (after s done) a).1) ∷ []
+run_push s [] a = refl
+run_push s (x ∷ done) a = ap (λ (rest : List (Action × Outcome)). (x, (apply s x).1) ∷ rest) (run_push (apply s x).0 done a)
+
+module _ (config : Config) (t p : ℕ) (ts : List Processed) (s : ItemsState) (stamp : Option Stamp) (a : Action) where
+  -- an action, with the outcome that it has
+  abbrev pub one : Processed
+  one = (stamp, a, (apply s a).1)
+
+  abbrev start : ItemsState
+  start = no_items config t p
+
+  abbrev so_far : List Action
+  so_far = map action_of ts
+
+  items_more : s ≡ after start so_far → (apply s a).0 ≡ after start (map action_of (ts ++ one ∷ []))
+  items_more e = ap (λ (x : ItemsState). (apply x a).0) e ∙ sym (after_push start so_far a) ∙ ap (after start) (sym (map-append action_of ts (one ∷ [])))
+
+  outcome_more : s ≡ after start so_far → map outcome_of ts ≡ run start so_far → map outcome_of (ts ++ one ∷ []) ≡ run start (map action_of (ts ++ one ∷ []))
+  outcome_more e f =
+      map-append outcome_of ts (one ∷ [])
+      ∙ ap (λ (xs : List (Action × Outcome)). xs ++ (a, (apply s a).1) ∷ []) f
+      ∙ ap (λ (x : ItemsState). run start so_far ++ (a, (apply x a).1) ∷ []) e
+      ∙ sym (run_push start so_far a)
+      ∙ ap (run start) (sym (map-append action_of ts (one ∷ [])))
+
+  picked_more : {Y : Type 0} (f : Action → Option Y) → filter_map f (map action_of (ts ++ one ∷ [])) ≡ filter_map f so_far ++ option_to_list (f a)
+  picked_more f = ap (filter_map f) (map-append action_of ts (one ∷ [])) ∙ filter_map_push f so_far a
+
+module _ {config : Config} {t p : ℕ} {given : List (PipelineId × PipelineItem)} {pipe : Pipeline} {ts : List Processed} {fin : Bool} {ms : List Manage} {rs : List JobResult} (fits : PipeFits config t p given pipe ts fin ms rs) where
+  abbrev s : ItemsState
+  s = pipe.worker.items
+
+  abbrev asked_for : Stamped → Action
+  asked_for e = trigger_of config pipe.worker.tenant pipe.worker.pipeline e
+
+  -- a management event
+  pub fits_managed : (m : Manage) (rest : List Manage) → pipe.management ≡ m ∷ rest →
+      PipeFits config t p given (took config (taking.Manage m) (record pipe { management = rest })).0 (ts ++ one config t p ts s None (action.Manage m) ∷ []) fin ms rs
+  fits_managed m rest front =
+      let a = action.Manage m in
+      let x = one config t p ts s None a in
+      record {
+        taken = fits.taken;
+        parts = fits.parts;
+        marked = fits.marked;
+        finishes = fits.finishes;
+        tenant = fits.tenant;
+        number = fits.number;
+        free = refl;
+        stamps = fits.stamps;
+        asks = filter_map_push triggering ts x ∙ append-nil (filter_map triggering ts) ∙ fits.asks;
+        does = fits.does ∙ sym (filter_map_push stamp_of ts x ∙ append-nil (filter_map stamp_of ts));
+        items = items_more config t p ts s None a fits.items;
+        outcome = outcome_more config t p ts s None a fits.items fits.outcome;
+        manages = ap (λ (xs : List Manage). xs ++ rest) (picked_more config t p ts s None a managing)
+            ∙ append_assoc (filter_map managing (map action_of ts)) (m ∷ []) rest
+            ∙ ap (λ (xs : List Manage). filter_map managing (map action_of ts) ++ xs) (sym front) ∙ fits.manages;
+        ends = ap (λ (xs : List JobResult). xs ++ pipe.results) (picked_more config t p ts s None a resulting ∙ append-nil (filter_map resulting (map action_of ts))) ∙ fits.ends;
+      }
+
+  -- a result
+  pub fits_ended : (r : JobResult) (rest : List JobResult) → pipe.results ≡ r ∷ rest →
+      PipeFits config t p given (took config (taking.Result r) (record pipe { results = rest })).0 (ts ++ one config t p ts s None (action.Result r) ∷ []) fin ms rs
+  fits_ended r rest front =
+      let a = action.Result r in
+      let x = one config t p ts s None a in
+      record {
+        taken = fits.taken;
+        parts = fits.parts;
+        marked = fits.marked;
+        finishes = fits.finishes;
+        tenant = fits.tenant;
+        number = fits.number;
+        free = refl;
+        stamps = fits.stamps;
+        asks = filter_map_push triggering ts x ∙ append-nil (filter_map triggering ts) ∙ fits.asks;
+        does = fits.does ∙ sym (filter_map_push stamp_of ts x ∙ append-nil (filter_map stamp_of ts));
+        items = items_more config t p ts s None a fits.items;
+        outcome = outcome_more config t p ts s None a fits.items fits.outcome;
+        manages = ap (λ (xs : List Manage). xs ++ pipe.management) (picked_more config t p ts s None a managing ∙ append-nil (filter_map managing (map action_of ts))) ∙ fits.manages;
+        ends = ap (λ (xs : List JobResult). xs ++ rest) (picked_more config t p ts s None a resulting)
+            ∙ append_assoc (filter_map resulting (map action_of ts)) (r ∷ []) rest
+            ∙ ap (λ (xs : List JobResult). filter_map resulting (map action_of ts) ++ xs) (sym front) ∙ fits.ends;
+      }
+
+  -- a trigger event
+  pub fits_event : (e : Stamped) (rest : List PipelineItem) → pipe.triggers ≡ pipeline.Event e ∷ rest →
+      PipeFits config t p given (took config (taking.Trigger (pipeline.Event e)) (record pipe { triggers = rest })).0 (ts ++ one config t p ts s (Some e.stamp) (asked_for e) ∷ []) fin ms rs
+  fits_event e rest front =
+      let a = asked_for e in
+      let x = one config t p ts s (Some e.stamp) a in
+      record {
+        taken = fits.taken ++ pipeline.Event e ∷ [];
+        parts = fits.parts ∙ ap (λ (xs : List PipelineItem). fits.taken ++ xs) front ∙ sym (append_assoc fits.taken (pipeline.Event e ∷ []) rest);
+        marked = list_any-append is_end fits.taken (pipeline.Event e ∷ []) ∙ or_false (list_any is_end fits.taken) ∙ fits.marked;
+        finishes = fits.finishes;
+        tenant = fits.tenant;
+        number = fits.number;
+        free = refl;
+        stamps = filter_map_push stamp_in fits.taken (pipeline.Event e) ∙ ap (λ (xs : List Stamp). xs ++ e.stamp ∷ []) fits.stamps;
+        asks = filter_map_push triggering ts x ∙ ap (λ (xs : List (Option Stamp × Action)). xs ++ (Some e.stamp, a) ∷ []) fits.asks
+            ∙ (λ i. filter_map (asking config t p) fits.taken ++ (Some e.stamp, trigger_of config (fits.tenant i) (fits.number i) e) ∷ [])
+            ∙ sym (filter_map_push (asking config t p) fits.taken (pipeline.Event e));
+        does = ap (λ (xs : List Stamp). xs ++ e.stamp ∷ []) fits.does ∙ sym (filter_map_push stamp_of ts x);
+        items = items_more config t p ts s (Some e.stamp) a fits.items;
+        outcome = outcome_more config t p ts s (Some e.stamp) a fits.items fits.outcome;
+        manages = ap (λ (xs : List Manage). xs ++ pipe.management) (picked_more config t p ts s (Some e.stamp) a managing ∙ append-nil (filter_map managing (map action_of ts))) ∙ fits.manages;
+        ends = ap (λ (xs : List JobResult). xs ++ pipe.results) (picked_more config t p ts s (Some e.stamp) a resulting ∙ append-nil (filter_map resulting (map action_of ts))) ∙ fits.ends;
+      }
+
+  -- the end mark
+  pub fits_end : (rest : List PipelineItem) → pipe.triggers ≡ pipeline.End ∷ rest →
+      PipeFits config t p given (took config (taking.Trigger pipeline.End) (record pipe { triggers = rest })).0 ts true ms rs
+  fits_end rest front = record {
+    taken = fits.taken ++ pipeline.End ∷ [];
+    parts = fits.parts ∙ ap (λ (xs : List PipelineItem). fits.taken ++ xs) front ∙ sym (append_assoc fits.taken (pipeline.End ∷ []) rest);
+    marked = list_any-append is_end fits.taken (pipeline.End ∷ []) ∙ or_true (list_any is_end fits.taken);
+    finishes = refl;
+    tenant = fits.tenant;
+    number = fits.number;
+    free = fits.free;
+    stamps = filter_map_push stamp_in fits.taken pipeline.End ∙ append-nil (filter_map stamp_in fits.taken) ∙ fits.stamps;
+    asks = fits.asks ∙ sym (filter_map_push (asking config t p) fits.taken pipeline.End ∙ append-nil (filter_map (asking config t p) fits.taken));
+    does = fits.does;
+    items = fits.items;
+    outcome = fits.outcome;
+    manages = fits.manages;
+    ends = fits.ends;
+  }
+    where
+      or_true : (b : Bool) → (b || true) ≡ true
+      or_true true = refl
+      or_true false = refl
+
+  -- an empty queue
+  pub fits_passed : PipeFits config t p given (record pipe { worker = found_empty pipe.worker }) ts fin ms rs
+  fits_passed = record {
+    taken = fits.taken;
+    parts = fits.parts;
+    marked = fits.marked;
+    finishes = fits.finishes;
+    tenant = fits.tenant;
+    number = fits.number;
+    free = fits.free;
+    stamps = fits.stamps;
+    asks = fits.asks;
+    does = fits.does;
+    items = fits.items;
+    outcome = fits.outcome;
+    manages = fits.manages;
+    ends = fits.ends;
+  }
+
+  -- posts
+  pub fits_manage_post : (m : Manage) → PipeFits config t p given (record pipe { management = pipe.management ++ m ∷ [] }) ts fin (ms ++ m ∷ []) rs
+  fits_manage_post m = record {
+    taken = fits.taken;
+    parts = fits.parts;
+    marked = fits.marked;
+    finishes = fits.finishes;
+    tenant = fits.tenant;
+    number = fits.number;
+    free = fits.free;
+    stamps = fits.stamps;
+    asks = fits.asks;
+    does = fits.does;
+    items = fits.items;
+    outcome = fits.outcome;
+    manages = sym (append_assoc (filter_map managing (map action_of ts)) pipe.management (m ∷ [])) ∙ ap (λ (xs : List Manage). xs ++ m ∷ []) fits.manages;
+    ends = fits.ends;
+  }
+
+  pub fits_result_post : (r : JobResult) → PipeFits config t p given (record pipe { results = pipe.results ++ r ∷ [] }) ts fin ms (rs ++ r ∷ [])
+  fits_result_post r = record {
+    taken = fits.taken;
+    parts = fits.parts;
+    marked = fits.marked;
+    finishes = fits.finishes;
+    tenant = fits.tenant;
+    number = fits.number;
+    free = fits.free;
+    stamps = fits.stamps;
+    asks = fits.asks;
+    does = fits.does;
+    items = fits.items;
+    outcome = fits.outcome;
+    manages = fits.manages;
+    ends = sym (append_assoc (filter_map resulting (map action_of ts)) pipe.results (r ∷ [])) ∙ ap (λ (xs : List JobResult). xs ++ r ∷ []) fits.ends;
+  }
+
+  -- more is given, of which this is the pipeline's
+  pub fits_given : (more : List (PipelineId × PipelineItem)) (items : List PipelineItem) → items_for p more ≡ items_for p given ++ items → PipeFits config t p more (record pipe { triggers = pipe.triggers ++ items }) ts fin ms rs
+  fits_given more items e = record {
+    taken = fits.taken;
+    parts = e ∙ ap (λ (xs : List PipelineItem). xs ++ items) fits.parts ∙ append_assoc fits.taken pipe.triggers items;
+    marked = fits.marked;
+    finishes = fits.finishes;
+    tenant = fits.tenant;
+    number = fits.number;
+    free = fits.free;
+    stamps = fits.stamps;
+    asks = fits.asks;
+    does = fits.does;
+    items = fits.items;
+    outcome = fits.outcome;
+    manages = fits.manages;
+    ends = fits.ends;
+  }
+
+  -- more is given to others
+  pub fits_still : (more : List (PipelineId × PipelineItem)) → items_for p more ≡ items_for p given → PipeFits config t p more pipe ts fin ms rs
+  fits_still more e = record {
+    taken = fits.taken;
+    parts = e ∙ fits.parts;
+    marked = fits.marked;
+    finishes = fits.finishes;
+    tenant = fits.tenant;
+    number = fits.number;
+    free = fits.free;
+    stamps = fits.stamps;
+    asks = fits.asks;
+    does = fits.does;
+    items = fits.items;
+    outcome = fits.outcome;
+    manages = fits.manages;
+    ends = fits.ends;
+  }

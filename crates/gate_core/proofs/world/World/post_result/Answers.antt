@@ -1,0 +1,29 @@
+use Rattle.std.proofs.Common.{map}
+use Rattle.std.proofs.lemmas.Option.{slice_get_past}
+use Rattle.gate_core.specs.Pipelines.{post_result}
+use Rattle.gate_core.specs.Steps.{on_pipeline}
+use Rattle.gate_core.specs.Views.{connection_view}
+use Rattle.gate_core.proofs.Elements.{lent}
+use Rattle.gate_core.proofs.Wholes.{tenant_does, tenant_idles, still_tenants}
+use Rattle.gate_core.proofs.world.World.post_result.Goals as goal
+
+pub invariant_of-self-clause-tenants_by_number : goal.invariant_of-self-clause-tenants_by_number
+invariant_of-self-clause-tenants_by_number c =
+    let tenants = c.args.self.now.tenants.items in
+    let old = c.in-Some.worker.now in
+    let item = c.in-Some.ensures.item in
+    let at = lent tenants c.args.tenant.0 old item.3.0 item.1 in
+    still_tenants c.args.self.now.config.now tenants c.args.tenant.0 old c.post_result.new.self at c.args.self.now.tenants_by_number c.post_result.ensures.config c.post_result.ensures.number
+
+pub returns-in-Some-clause-moves : goal.returns-in-Some-clause-moves
+returns-in-Some-clause-moves c =
+    let tenants = c.args.self.now.tenants.items in
+    let old = c.in-Some.worker.now in
+    let item = c.in-Some.ensures.item in
+    let at = lent tenants c.args.tenant.0 old item.3.0 item.1 in
+    tenant_does (on_pipeline (post_result c.args.ended) c.args.pipeline.0) c.args.tenant.0 (map connection_view c.args.self.now.connections.items) tenants old c.post_result.new.self c.post_result.result at c.post_result.ensures.does
+
+pub returns-in-None-clause-moves : goal.returns-in-None-clause-moves
+returns-in-None-clause-moves c =
+    let tenants = c.args.self.now.tenants.items in
+    tenant_idles (on_pipeline (post_result c.args.ended) c.args.pipeline.0) c.args.tenant.0 (map connection_view c.args.self.now.connections.items) tenants (slice_get_past tenants c.args.tenant.0 c.in-None.ensures.item.3)

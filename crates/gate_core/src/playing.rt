@@ -1,0 +1,61 @@
+ghost use Rattle.std.specs.Prelude.{◌≡◌, ◌++◌, ◌<◌, ◌^◌, IfOk, length, string_bytes};
+ghost use Rattle.gate_core.specs.Replays.{script_lines, steps_in};
+ghost use Rattle.gate_core.specs.Steps.{first, left_by};
+ghost use Rattle.gate_core.specs.Worlds.{config_of, state_of};
+
+use crate::output::push_answer;
+use crate::script::Scripted;
+use crate::showing::push_shown;
+use crate::step::Step;
+use crate::world::World;
+use gate_config::Config;
+use gate_record::{Memory, PipelineId, Queue, TenantId};
+use std::alloc::Global;
+
+/// Takes the steps of a script in order, from the world in which nothing was offered yet, and gives the world that they
+/// leave. What each line of the script prints goes to the end of a text.
+pub(crate) fn play_script<'c>(
+    alloc: Global,
+    config: &'c Config,
+    script: Queue<Scripted>,
+    out: &mut String,
+) -> Result<World<'c>, Memory>
+    ensures lines { IfOk result (λ world. string_bytes out.new ≡ string_bytes out.old ++ script_lines config.entry.now (first config.entry.now) script) }
+    ensures left { IfOk result (λ world. state_of world ≡ left_by config.entry.now (first config.entry.now) (steps_in script)) }
+{
+    let mut script = script;
+    // The proof counts by it: fewer than 2^64 records are accepted, since there are no more lines.
+    let _total = script.len();
+    let mut world = World::new(alloc, config)?;
+    while let Some(line) = script.pop() {
+        match line {
+            Scripted::Step(step) => play_step(alloc, &mut world, step, out)?,
+            Scripted::Show(tenant, pipeline) => {
+                let items = world.items(TenantId(tenant), PipelineId(pipeline));
+                push_shown(out, alloc, items)?;
+            }
+        }
+    }
+    Ok(world)
+}
+
+ghost use Rattle.std.specs.Prelude.{OnOk};
+ghost use Rattle.gate_core.specs.Output.{answer_line};
+ghost use Rattle.gate_core.specs.Steps.{step_of};
+ghost use Rattle.gate_core.specs.Worlds.{HaveNumbers};
+
+// Takes a step, whose answer goes to the end of a text.
+fn play_step(
+    alloc: Global,
+    world: &mut World<'_>,
+    step: Step,
+    out: &mut String,
+) -> Result<(), Memory>
+    requires numbers { HaveNumbers (state_of world.old) }
+    ensures config { config_of world.new ≡ config_of world.old }
+    ensures left { OnOk result (state_of world.new ≡ (step_of (config_of world.old) (state_of world.old) step).0) }
+    ensures printed { OnOk result (string_bytes out.new ≡ string_bytes out.old ++ answer_line (step_of (config_of world.old) (state_of world.old) step).1) }
+{
+    let answer = world.step(step)?;
+    push_answer(out, alloc, &answer)
+}

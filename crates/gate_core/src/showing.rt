@@ -1,0 +1,215 @@
+ghost use Rattle.std.specs.Prelude.{◌≡◌, ◌++◌, flat_map, length, option_map, string_bytes, IfOk, OnOk};
+ghost use Rattle.gate_core.specs.Shows.{change_text, counts_line, item_line, items_text, job_text, key_text, outcome_word, quoted, ref_text, report_line, sets_text, shown_text, success_word};
+ghost use Rattle.gate_core.specs.States.{items_at};
+ghost use Rattle.gate_core.specs.Worlds.{state_of};
+
+use crate::output::push_number;
+use crate::world::World;
+use gate_items::{Items, Key, QueueItem, Report};
+use gate_record::{Memory, PipelineId, TenantId, Text, name_text};
+use std::alloc::Global;
+
+/// The queue items of a pipeline and what it reported, as text: how many there are of each, then a line for each item and
+/// for each report, in order; `idle` where the pipeline isn't there. `Memory` where the text finds no room.
+pub fn show_text(
+    alloc: Global,
+    world: &World<'_>,
+    tenant: TenantId,
+    pipeline: PipelineId,
+) -> Result<String, Memory>
+    ensures { IfOk result (λ text. string_bytes text ≡ shown_text (items_at tenant.0 pipeline.0 (state_of world.now))) }
+{
+    let mut out = String::new(alloc);
+    push_shown(&mut out, alloc, world.items(tenant, pipeline))?;
+    Ok(out)
+}
+
+/// Adds the items of a pipeline, if it is there, to a text.
+pub(crate) fn push_shown(
+    out: &mut String,
+    alloc: Global,
+    items: Option<&Items>,
+) -> Result<(), Memory>
+    ensures { OnOk result (string_bytes out.new ≡ string_bytes out.old ++ shown_text (option_map (λ items. items.now) items.entry)) }
+{
+    match items {
+        Some(items) => push_items(out, alloc, items),
+        None => Ok(out.push_str("idle\n")?),
+    }
+}
+
+fn push_items(out: &mut String, alloc: Global, items: &Items) -> Result<(), Memory>
+    ensures { OnOk result (string_bytes out.new ≡ string_bytes out.old ++ items_text items.now) }
+{
+    push_counts(out, alloc, items)?;
+    push_queue(out, alloc, items)?;
+    push_reports(out, alloc, items.reported())
+}
+
+fn push_counts(out: &mut String, alloc: Global, items: &Items) -> Result<(), Memory>
+    ensures { OnOk result (string_bytes out.new ≡ string_bytes out.old ++ counts_line (length items.now.items) (length items.now.reported)) }
+{
+    let count = item_count(items);
+    let reports = items.reported().len();
+    let line = format!(in alloc; "shown {count} {reports}\n")?;
+    out.push_str(line.as_str())?;
+    Ok(())
+}
+
+// How many items there are.
+fn item_count(items: &Items) -> usize
+    ensures { result ≡ length items.now.items }
+{
+    items.items().count()
+}
+
+fn push_queue(out: &mut String, alloc: Global, items: &Items) -> Result<(), Memory>
+    ensures { OnOk result (string_bytes out.new ≡ string_bytes out.old ++ flat_map item_line items.now.items) }
+{
+    for item in items.items() {
+        push_item(out, alloc, item)?;
+    }
+    Ok(())
+}
+
+fn push_reports(out: &mut String, alloc: Global, reports: &[Report]) -> Result<(), Memory>
+    ensures { OnOk result (string_bytes out.new ≡ string_bytes out.old ++ flat_map report_line reports.now) }
+{
+    for report in reports {
+        push_report(out, alloc, report)?;
+    }
+    Ok(())
+}
+
+fn push_item(out: &mut String, alloc: Global, item: &QueueItem) -> Result<(), Memory>
+    ensures { OnOk result (string_bytes out.new ≡ string_bytes out.old ++ item_line item.now) }
+{
+    push_start(out, alloc, "item ", &item.key, item.patchset, item.set)?;
+    push_jobs(out, alloc, item.jobs.as_slice())?;
+    out.push_str("\n")?;
+    Ok(())
+}
+
+fn push_report(out: &mut String, alloc: Global, report: &Report) -> Result<(), Memory>
+    ensures { OnOk result (string_bytes out.new ≡ string_bytes out.old ++ report_line report.now) }
+{
+    push_start(
+        out,
+        alloc,
+        "report ",
+        &report.key,
+        report.patchset,
+        report.set,
+    )?;
+    out.push_str(success_word(report.success))?;
+    Ok(())
+}
+
+fn success_word(success: bool) -> &'static str
+    ensures { result.now ≡ success_word success }
+{
+    if success { " success\n" } else { " failure\n" }
+}
+
+// A word, and then what an item or its report is of.
+fn push_start(
+    out: &mut String,
+    alloc: Global,
+    word: &str,
+    key: &Key,
+    patchset: i64,
+    set: u64,
+) -> Result<(), Memory>
+    ensures { OnOk result (string_bytes out.new ≡ string_bytes out.old ++ (word.now ++ (key_text key.now ++ sets_text patchset set))) }
+{
+    out.push_str(word)?;
+    push_key(out, alloc, key)?;
+    let sets = format!(in alloc; " patchset {patchset} set {set}")?;
+    out.push_str(sets.as_str())?;
+    Ok(())
+}
+
+fn push_jobs(out: &mut String, alloc: Global, jobs: &[(Text, Option<bool>)]) -> Result<(), Memory>
+    ensures { OnOk result (string_bytes out.new ≡ string_bytes out.old ++ flat_map job_text jobs.now) }
+{
+    for job in jobs {
+        push_job(out, alloc, job)?;
+    }
+    Ok(())
+}
+
+fn push_job(out: &mut String, alloc: Global, job: &(Text, Option<bool>)) -> Result<(), Memory>
+    ensures { OnOk result (string_bytes out.new ≡ string_bytes out.old ++ job_text job.now) }
+{
+    push_quoted(out, alloc, job.0.as_str())?;
+    out.push_str(outcome_word(job.1))?;
+    Ok(())
+}
+
+fn outcome_word(outcome: Option<bool>) -> &'static str
+    ensures { result.now ≡ outcome_word outcome }
+{
+    match outcome {
+        Some(true) => " success",
+        Some(false) => " failure",
+        None => " waiting",
+    }
+}
+
+fn push_key(out: &mut String, alloc: Global, key: &Key) -> Result<(), Memory>
+    ensures { OnOk result (string_bytes out.new ≡ string_bytes out.old ++ key_text key.now) }
+{
+    match key {
+        Key::Change { conn, number } => push_change(out, alloc, conn.0, *number),
+        Key::Ref {
+            conn,
+            project,
+            refname,
+            newrev,
+        } => push_ref(
+            out,
+            alloc,
+            conn.0,
+            project.as_str(),
+            refname.as_str(),
+            newrev.as_str(),
+        ),
+    }
+}
+
+fn push_change(out: &mut String, alloc: Global, conn: u32, number: i64) -> Result<(), Memory>
+    ensures { OnOk result (string_bytes out.new ≡ string_bytes out.old ++ change_text conn number) }
+{
+    out.push_str("change")?;
+    push_number(out, alloc, u64::from(conn))?;
+    let number = format!(in alloc; " {number}")?;
+    out.push_str(number.as_str())?;
+    Ok(())
+}
+
+fn push_ref(
+    out: &mut String,
+    alloc: Global,
+    conn: u32,
+    project: &str,
+    refname: &str,
+    newrev: &str,
+) -> Result<(), Memory>
+    ensures { OnOk result (string_bytes out.new ≡ string_bytes out.old ++ ref_text conn project.now refname.now newrev.now) }
+{
+    out.push_str("ref")?;
+    push_number(out, alloc, u64::from(conn))?;
+    push_quoted(out, alloc, newrev)?;
+    push_quoted(out, alloc, refname)?;
+    push_quoted(out, alloc, project)
+}
+
+// A name as JSON text, behind a space.
+fn push_quoted(out: &mut String, alloc: Global, name: &str) -> Result<(), Memory>
+    ensures { OnOk result (string_bytes out.new ≡ string_bytes out.old ++ quoted name.now) }
+{
+    let name = name_text(alloc, name)?;
+    out.push_str(" ")?;
+    out.push_str(name.as_str())?;
+    Ok(())
+}
