@@ -39,7 +39,7 @@ use Rattle.gate_core.specs.States.{ConnectionState, TenantState, State}
 use Rattle.gate_core.specs.Steps.{close, fetch, fetch_from, give, give_from, give_to, match_from, match_gathered, may_gather, offer, send_from, on_pipeline, send_of, send_to, step_of, take, take_from, with_connection, with_pipeline, with_tenant}
 use Rattle.gate_core.proofs.Going.{closed_holds, offered_holds, taken_holds}
 use Rattle.gate_core.proofs.Fits.{PipeFits, fits_end, fits_ended, fits_event, fits_manage_post, fits_managed, fits_passed, fits_result_post, fits_same}
-use Rattle.gate_core.proofs.Pushes.{IsQuiet, or_false, puts_quiet, quiet_closed, quiet_full, quiet_idle, quiet_passed, same_quiet, takes_quiet}
+use Rattle.gate_core.proofs.Pushes.{IsQuiet, or_false, or_true, puts_quiet, quiet_closed, quiet_full, quiet_idle, quiet_passed, same_quiet, takes_quiet}
 use Rattle.gate_core.proofs.SendSteps.{sent_holds}
 use Rattle.gate_core.proofs.Sendings.{differs}
 use Rattle.gate_core.proofs.Streams.{ConnSame, Holds, PipeHolds, PipeSame, conn_same, conn_untouched, pipe_same, pipe_untouched, put_same, tenant_same}
@@ -55,10 +55,6 @@ set_same (y ∷ ys) zero x e = ap (λ z. z ∷ ys) (sym (ap (λ (o : Option _). 
     first_or None d = d
     first_or (Some z) d = z
 set_same (y ∷ ys) (suc i) x e = ap (λ zs. y ∷ zs) (set_same ys i x e)
-
-or_true : (b : Bool) → (b || true) ≡ true
-or_true true = refl
-or_true false = refl
 
 -- ---- answers that leave the state as it is
 

@@ -29,7 +29,7 @@ use Rattle.gate_core.specs.History.{managing, outcome_of, resulting, triggering}
 use Rattle.gate_core.specs.Pipelines.{fresh_pipeline, took}
 use Rattle.gate_core.specs.Promises.{no_items}
 use Rattle.gate_core.proofs.Maps.{filter_map_push}
-use Rattle.gate_core.proofs.Pushes.{or_false}
+use Rattle.gate_core.proofs.Pushes.{or_false, or_true}
 
 abbrev pub stamp_in : PipelineItem → Option Stamp
 stamp_in (pipeline.Event s) = Some s.stamp
@@ -90,7 +90,7 @@ fits_same {config} {t} {p} {given} {pipe} {ts} {ts'} {fin} {fin'} {ms} {ms'} {rs
 
 -- ---- one more that is processed
 
-after_push : (s : ItemsState) (done : List Action) (a : Action) → after s (done ++ a ∷ []) ≡ (apply (after s done) a).0
+pub after_push : (s : ItemsState) (done : List Action) (a : Action) → after s (done ++ a ∷ []) ≡ (apply (after s done) a).0
 after_push s [] a = refl
 after_push s (x ∷ done) a = after_push (apply s x).0 done a
 
@@ -224,10 +224,6 @@ module _ {config : Config} {t p : ℕ} {given : List (PipelineId × PipelineItem
     manages = fits.manages;
     ends = fits.ends;
   }
-    where
-      or_true : (b : Bool) → (b || true) ≡ true
-      or_true true = refl
-      or_true false = refl
 
   -- an empty queue
   pub fits_passed : PipeFits config t p given (record pipe { worker = found_empty pipe.worker }) ts fin ms rs

@@ -24,17 +24,13 @@ use Rattle.gate_core.specs.History.{History, actions, asked_by, done, manage_pos
 use Rattle.gate_core.specs.Late.{LateIsDiscarded, actions_in}
 use Rattle.gate_core.specs.Promises.{IsPrefixOf, Keeps, Processes, no_items}
 use Rattle.gate_core.specs.States.{State, TenantState, items_at}
-use Rattle.gate_core.proofs.Fits.{asking, stamp_in}
+use Rattle.gate_core.proofs.Fits.{after_push, asking, stamp_in}
 use Rattle.gate_core.proofs.Genuine.{AllOf, IsAsked, ItemIs, TriggerIs, all_at, all_from, all_front, asked_are, chosen_are, forwarded_are}
 use Rattle.gate_core.proofs.Outcomes.{all_chosen, head_same, tail_same}
 use Rattle.gate_core.proofs.Streams.{Holds, PipeHolds, TenantHolds, is_from, pipe_of}
 use Rattle.gate_core.proofs.Working.{the_same}
 
 -- ---- outcomes, one after another
-
-after_push : (s : ItemsState) (done : List Action) (a : Action) → after s (done ++ a ∷ []) ≡ (apply (after s done) a).0
-after_push s [] a = refl
-after_push s (x ∷ done) a = after_push (apply s x).0 done a
 
 -- the outcome at a place is that behind all before it
 outcome_at : (s : ItemsState) (done : List Action) (front : List (Action × Outcome)) (a : Action) (o : Outcome) (rest : List (Action × Outcome)) → run s done ≡ front ++ (a, o) ∷ rest → o ≡ (apply (after s (actions_in front)) a).1

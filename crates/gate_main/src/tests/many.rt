@@ -50,7 +50,7 @@ fn configuration(alloc: Global) -> Result<String, AllocError> {
 }
 
 // So many times the same line.
-fn push_times(to: &mut String, times: u32, line: &str) -> Result<(), AllocError> {
+pub fn push_times(to: &mut String, times: u32, line: &str) -> Result<(), AllocError> {
     for _ in 0..times {
         to.push_str(line)?;
     }

@@ -1,5 +1,6 @@
 //! Queue items, their build sets and the order in which a pipeline works, as scripts.
 use super::*;
+use crate::tests::many::push_times;
 use crate::tests::several::printed_under;
 use gate_core::{ReplayFault, ScriptFault};
 
@@ -211,14 +212,6 @@ fn sends_dependent_items_back(rt: HostRuntime) -> Result<(), Fail> {
             printed_under(&rt, rt.alloc(), config, script.as_str()).as_str(),
             wanted.as_str()
         );
-    }
-    Ok(())
-}
-
-// So many times the same line.
-fn push_times(to: &mut String, times: u32, line: &str) -> Result<(), AllocError> {
-    for _ in 0..times {
-        to.push_str(line)?;
     }
     Ok(())
 }
