@@ -1,6 +1,6 @@
 -- Each step keeps what holds.
 use Rattle.std.proofs.Common.{◌≡◌, ◌∙◌, refl, sym, ap, subst, ℕ, zero, suc, ◌+◌, ◌==◌, List, [], ◌∷◌, ◌++◌, Bool, true, false, length, Option, Some, None, slice_set, append-nil, arith, if◌then◌else◌}
-use Rattle.std.specs.Prelude.{◌&&◌, ◌||◌, is_some, nat_lt, not, slice_get}
+use Rattle.std.specs.Prelude.{◌&&◌, is_some, nat_lt, not, slice_get}
 use Rattle.std.proofs.lemmas.Bool.{ltb-true}
 use Rattle.gate_record.specs.declared.ids.ConnId.{ConnId}
 use Rattle.gate_record.specs.declared.ids.PipelineId.{PipelineId}
@@ -22,9 +22,10 @@ use Rattle.gate_items.specs.Machine.{apply}
 use Rattle.gate_pipeline.specs.declared.pass.Phase.{Phase}
 use Rattle.gate_pipeline.specs.declared.pass.Phase.TheVariants as phase
 use Rattle.gate_pipeline.specs.declared.which.Held.{Held}
+use Rattle.gate_pipeline.specs.declared.which.Held.TheVariants as held
 use Rattle.gate_pipeline.specs.declared.which.Taken.TheVariants as taken
 use Rattle.gate_pipeline.specs.declared.which.Which.TheVariants as which
-use Rattle.gate_pipeline.specs.States.{queue_of}
+use Rattle.gate_pipeline.specs.States.{queue_of, with_processed}
 use Rattle.gate_pipeline.specs.Triggers.{trigger_of}
 use Rattle.gate_tenant.specs.States.{has_ended, room_of}
 use Rattle.gate_core.specs.declared.answer.Answer.{Answer}
@@ -32,13 +33,13 @@ use Rattle.gate_core.specs.declared.answer.Answer.TheVariants.{Accepted, Closed,
 use Rattle.gate_core.specs.declared.pipeline.Pipeline.{Pipeline}
 use Rattle.gate_core.specs.declared.step.Step.{Step}
 use Rattle.gate_core.specs.declared.step.Step.TheVariants as step
-use Rattle.gate_core.specs.History.{History, finished, manage_posts, result_posts}
+use Rattle.gate_core.specs.History.{History, finished, manage_posts, result_posts, triggering}
 use Rattle.gate_core.specs.History.{turned as turned_of}
-use Rattle.gate_core.specs.Pipelines.{first_ended, first_managed, first_triggered, found_where, passed_on, post_manage, post_result, took, turned, turned_by}
+use Rattle.gate_core.specs.Pipelines.{answer_of, first_ended, first_managed, first_triggered, found_where, passed_on, post_manage, post_result, took, turned, turned_by}
 use Rattle.gate_core.specs.States.{ConnectionState, TenantState, State}
 use Rattle.gate_core.specs.Steps.{close, fetch, fetch_from, give, give_from, give_to, match_from, match_gathered, may_gather, offer, send_from, on_pipeline, send_of, send_to, step_of, take, take_from, with_connection, with_pipeline, with_tenant}
 use Rattle.gate_core.proofs.Going.{closed_holds, offered_holds, taken_holds}
-use Rattle.gate_core.proofs.Fits.{PipeFits, fits_end, fits_ended, fits_event, fits_manage_post, fits_managed, fits_passed, fits_result_post, fits_same}
+use Rattle.gate_core.proofs.Fits.{IsNoTrigger, PipeFits, fits_end, fits_manage_post, fits_passed, fits_result_post, fits_same, frees_action, frees_event, holds_ended, holds_event, holds_managed}
 use Rattle.gate_core.proofs.Pushes.{IsQuiet, or_false, or_true, puts_quiet, quiet_closed, quiet_full, quiet_idle, quiet_passed, same_quiet, takes_quiet}
 use Rattle.gate_core.proofs.SendSteps.{sent_holds}
 use Rattle.gate_core.proofs.Sendings.{differs}
@@ -47,7 +48,7 @@ use Rattle.gate_core.proofs.Turning.{another_one, manage_fits, pipeline_goes, re
 use Rattle.gate_core.proofs.Working.{fetched_holds, given_holds, matched_holds}
 use Rattle.gate_forward.specs.Forwarding.{forwarded}
 
-set_same : {X : Type 0} (xs : List X) (i : ℕ) (x : X) → slice_get xs i ≡ Some x → slice_set xs i x ≡ xs
+pub set_same : {X : Type 0} (xs : List X) (i : ℕ) (x : X) → slice_get xs i ≡ Some x → slice_set xs i x ≡ xs
 set_same [] i x e = refl
 set_same (y ∷ ys) zero x e = ap (λ z. z ∷ ys) (sym (ap (λ (o : Option _). first_or o x) e))
   where
@@ -232,12 +233,12 @@ module _ (config : Config) (h : History) (state : State) (holds : Holds config h
     -- nothing is processed, posted or ended
     quiet_goes : (s : Step) (next : Pipeline) (a : Answer) → IsQuiet a → PipeHolds config h tid.0 pid.0 given next → PipeGoes s tid pid ten (next, a)
     quiet_goes s next a q fits =
-        pipeline_goes config h state s tid pid a ten pipe next at whose (quiet_conn h s a q) (λ t p differ. quiet_pipe h s a q t p) holds
+        pipeline_goes config h (h ++ (s, a) ∷ []) state tid pid ten pipe next at whose (quiet_conn h s a q) (λ t p differ. quiet_pipe h s a q t p) holds
         (pipe_same config h (h ++ (s, a) ∷ []) tid.0 pid.0 given next (quiet_pipe h s a q tid.0 pid.0) fits)
 
     turn_moves : (next : Pipeline) (a : Answer) → PipeHolds config (h ++ (step.Turn tid pid, a) ∷ []) tid.0 pid.0 given next → PipeGoes (step.Turn tid pid) tid pid ten (next, a)
     turn_moves next a new =
-        pipeline_goes config h state (step.Turn tid pid) tid pid a ten pipe next at whose
+        pipeline_goes config h (h ++ (step.Turn tid pid, a) ∷ []) state tid pid ten pipe next at whose
         (λ c. conn_untouched c h (step.Turn tid pid) a refl refl refl)
         (λ t p differ. pipe_untouched t p h (step.Turn tid pid) a (another_one tid pid t p differ) refl refl) holds new
 
@@ -251,41 +252,59 @@ module _ (config : Config) (h : History) (state : State) (holds : Holds config h
     passes : PipeGoes (step.Turn tid pid) tid pid ten (passed_on pipe)
     passes = quiet_goes (step.Turn tid pid) (passed_on pipe).0 Passed quiet_passed (fits_passed old)
 
-    managed_goes : (ms : List Manage) → pipe.management ≡ ms → PipeGoes (step.Turn tid pid) tid pid ten (turned_by config (first_managed ms pipe) pipe)
-    managed_goes [] e = passes
-    managed_goes (m ∷ rest) e =
-        processes (took config (taken.Manage m) (record pipe { management = rest })).0 None (action.Manage m) (apply pipe.worker.items (action.Manage m)).1 (fits_managed old m rest e)
+    managed_goes : (ms : List Manage) → pipe.management ≡ ms → pipe.worker.held ≡ None → PipeGoes (step.Turn tid pid) tid pid ten (turned_by config (first_managed ms pipe) pipe)
+    managed_goes [] e free = passes
+    managed_goes (m ∷ rest) e free =
+        processes (took config (taken.Manage m) (record pipe { management = rest })).0 None (action.Manage m) (apply pipe.worker.items (action.Manage m)).1
+        (frees_action (holds_managed old m rest e free) (action.Manage m) refl refl)
 
-    ended_goes : (rs : List JobResult) → pipe.results ≡ rs → PipeGoes (step.Turn tid pid) tid pid ten (turned_by config (first_ended rs pipe) pipe)
-    ended_goes [] e = passes
-    ended_goes (r ∷ rest) e =
-        processes (took config (taken.Result r) (record pipe { results = rest })).0 None (action.Result r) (apply pipe.worker.items (action.Result r)).1 (fits_ended old r rest e)
+    ended_goes : (rs : List JobResult) → pipe.results ≡ rs → pipe.worker.held ≡ None → PipeGoes (step.Turn tid pid) tid pid ten (turned_by config (first_ended rs pipe) pipe)
+    ended_goes [] e free = passes
+    ended_goes (r ∷ rest) e free =
+        processes (took config (taken.Result r) (record pipe { results = rest })).0 None (action.Result r) (apply pipe.worker.items (action.Result r)).1
+        (frees_action (holds_ended old r rest e free) (action.Result r) refl refl)
 
-    triggered_goes : (items : List PipelineItem) → pipe.triggers ≡ items → PipeGoes (step.Turn tid pid) tid pid ten (turned_by config (first_triggered items pipe) pipe)
-    triggered_goes [] e = passes
-    triggered_goes (item.Event s ∷ rest) e =
+    triggered_goes : (items : List PipelineItem) → pipe.triggers ≡ items → pipe.worker.held ≡ None → PipeGoes (step.Turn tid pid) tid pid ten (turned_by config (first_triggered items pipe) pipe)
+    triggered_goes [] e free = passes
+    triggered_goes (item.Event s ∷ rest) e free =
         let a = trigger_of config pipe.worker.tenant pipe.worker.pipeline s in
-        processes (took config (taken.Trigger (item.Event s)) (record pipe { triggers = rest })).0 (Some s.stamp) a (apply pipe.worker.items a).1 (fits_event old s rest e)
-    triggered_goes (item.End ∷ rest) e =
+        processes (took config (taken.Trigger (item.Event s)) (record pipe { triggers = rest })).0 (Some s.stamp) a (apply pipe.worker.items a).1
+        (frees_event (holds_event old s rest e free) s refl)
+    triggered_goes (item.End ∷ rest) e free =
         turn_moves (took config (taken.Trigger item.End) (record pipe { triggers = rest })).0 Moved
         (turn_fits config h tid pid Moved given (took config (taken.Trigger item.End) (record pipe { triggers = rest })).0
-        (fits_same (sym (append-nil (turned_of tid.0 pid.0 h))) (sym (or_true (finished tid.0 pid.0 h))) refl refl (fits_end old rest e)))
+        (fits_same (sym (append-nil (turned_of tid.0 pid.0 h))) (sym (or_true (finished tid.0 pid.0 h))) refl refl (fits_end old rest e free)))
 
-    -- nothing is ever held, since memory was never refused
+    -- what is held is processed
+    abbrev freed : Option Held → Pipeline × Answer
+    freed waiting = (record pipe { worker = (with_processed config waiting pipe.worker).0 }, answer_of (with_processed config waiting pipe.worker).1)
+
+    action_goes : (a : Action) → pipe.worker.held ≡ Some (held.Action a) → triggering (None, a, (apply pipe.worker.items a).1) ≡ None → PipeGoes (step.Turn tid pid) tid pid ten (freed (Some (held.Action a)))
+    action_goes a waits no_trigger = processes (freed (Some (held.Action a))).0 None a (apply pipe.worker.items a).1 (frees_action old a waits no_trigger)
+
+    held_goes : (waits : Held) → pipe.worker.held ≡ Some waits → IsNoTrigger (Some waits) → PipeGoes (step.Turn tid pid) tid pid ten (freed (Some waits))
+    held_goes (held.Event s) e plain =
+        let a = trigger_of config pipe.worker.tenant pipe.worker.pipeline s in
+        processes (freed (Some (held.Event s))).0 (Some s.stamp) a (apply pipe.worker.items a).1 (frees_event old s e)
+    held_goes (held.Action (action.Manage m)) e plain = action_goes (action.Manage m) e refl
+    held_goes (held.Action (action.Result r)) e plain = action_goes (action.Result r) e refl
+    held_goes (held.Action (action.Trigger key patchset jobs)) e plain = absurd plain
+
     turn_by : (fin : Bool) (waiting : Option Held) (now : Phase) → pipe.worker.held ≡ waiting →
         PipeGoes (step.Turn tid pid) tid pid ten (turned_by config (found_where (if fin then which.Finished else (if is_some waiting then which.Held else queue_of now)) pipe) pipe)
     turn_by true waiting now e = quiet_goes (step.Turn tid pid) pipe Idle quiet_idle old
-    turn_by false (Some waits) now e = let none : pipe.worker.held ≡ None = old.free in absurd (cc)
-    turn_by false None phase.Management e = managed_goes pipe.management refl
-    turn_by false None phase.Result e = ended_goes pipe.results refl
-    turn_by false None phase.Trigger e = triggered_goes pipe.triggers refl
+    turn_by false (Some waits) now e =
+        subst (λ (o : Option Held). PipeGoes (step.Turn tid pid) tid pid ten (freed o)) (sym e) (held_goes waits e (subst IsNoTrigger e old.plain))
+    turn_by false None phase.Management e = managed_goes pipe.management refl e
+    turn_by false None phase.Result e = ended_goes pipe.results refl e
+    turn_by false None phase.Trigger e = triggered_goes pipe.triggers refl e
 
     turned_goes : PipeGoes (step.Turn tid pid) tid pid ten (turned config pipe)
     turned_goes = turn_by pipe.worker.finished pipe.worker.held pipe.worker.pass.phase refl
 
     managed_by : (m : Manage) (room : Bool) → PipeGoes (step.PostManage tid pid m) tid pid ten (if room then (record pipe { management = pipe.management ++ m ∷ [] }, Moved) else (pipe, Full))
     managed_by m true =
-        pipeline_goes config h state (step.PostManage tid pid m) tid pid Moved ten pipe (record pipe { management = pipe.management ++ m ∷ [] }) at whose
+        pipeline_goes config h (h ++ (step.PostManage tid pid m, Moved) ∷ []) state tid pid ten pipe (record pipe { management = pipe.management ++ m ∷ [] }) at whose
         (λ c. conn_untouched c h (step.PostManage tid pid m) Moved refl refl refl)
         (λ t p differ. pipe_untouched t p h (step.PostManage tid pid m) Moved refl (ap (λ b. if b then Some m else None) (another_one tid pid t p differ)) refl) holds
         (manage_fits config h tid pid Moved given (record pipe { management = pipe.management ++ m ∷ [] }) m (fits_manage_post old m))
@@ -293,7 +312,7 @@ module _ (config : Config) (h : History) (state : State) (holds : Holds config h
 
     ended_by : (r : JobResult) (room : Bool) → PipeGoes (step.PostResult tid pid r) tid pid ten (if room then (record pipe { results = pipe.results ++ r ∷ [] }, Moved) else (pipe, Full))
     ended_by r true =
-        pipeline_goes config h state (step.PostResult tid pid r) tid pid Moved ten pipe (record pipe { results = pipe.results ++ r ∷ [] }) at whose
+        pipeline_goes config h (h ++ (step.PostResult tid pid r, Moved) ∷ []) state tid pid ten pipe (record pipe { results = pipe.results ++ r ∷ [] }) at whose
         (λ c. conn_untouched c h (step.PostResult tid pid r) Moved refl refl refl)
         (λ t p differ. pipe_untouched t p h (step.PostResult tid pid r) Moved refl refl (ap (λ b. if b then Some r else None) (another_one tid pid t p differ))) holds
         (result_fits config h tid pid Moved given (record pipe { results = pipe.results ++ r ∷ [] }) r (fits_result_post old r))

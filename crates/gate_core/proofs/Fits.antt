@@ -1,6 +1,5 @@
 -- What holds of a pipeline at work, by what it was given, what it has processed and what was posted to it.
 use Rattle.std.proofs.Common.{◌≡◌, ◌∙◌, refl, sym, ap, subst, ℕ, List, [], ◌∷◌, ◌++◌, Bool, true, false, map, Option, Some, None, append_assoc, append-nil}
-use Rattle.std.specs.Prelude.{◌||◌}
 use Rattle.std.specs.List.{filter_map, list_any}
 use Rattle.std.specs.Option.{option_to_list}
 use Rattle.std.proofs.lemmas.List.{map-append}
@@ -19,9 +18,11 @@ use Rattle.gate_items.specs.declared.action.Outcome.{Outcome}
 use Rattle.gate_items.specs.History.{after}
 use Rattle.gate_items.specs.Machine.{State as ItemsState, apply}
 use Rattle.gate_items.specs.Outcomes.{run}
+use Rattle.gate_pipeline.specs.declared.which.Held.{Held}
+use Rattle.gate_pipeline.specs.declared.which.Held.TheVariants as held
 use Rattle.gate_pipeline.specs.declared.which.Taken.TheVariants as taking
 use Rattle.gate_pipeline.specs.Histories.{action_of, stamp_of}
-use Rattle.gate_pipeline.specs.States.{Processed, found_empty}
+use Rattle.gate_pipeline.specs.States.{Processed, counted, found_empty, held_as, processed}
 use Rattle.gate_pipeline.specs.Triggers.{trigger_of}
 use Rattle.gate_tenant.specs.Histories.{items_for}
 use Rattle.gate_core.specs.declared.pipeline.Pipeline.{Pipeline}
@@ -44,23 +45,57 @@ abbrev pub asking : Config → ℕ → ℕ → PipelineItem → Option (Option S
 asking config t p (pipeline.Event s) = Some (Some s.stamp, trigger_of config t p s)
 asking config t p pipeline.End = None
 
--- what a pipeline took, and what waits for it, is what it was given; what it has processed is what it took, and what waits
--- of what was posted to it is the rest of that
+-- what is held, as it stood in its queue
+abbrev pub held_items : Option Held → List PipelineItem
+held_items None = []
+held_items (Some (held.Event e)) = pipeline.Event e ∷ []
+held_items (Some (held.Action a)) = []
+
+abbrev pub held_managed : Option Held → List Manage
+held_managed None = []
+held_managed (Some (held.Event e)) = []
+held_managed (Some (held.Action a)) = option_to_list (managing a)
+
+abbrev pub held_ended : Option Held → List JobResult
+held_ended None = []
+held_ended (Some (held.Event e)) = []
+held_ended (Some (held.Action a)) = option_to_list (resulting a)
+
+-- a trigger is held as its event
+abbrev pub IsNoTrigger : Option Held → Type 0
+IsNoTrigger None = Unit {0}
+IsNoTrigger (Some (held.Event e)) = Unit {0}
+IsNoTrigger (Some (held.Action (action.Manage m))) = Unit {0}
+IsNoTrigger (Some (held.Action (action.Result r))) = Unit {0}
+IsNoTrigger (Some (held.Action (action.Trigger key patchset jobs))) = ⊥
+
+-- what waits for a pipeline: what is held is the first of it
+abbrev pub waiting_items : Pipeline → List PipelineItem
+waiting_items pipe = held_items pipe.worker.held ++ pipe.triggers
+
+abbrev pub waiting_managed : Pipeline → List Manage
+waiting_managed pipe = held_managed pipe.worker.held ++ pipe.management
+
+abbrev pub waiting_ended : Pipeline → List JobResult
+waiting_ended pipe = held_ended pipe.worker.held ++ pipe.results
+
+-- what a pipeline processed of its triggers, and what waits for it, is what it was given; what it has processed is what it
+-- took, and what waits of what was posted to it is the rest of that
 pub record PipeFits (config : Config) (t p : ℕ) (given : List (PipelineId × PipelineItem)) (pipe : Pipeline) (ts : List Processed) (fin : Bool) (ms : List Manage) (rs : List JobResult) : Type 0 where
   pub taken : List PipelineItem
-  pub parts : items_for p given ≡ taken ++ pipe.triggers
+  pub parts : items_for p given ≡ taken ++ waiting_items pipe
   pub marked : list_any is_end taken ≡ pipe.worker.finished
   pub finishes : pipe.worker.finished ≡ fin
   pub tenant : pipe.worker.tenant ≡ t
   pub number : pipe.worker.pipeline ≡ p
-  pub free : pipe.worker.held ≡ None
+  pub plain : IsNoTrigger pipe.worker.held
   pub stamps : filter_map stamp_in taken ≡ pipe.worker.done
   pub asks : filter_map triggering ts ≡ filter_map (asking config t p) taken
   pub does : pipe.worker.done ≡ filter_map stamp_of ts
   pub items : pipe.worker.items ≡ after (no_items config t p) (map action_of ts)
   pub outcome : map outcome_of ts ≡ run (no_items config t p) (map action_of ts)
-  pub manages : filter_map managing (map action_of ts) ++ pipe.management ≡ ms
-  pub ends : filter_map resulting (map action_of ts) ++ pipe.results ≡ rs
+  pub manages : filter_map managing (map action_of ts) ++ waiting_managed pipe ≡ ms
+  pub ends : filter_map resulting (map action_of ts) ++ waiting_ended pipe ≡ rs
 
 pub fits_new : (config : Config) (t p : ℕ) → PipeFits config t p [] (fresh_pipeline config t p) [] false [] []
 fits_new config t p = record {
@@ -70,7 +105,7 @@ fits_new config t p = record {
   finishes = refl;
   tenant = refl;
   number = refl;
-  free = refl;
+  plain = tt;
   stamps = refl;
   asks = refl;
   does = refl;
@@ -130,70 +165,51 @@ module _ {config : Config} {t p : ℕ} {given : List (PipelineId × PipelineItem
   abbrev asked_for : Stamped → Action
   asked_for e = trigger_of config pipe.worker.tenant pipe.worker.pipeline e
 
-  -- a management event
-  pub fits_managed : (m : Manage) (rest : List Manage) → pipe.management ≡ m ∷ rest →
-      PipeFits config t p given (took config (taking.Manage m) (record pipe { management = rest })).0 (ts ++ one config t p ts s None (action.Manage m) ∷ []) fin ms rs
-  fits_managed m rest front =
-      let a = action.Manage m in
-      let x = one config t p ts s None a in
-      record {
-        taken = fits.taken;
-        parts = fits.parts;
-        marked = fits.marked;
-        finishes = fits.finishes;
-        tenant = fits.tenant;
-        number = fits.number;
-        free = refl;
-        stamps = fits.stamps;
-        asks = filter_map_push triggering ts x ∙ append-nil (filter_map triggering ts) ∙ fits.asks;
-        does = fits.does ∙ sym (filter_map_push stamp_of ts x ∙ append-nil (filter_map stamp_of ts));
-        items = items_more config t p ts s None a fits.items;
-        outcome = outcome_more config t p ts s None a fits.items fits.outcome;
-        manages = ap (λ (xs : List Manage). xs ++ rest) (picked_more config t p ts s None a managing)
-            ∙ append_assoc (filter_map managing (map action_of ts)) (m ∷ []) rest
-            ∙ ap (λ (xs : List Manage). filter_map managing (map action_of ts) ++ xs) (sym front) ∙ fits.manages;
-        ends = ap (λ (xs : List JobResult). xs ++ pipe.results) (picked_more config t p ts s None a resulting ∙ append-nil (filter_map resulting (map action_of ts))) ∙ fits.ends;
-      }
+  -- ---- what is held is processed
 
-  -- a result
-  pub fits_ended : (r : JobResult) (rest : List JobResult) → pipe.results ≡ r ∷ rest →
-      PipeFits config t p given (took config (taking.Result r) (record pipe { results = rest })).0 (ts ++ one config t p ts s None (action.Result r) ∷ []) fin ms rs
-  fits_ended r rest front =
-      let a = action.Result r in
+  abbrev freed : Held → Pipeline
+  freed waits = record pipe { worker = (processed config waits (held_as None pipe.worker)).0 }
+
+  -- a management event or a result
+  pub frees_action : (a : Action) → pipe.worker.held ≡ Some (held.Action a) → triggering (one config t p ts s None a) ≡ None →
+      PipeFits config t p given (freed (held.Action a)) (ts ++ one config t p ts s None a ∷ []) fin ms rs
+  frees_action a waits no_trigger =
       let x = one config t p ts s None a in
       record {
         taken = fits.taken;
-        parts = fits.parts;
+        parts = fits.parts ∙ ap (λ (o : Option Held). fits.taken ++ (held_items o ++ pipe.triggers)) waits;
         marked = fits.marked;
         finishes = fits.finishes;
         tenant = fits.tenant;
         number = fits.number;
-        free = refl;
+        plain = tt;
         stamps = fits.stamps;
-        asks = filter_map_push triggering ts x ∙ append-nil (filter_map triggering ts) ∙ fits.asks;
+        asks = filter_map_push triggering ts x ∙ ap (λ (o : Option (Option Stamp × Action)). filter_map triggering ts ++ option_to_list o) no_trigger ∙ append-nil (filter_map triggering ts) ∙ fits.asks;
         does = fits.does ∙ sym (filter_map_push stamp_of ts x ∙ append-nil (filter_map stamp_of ts));
         items = items_more config t p ts s None a fits.items;
         outcome = outcome_more config t p ts s None a fits.items fits.outcome;
-        manages = ap (λ (xs : List Manage). xs ++ pipe.management) (picked_more config t p ts s None a managing ∙ append-nil (filter_map managing (map action_of ts))) ∙ fits.manages;
-        ends = ap (λ (xs : List JobResult). xs ++ rest) (picked_more config t p ts s None a resulting)
-            ∙ append_assoc (filter_map resulting (map action_of ts)) (r ∷ []) rest
-            ∙ ap (λ (xs : List JobResult). filter_map resulting (map action_of ts) ++ xs) (sym front) ∙ fits.ends;
+        manages = ap (λ (xs : List Manage). xs ++ pipe.management) (picked_more config t p ts s None a managing)
+            ∙ append_assoc (filter_map managing (map action_of ts)) (option_to_list (managing a)) pipe.management
+            ∙ ap (λ (o : Option Held). filter_map managing (map action_of ts) ++ (held_managed o ++ pipe.management)) (sym waits) ∙ fits.manages;
+        ends = ap (λ (xs : List JobResult). xs ++ pipe.results) (picked_more config t p ts s None a resulting)
+            ∙ append_assoc (filter_map resulting (map action_of ts)) (option_to_list (resulting a)) pipe.results
+            ∙ ap (λ (o : Option Held). filter_map resulting (map action_of ts) ++ (held_ended o ++ pipe.results)) (sym waits) ∙ fits.ends;
       }
 
   -- a trigger event
-  pub fits_event : (e : Stamped) (rest : List PipelineItem) → pipe.triggers ≡ pipeline.Event e ∷ rest →
-      PipeFits config t p given (took config (taking.Trigger (pipeline.Event e)) (record pipe { triggers = rest })).0 (ts ++ one config t p ts s (Some e.stamp) (asked_for e) ∷ []) fin ms rs
-  fits_event e rest front =
+  pub frees_event : (e : Stamped) → pipe.worker.held ≡ Some (held.Event e) →
+      PipeFits config t p given (freed (held.Event e)) (ts ++ one config t p ts s (Some e.stamp) (asked_for e) ∷ []) fin ms rs
+  frees_event e waits =
       let a = asked_for e in
       let x = one config t p ts s (Some e.stamp) a in
       record {
         taken = fits.taken ++ pipeline.Event e ∷ [];
-        parts = fits.parts ∙ ap (λ (xs : List PipelineItem). fits.taken ++ xs) front ∙ sym (append_assoc fits.taken (pipeline.Event e ∷ []) rest);
+        parts = fits.parts ∙ ap (λ (o : Option Held). fits.taken ++ (held_items o ++ pipe.triggers)) waits ∙ sym (append_assoc fits.taken (pipeline.Event e ∷ []) pipe.triggers);
         marked = list_any-append is_end fits.taken (pipeline.Event e ∷ []) ∙ or_false (list_any is_end fits.taken) ∙ fits.marked;
         finishes = fits.finishes;
         tenant = fits.tenant;
         number = fits.number;
-        free = refl;
+        plain = tt;
         stamps = filter_map_push stamp_in fits.taken (pipeline.Event e) ∙ ap (λ (xs : List Stamp). xs ++ e.stamp ∷ []) fits.stamps;
         asks = filter_map_push triggering ts x ∙ ap (λ (xs : List (Option Stamp × Action)). xs ++ (Some e.stamp, a) ∷ []) fits.asks
             ∙ (λ i. filter_map (asking config t p) fits.taken ++ (Some e.stamp, trigger_of config (fits.tenant i) (fits.number i) e) ∷ [])
@@ -201,21 +217,98 @@ module _ {config : Config} {t p : ℕ} {given : List (PipelineId × PipelineItem
         does = ap (λ (xs : List Stamp). xs ++ e.stamp ∷ []) fits.does ∙ sym (filter_map_push stamp_of ts x);
         items = items_more config t p ts s (Some e.stamp) a fits.items;
         outcome = outcome_more config t p ts s (Some e.stamp) a fits.items fits.outcome;
-        manages = ap (λ (xs : List Manage). xs ++ pipe.management) (picked_more config t p ts s (Some e.stamp) a managing ∙ append-nil (filter_map managing (map action_of ts))) ∙ fits.manages;
-        ends = ap (λ (xs : List JobResult). xs ++ pipe.results) (picked_more config t p ts s (Some e.stamp) a resulting ∙ append-nil (filter_map resulting (map action_of ts))) ∙ fits.ends;
+        manages = ap (λ (xs : List Manage). xs ++ pipe.management) (picked_more config t p ts s (Some e.stamp) a managing ∙ append-nil (filter_map managing (map action_of ts)))
+            ∙ ap (λ (o : Option Held). filter_map managing (map action_of ts) ++ (held_managed o ++ pipe.management)) (sym waits) ∙ fits.manages;
+        ends = ap (λ (xs : List JobResult). xs ++ pipe.results) (picked_more config t p ts s (Some e.stamp) a resulting ∙ append-nil (filter_map resulting (map action_of ts)))
+            ∙ ap (λ (o : Option Held). filter_map resulting (map action_of ts) ++ (held_ended o ++ pipe.results)) (sym waits) ∙ fits.ends;
       }
 
+  -- ---- what was taken is held
+
+  abbrev free_parts : pipe.worker.held ≡ None → items_for p given ≡ fits.taken ++ pipe.triggers
+  free_parts free = fits.parts ∙ ap (λ (o : Option Held). fits.taken ++ (held_items o ++ pipe.triggers)) free
+
+  abbrev free_manages : pipe.worker.held ≡ None → filter_map managing (map action_of ts) ++ pipe.management ≡ ms
+  free_manages free = ap (λ (o : Option Held). filter_map managing (map action_of ts) ++ (held_managed o ++ pipe.management)) (sym free) ∙ fits.manages
+
+  abbrev free_ends : pipe.worker.held ≡ None → filter_map resulting (map action_of ts) ++ pipe.results ≡ rs
+  free_ends free = ap (λ (o : Option Held). filter_map resulting (map action_of ts) ++ (held_ended o ++ pipe.results)) (sym free) ∙ fits.ends
+
+  abbrev keeping : Held → Pipeline → Pipeline
+  keeping waits left = record left { worker = held_as (Some waits) (counted pipe.worker) }
+
+  -- a management event
+  pub holds_managed : (m : Manage) (rest : List Manage) → pipe.management ≡ m ∷ rest → pipe.worker.held ≡ None →
+      PipeFits config t p given (keeping (held.Action (action.Manage m)) (record pipe { management = rest })) ts fin ms rs
+  holds_managed m rest front free = record {
+    taken = fits.taken;
+    parts = free_parts free;
+    marked = fits.marked;
+    finishes = fits.finishes;
+    tenant = fits.tenant;
+    number = fits.number;
+    plain = tt;
+    stamps = fits.stamps;
+    asks = fits.asks;
+    does = fits.does;
+    items = fits.items;
+    outcome = fits.outcome;
+    manages = ap (λ (xs : List Manage). filter_map managing (map action_of ts) ++ xs) (sym front) ∙ free_manages free;
+    ends = free_ends free;
+  }
+
+  -- a result
+  pub holds_ended : (r : JobResult) (rest : List JobResult) → pipe.results ≡ r ∷ rest → pipe.worker.held ≡ None →
+      PipeFits config t p given (keeping (held.Action (action.Result r)) (record pipe { results = rest })) ts fin ms rs
+  holds_ended r rest front free = record {
+    taken = fits.taken;
+    parts = free_parts free;
+    marked = fits.marked;
+    finishes = fits.finishes;
+    tenant = fits.tenant;
+    number = fits.number;
+    plain = tt;
+    stamps = fits.stamps;
+    asks = fits.asks;
+    does = fits.does;
+    items = fits.items;
+    outcome = fits.outcome;
+    manages = free_manages free;
+    ends = ap (λ (xs : List JobResult). filter_map resulting (map action_of ts) ++ xs) (sym front) ∙ free_ends free;
+  }
+
+  -- a trigger event
+  pub holds_event : (e : Stamped) (rest : List PipelineItem) → pipe.triggers ≡ pipeline.Event e ∷ rest → pipe.worker.held ≡ None →
+      PipeFits config t p given (keeping (held.Event e) (record pipe { triggers = rest })) ts fin ms rs
+  holds_event e rest front free = record {
+    taken = fits.taken;
+    parts = free_parts free ∙ ap (λ (xs : List PipelineItem). fits.taken ++ xs) front;
+    marked = fits.marked;
+    finishes = fits.finishes;
+    tenant = fits.tenant;
+    number = fits.number;
+    plain = tt;
+    stamps = fits.stamps;
+    asks = fits.asks;
+    does = fits.does;
+    items = fits.items;
+    outcome = fits.outcome;
+    manages = free_manages free;
+    ends = free_ends free;
+  }
+
   -- the end mark
-  pub fits_end : (rest : List PipelineItem) → pipe.triggers ≡ pipeline.End ∷ rest →
+  pub fits_end : (rest : List PipelineItem) → pipe.triggers ≡ pipeline.End ∷ rest → pipe.worker.held ≡ None →
       PipeFits config t p given (took config (taking.Trigger pipeline.End) (record pipe { triggers = rest })).0 ts true ms rs
-  fits_end rest front = record {
+  fits_end rest front free = record {
     taken = fits.taken ++ pipeline.End ∷ [];
-    parts = fits.parts ∙ ap (λ (xs : List PipelineItem). fits.taken ++ xs) front ∙ sym (append_assoc fits.taken (pipeline.End ∷ []) rest);
+    parts = free_parts free ∙ ap (λ (xs : List PipelineItem). fits.taken ++ xs) front ∙ sym (append_assoc fits.taken (pipeline.End ∷ []) rest)
+        ∙ ap (λ (o : Option Held). (fits.taken ++ pipeline.End ∷ []) ++ (held_items o ++ rest)) (sym free);
     marked = list_any-append is_end fits.taken (pipeline.End ∷ []) ∙ or_true (list_any is_end fits.taken);
     finishes = refl;
     tenant = fits.tenant;
     number = fits.number;
-    free = fits.free;
+    plain = fits.plain;
     stamps = filter_map_push stamp_in fits.taken pipeline.End ∙ append-nil (filter_map stamp_in fits.taken) ∙ fits.stamps;
     asks = fits.asks ∙ sym (filter_map_push (asking config t p) fits.taken pipeline.End ∙ append-nil (filter_map (asking config t p) fits.taken));
     does = fits.does;
@@ -234,7 +327,7 @@ module _ {config : Config} {t p : ℕ} {given : List (PipelineId × PipelineItem
     finishes = fits.finishes;
     tenant = fits.tenant;
     number = fits.number;
-    free = fits.free;
+    plain = fits.plain;
     stamps = fits.stamps;
     asks = fits.asks;
     does = fits.does;
@@ -253,13 +346,14 @@ module _ {config : Config} {t p : ℕ} {given : List (PipelineId × PipelineItem
     finishes = fits.finishes;
     tenant = fits.tenant;
     number = fits.number;
-    free = fits.free;
+    plain = fits.plain;
     stamps = fits.stamps;
     asks = fits.asks;
     does = fits.does;
     items = fits.items;
     outcome = fits.outcome;
-    manages = sym (append_assoc (filter_map managing (map action_of ts)) pipe.management (m ∷ [])) ∙ ap (λ (xs : List Manage). xs ++ m ∷ []) fits.manages;
+    manages = ap (λ (xs : List Manage). filter_map managing (map action_of ts) ++ xs) (sym (append_assoc (held_managed pipe.worker.held) pipe.management (m ∷ [])))
+        ∙ sym (append_assoc (filter_map managing (map action_of ts)) (waiting_managed pipe) (m ∷ [])) ∙ ap (λ (xs : List Manage). xs ++ m ∷ []) fits.manages;
     ends = fits.ends;
   }
 
@@ -271,26 +365,28 @@ module _ {config : Config} {t p : ℕ} {given : List (PipelineId × PipelineItem
     finishes = fits.finishes;
     tenant = fits.tenant;
     number = fits.number;
-    free = fits.free;
+    plain = fits.plain;
     stamps = fits.stamps;
     asks = fits.asks;
     does = fits.does;
     items = fits.items;
     outcome = fits.outcome;
     manages = fits.manages;
-    ends = sym (append_assoc (filter_map resulting (map action_of ts)) pipe.results (r ∷ [])) ∙ ap (λ (xs : List JobResult). xs ++ r ∷ []) fits.ends;
+    ends = ap (λ (xs : List JobResult). filter_map resulting (map action_of ts) ++ xs) (sym (append_assoc (held_ended pipe.worker.held) pipe.results (r ∷ [])))
+        ∙ sym (append_assoc (filter_map resulting (map action_of ts)) (waiting_ended pipe) (r ∷ [])) ∙ ap (λ (xs : List JobResult). xs ++ r ∷ []) fits.ends;
   }
 
   -- more is given, of which this is the pipeline's
   pub fits_given : (more : List (PipelineId × PipelineItem)) (items : List PipelineItem) → items_for p more ≡ items_for p given ++ items → PipeFits config t p more (record pipe { triggers = pipe.triggers ++ items }) ts fin ms rs
   fits_given more items e = record {
     taken = fits.taken;
-    parts = e ∙ ap (λ (xs : List PipelineItem). xs ++ items) fits.parts ∙ append_assoc fits.taken pipe.triggers items;
+    parts = e ∙ ap (λ (xs : List PipelineItem). xs ++ items) fits.parts ∙ append_assoc fits.taken (waiting_items pipe) items
+        ∙ ap (λ (xs : List PipelineItem). fits.taken ++ xs) (append_assoc (held_items pipe.worker.held) pipe.triggers items);
     marked = fits.marked;
     finishes = fits.finishes;
     tenant = fits.tenant;
     number = fits.number;
-    free = fits.free;
+    plain = fits.plain;
     stamps = fits.stamps;
     asks = fits.asks;
     does = fits.does;
@@ -309,7 +405,7 @@ module _ {config : Config} {t p : ℕ} {given : List (PipelineId × PipelineItem
     finishes = fits.finishes;
     tenant = fits.tenant;
     number = fits.number;
-    free = fits.free;
+    plain = fits.plain;
     stamps = fits.stamps;
     asks = fits.asks;
     does = fits.does;

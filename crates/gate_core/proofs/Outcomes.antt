@@ -37,7 +37,7 @@ use Rattle.gate_core.specs.Ways.{entries_of, number_of_item, numbered}
 use Rattle.gate_core.proofs.Arrivals.{brought, by_items, wanted_arrive}
 use Rattle.gate_core.proofs.Maps.{filter_map-filter_map, filter_map_none, filter_map_same}
 use Rattle.gate_core.proofs.Sendings.{items_to}
-use Rattle.gate_core.proofs.Fits.{is_end, stamp_in}
+use Rattle.gate_core.proofs.Fits.{is_end, stamp_in, waiting_items}
 use Rattle.gate_core.proofs.Streams.{Holds, PipeHolds, TenantHolds, count_of, hand_of, is_from, mark, pipe_of, put_by, queue_of}
 
 -- ---- an end mark that was taken is the last of all
@@ -227,11 +227,11 @@ module _ (own : EachGetsItsOwn) (lossless : NothingIsLost) (config : Config) (h 
   abbrev on_the_way : List TenantItem
   on_the_way = items_to t (hand_of (slice_get state.connections c)) ++ forwarded config t c (queue_of (slice_get state.connections c))
 
-  pub all_chosen : worked.taken ++ (pipe.triggers ++ in_hand) ≡ chosen config t p there.past.done
+  pub all_chosen : worked.taken ++ (waiting_items pipe ++ in_hand) ≡ chosen config t p there.past.done
   all_chosen =
       let inside : p < length ten.pipelines = slice_get_within ten.pipelines p pipe seat in
       let count : length ten.pipelines ≡ length (pipelines_of config t) = there.count in
-      sym (append_assoc worked.taken pipe.triggers in_hand)
+      sym (append_assoc worked.taken (waiting_items pipe) in_hand)
       ∙ ap (λ xs. xs ++ in_hand) (sym worked.parts)
       ∙ ap (λ o. items_for p there.past.given ++ items_for p (option_to_list o ++ there.past.state.items)) (sym there.in_hand)
       ∙ sym (filter_map-append (item_for p) there.past.given (option_to_list there.past.out ++ there.past.state.items))
@@ -240,14 +240,14 @@ module _ (own : EachGetsItsOwn) (lossless : NothingIsLost) (config : Config) (h 
   processed_numbers : numbers_from c (done t p h) ≡ numbers worked.taken
   processed_numbers = ap (numbers_from c) (sym worked.does ∙ sym worked.stamps) ∙ numbers_taken c worked.taken
 
-  matched_brings : brings there.past.done ≡ numbers worked.taken ++ numbers (pipe.triggers ++ in_hand)
-  matched_brings = sym (by_items config t p c there.past.done) ∙ ap numbers (sym all_chosen) ∙ filter_map-append (number_of_item c) worked.taken (pipe.triggers ++ in_hand)
+  matched_brings : brings there.past.done ≡ numbers worked.taken ++ numbers (waiting_items pipe ++ in_hand)
+  matched_brings = sym (by_items config t p c there.past.done) ∙ ap numbers (sym all_chosen) ∙ filter_map-append (number_of_item c) worked.taken (waiting_items pipe ++ in_hand)
 
   all_taken : there.past.taken ++ ten.queue ≡ there.past.done ++ not_matched
   all_taken = ap (λ xs. xs ++ ten.queue) (sym (lossless config t there.past there.happens)) ∙ append_assoc there.past.done there.past.state.gathered ten.queue
 
   abbrev behind : List ℕ
-  behind = numbers (pipe.triggers ++ in_hand) ++ (brings not_matched ++ brings on_the_way)
+  behind = numbers (waiting_items pipe ++ in_hand) ++ (brings not_matched ++ brings on_the_way)
 
   whole_way : wanted config t p c (accepted c h) ≡ numbers worked.taken ++ behind
   whole_way =
@@ -257,8 +257,8 @@ module _ (own : EachGetsItsOwn) (lossless : NothingIsLost) (config : Config) (h 
       ∙ ap (λ xs. xs ++ brings on_the_way)
       (sym (only_from config t p c (there.past.taken ++ ten.queue)) ∙ ap brings all_taken ∙ filter_map-append (brought config t p c) there.past.done not_matched
       ∙ ap (λ xs. xs ++ brings not_matched) matched_brings)
-      ∙ append_assoc (numbers worked.taken ++ numbers (pipe.triggers ++ in_hand)) (brings not_matched) (brings on_the_way)
-      ∙ append_assoc (numbers worked.taken) (numbers (pipe.triggers ++ in_hand)) (brings not_matched ++ brings on_the_way)
+      ∙ append_assoc (numbers worked.taken ++ numbers (waiting_items pipe ++ in_hand)) (brings not_matched) (brings on_the_way)
+      ∙ append_assoc (numbers worked.taken) (numbers (waiting_items pipe ++ in_hand)) (brings not_matched ++ brings on_the_way)
 
   prefix : IsPrefixOf (numbers_from c (done t p h)) (wanted config t p c (accepted c h))
   prefix = (behind, ap (λ xs. xs ++ behind) processed_numbers ∙ sym whole_way)
@@ -268,8 +268,8 @@ module _ (own : EachGetsItsOwn) (lossless : NothingIsLost) (config : Config) (h 
   none_wanted none = processed_numbers ∙ nil_left (numbers worked.taken) behind (sym whole_way ∙ none) ∙ sym none
 
   module _ (fin : finished t p h ≡ true) where
-    ends : (holds_ends config t there.past.done ≡ true) × (pipe.triggers ++ in_hand ≡ [])
-    ends = last_of_all is_end pipeline.End (filter_map (chosen_item config t p) there.past.done) (holds_ends config t there.past.done) worked.taken (pipe.triggers ++ in_hand)
+    ends : (holds_ends config t there.past.done ≡ true) × (waiting_items pipe ++ in_hand ≡ [])
+    ends = last_of_all is_end pipeline.End (filter_map (chosen_item config t p) there.past.done) (holds_ends config t there.past.done) worked.taken (waiting_items pipe ++ in_hand)
         (items_no_end config t p there.past.done) (sym all_chosen) (worked.marked ∙ worked.finishes ∙ fin)
 
     abbrev has_mark : ℕ → Bool
@@ -295,9 +295,9 @@ module _ (own : EachGetsItsOwn) (lossless : NothingIsLost) (config : Config) (h 
         let left = nothing_left inside listed in
         processed_numbers ∙ sym (append-nil (numbers worked.taken))
         ∙ ap (λ xs. numbers worked.taken ++ (xs ++ [])) (sym (ap numbers ends.1))
-        ∙ ap (λ xs. numbers worked.taken ++ (numbers (pipe.triggers ++ in_hand) ++ (xs ++ [])))
+        ∙ ap (λ xs. numbers worked.taken ++ (numbers (waiting_items pipe ++ in_hand) ++ (xs ++ [])))
         (sym (only_from config t p c not_matched ∙ ap brings (nil_left (filter (is_from c) not_matched) on_the_way left)))
-        ∙ ap (λ xs. numbers worked.taken ++ (numbers (pipe.triggers ++ in_hand) ++ (brings not_matched ++ xs))) (sym (ap brings (nil_right (filter (is_from c) not_matched) on_the_way left)))
+        ∙ ap (λ xs. numbers worked.taken ++ (numbers (waiting_items pipe ++ in_hand) ++ (brings not_matched ++ xs))) (sym (ap brings (nil_right (filter (is_from c) not_matched) on_the_way left)))
         ∙ sym whole_way
 
     whole_in_range : c < length (connections_of config) → (b : Bool) → lists config t c ≡ b → numbers_from c (done t p h) ≡ wanted config t p c (accepted c h)

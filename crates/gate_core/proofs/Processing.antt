@@ -24,7 +24,7 @@ use Rattle.gate_core.specs.History.{History, actions, asked_by, done, manage_pos
 use Rattle.gate_core.specs.Late.{LateIsDiscarded, actions_in}
 use Rattle.gate_core.specs.Promises.{IsPrefixOf, Keeps, Processes, no_items}
 use Rattle.gate_core.specs.States.{State, TenantState, items_at}
-use Rattle.gate_core.proofs.Fits.{after_push, asking, stamp_in}
+use Rattle.gate_core.proofs.Fits.{after_push, asking, stamp_in, waiting_ended, waiting_items, waiting_managed}
 use Rattle.gate_core.proofs.Genuine.{AllOf, IsAsked, ItemIs, TriggerIs, all_at, all_from, all_front, asked_are, chosen_are, forwarded_are}
 use Rattle.gate_core.proofs.Outcomes.{all_chosen, head_same, tail_same}
 use Rattle.gate_core.proofs.Streams.{Holds, PipeHolds, TenantHolds, is_from, pipe_of}
@@ -77,7 +77,7 @@ module _ (own : EachGetsItsOwn) (lossless : NothingIsLost) (config : Config) (h 
 
   all_triggers : AllOf (TriggerIs h) worked.taken
   all_triggers =
-      all_front (TriggerIs h) worked.taken (pipe.triggers ++ items_for p there.past.state.items)
+      all_front (TriggerIs h) worked.taken (waiting_items pipe ++ items_for p there.past.state.items)
       (subst (AllOf (TriggerIs h)) (sym (all_chosen own lossless config h state holds t p 0 ten pipe at seat)) (chosen_are config t p h there.past.done all_matched))
 
   pub asked_there : (i : ℕ) (stamp : Option Stamp) (a : Action) → slice_get (triggered t p h) i ≡ Some (stamp, a) → asked_by config t p h stamp ≡ Some a
@@ -123,8 +123,8 @@ module _ (own : EachGetsItsOwn) (lossless : NothingIsLost) (config : Config) (h 
       record {
         triggers = asked_there own lossless config h state holds t p ten pipe at e;
         stamps = stamps_there own lossless config h state holds t p ten pipe at e;
-        management = (pipe.management, worked.manages);
-        results = (pipe.results, worked.ends);
+        management = (waiting_managed pipe, worked.manages);
+        results = (waiting_ended pipe, worked.ends);
         outcome = worked.outcome;
       }
 

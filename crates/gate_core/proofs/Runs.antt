@@ -5,11 +5,13 @@ use Rattle.std.specs.List.{cons_option, filter_map, zip}
 use Rattle.gate_config.specs.declared.config.Config.{Config}
 use Rattle.gate_core.specs.declared.answer.Answer.{Answer}
 use Rattle.gate_core.specs.declared.step.Step.{Step}
+use Rattle.gate_core.specs.declared.step.Step.TheVariants as step
 use Rattle.gate_core.specs.History.{History, accepted, accepted_in}
 use Rattle.gate_core.specs.Promises.{AnswersRightly, Delivers, EveryRunDelivers, Keeps, Processes}
 use Rattle.gate_core.specs.Reports.{report_after, report_of}
 use Rattle.gate_core.specs.States.{ConnectionState, State}
 use Rattle.gate_core.specs.Steps.{answers_to, first, left_by, run_from, step_of}
+use Rattle.gate_core.specs.Worlds.{HasNumber, HaveNumbers}
 use Rattle.gate_core.proofs.AllSteps.{holds_on}
 use Rattle.gate_core.proofs.Beginnings.{first_holds}
 use Rattle.gate_core.proofs.Streams.{Holds, count_of}
@@ -74,6 +76,19 @@ has_number config answers state left rest all s total limit front below runs c c
     let more : length left ≡ suc (length rest) = ap length front in
     let few : length runs.past + length left ≤ total = runs.few in
     omega (arith, count, picked, more, few, below)
+
+-- so each step finds the number that it asks for
+pub finds_number : (state : State) (s : Step) → HaveNumbers state → HasNumber state s
+finds_number state (step.Offer c line) numbers = numbers c.0
+finds_number state (step.Close c) numbers = tt
+finds_number state (step.Take c) numbers = tt
+finds_number state (step.Send c) numbers = tt
+finds_number state (step.Fetch t count) numbers = tt
+finds_number state (step.Match t) numbers = tt
+finds_number state (step.Give t) numbers = tt
+finds_number state (step.PostManage t p manage) numbers = tt
+finds_number state (step.PostResult t p ended) numbers = tt
+finds_number state (step.Turn t p) numbers = tt
 
 -- ---- where nothing is left, the run is whole
 

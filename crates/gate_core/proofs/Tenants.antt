@@ -1,5 +1,5 @@
 -- Steps of a tenant at work, by what its dispatch and one of its pipelines do.
-use Rattle.std.proofs.Common.{◌≡◌, ◌∙◌, sym, ap, refl, ℕ, List, [], ◌∷◌, true, false, length, nat_lt, Option, Some, None, Result, Ok, Err, slice_set}
+use Rattle.std.proofs.Common.{◌≡◌, ◌∙◌, sym, ap, refl, subst, ℕ, List, [], ◌∷◌, true, false, length, nat_lt, Option, Some, None, Result, Ok, Err, slice_set}
 use Rattle.std.specs.Prelude.{slice_get}
 use Rattle.gate_record.specs.declared.memory.Memory.{Memory}
 use Rattle.gate_record.specs.declared.ids.PipelineId.{PipelineId}
@@ -10,7 +10,7 @@ use Rattle.gate_core.specs.declared.answer.Answer.{Answer}
 use Rattle.gate_core.specs.declared.answer.Answer.TheVariants.{Full, Moved}
 use Rattle.gate_core.specs.declared.pipeline.Pipeline.{Pipeline}
 use Rattle.gate_core.specs.declared.TheConstants.{PLACES}
-use Rattle.gate_core.specs.Answers.{Does}
+use Rattle.gate_core.specs.Answers.{Does, MayBeRefused}
 use Rattle.gate_core.specs.Pipelines.{refused, turned}
 use Rattle.gate_core.specs.States.{TenantState}
 use Rattle.gate_core.specs.Steps.{give, give_from, give_to, on_pipeline, refused_turn, with_item, with_pipeline, with_refused}
@@ -24,16 +24,20 @@ pub posts : (move : Pipeline → Pipeline × Answer) (p : ℕ) (tenant : TenantS
     Does tenant (on_pipeline move p tenant) (record tenant { pipelines = slice_set tenant.pipelines p new }) result
 posts move p tenant pipeline new (Ok answer) e does =
     ap (λ (after : Pipeline × Answer). (with_pipelines tenant (slice_set tenant.pipelines p after.0), after.1)) does ∙ sym (ap (λ o. with_pipeline move p o tenant) e)
-posts move p tenant pipeline new (Err memory) e does =
-    ap (λ x. with_pipelines tenant (slice_set tenant.pipelines p x)) does ∙ ap (with_pipelines tenant) (written_back tenant.pipelines p pipeline e)
+posts move p tenant pipeline new (Err memory) e does = (
+  ap (λ x. with_pipelines tenant (slice_set tenant.pipelines p x)) does.0 ∙ ap (with_pipelines tenant) (written_back tenant.pipelines p pipeline e),
+  subst MayBeRefused (sym (ap (λ o. (with_pipeline move p o tenant).1) e)) does.1,
+)
 
 -- a turn of it
 pub turns : (config : Config) (p : ℕ) (tenant : TenantState) (pipeline new : Pipeline) (result : Result Answer Memory) → slice_get tenant.pipelines p ≡ Some pipeline → Does (refused pipeline) (turned config pipeline) new result →
     Does (refused_turn p tenant) (on_pipeline (turned config) p tenant) (record tenant { pipelines = slice_set tenant.pipelines p new }) result
 turns config p tenant pipeline new (Ok answer) e does =
     ap (λ (after : Pipeline × Answer). (with_pipelines tenant (slice_set tenant.pipelines p after.0), after.1)) does ∙ sym (ap (λ o. with_pipeline (turned config) p o tenant) e)
-turns config p tenant pipeline new (Err memory) e does =
-    ap (λ x. with_pipelines tenant (slice_set tenant.pipelines p x)) does ∙ sym (ap (λ o. with_refused p o tenant) e)
+turns config p tenant pipeline new (Err memory) e does = (
+  ap (λ x. with_pipelines tenant (slice_set tenant.pipelines p x)) does.0 ∙ sym (ap (λ o. with_refused p o tenant) e),
+  subst MayBeRefused (sym (ap (λ o. (with_pipeline (turned config) p o tenant).1) e)) does.1,
+)
 
 -- what is known once the first item of the hand is out
 pub record IsOut (old new : DispatchState) (first : PipelineId × PipelineItem) : Type 0 where

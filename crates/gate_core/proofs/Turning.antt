@@ -13,7 +13,6 @@ use Rattle.gate_items.specs.declared.action.Manage.{Manage}
 use Rattle.gate_core.specs.declared.answer.Answer.{Answer}
 use Rattle.gate_core.specs.declared.answer.Answer.TheVariants.{Moved}
 use Rattle.gate_core.specs.declared.pipeline.Pipeline.{Pipeline}
-use Rattle.gate_core.specs.declared.step.Step.{Step}
 use Rattle.gate_core.specs.declared.step.Step.TheVariants as step
 use Rattle.gate_core.specs.History.{History, finished, is_moved, manage_posts, processed, result_posts, turned}
 use Rattle.gate_core.specs.States.{TenantState, State}
@@ -37,12 +36,9 @@ another_one tid pid t p differ = not_both tid.0 t pid.0 p (tid.0 == t) (pid.0 ==
 pub this_one : (tid : TenantId) (pid : PipelineId) → ((tid.0 == tid.0) && (pid.0 == pid.0)) ≡ true
 this_one tid pid = λ i. same_as_itself tid.0 i && same_as_itself pid.0 i
 
--- a step changes one pipeline, and is about no other
-module _ (config : Config) (h : History) (state : State) (s : Step) (tid : TenantId) (pid : PipelineId) (a : Answer) (ten : TenantState) (pipe pipe' : Pipeline) (at : slice_get state.tenants tid.0 ≡ Some ten) (whose : slice_get ten.pipelines pid.0 ≡ Some pipe)
-    (conns_stay : (c : ℕ) → ConnSame c h (h ++ (s, a) ∷ [])) (others_stay : (t p : ℕ) → ((tid.0 ≡ t) × (pid.0 ≡ p) → ⊥) → PipeSame t p h (h ++ (s, a) ∷ [])) where
-  abbrev later : History
-  later = h ++ (s, a) ∷ []
-
+-- one pipeline changes, and the later history is about no other
+module _ (config : Config) (h later : History) (state : State) (tid : TenantId) (pid : PipelineId) (ten : TenantState) (pipe pipe' : Pipeline) (at : slice_get state.tenants tid.0 ≡ Some ten) (whose : slice_get ten.pipelines pid.0 ≡ Some pipe)
+    (conns_stay : (c : ℕ) → ConnSame c h later) (others_stay : (t p : ℕ) → ((tid.0 ≡ t) × (pid.0 ≡ p) → ⊥) → PipeSame t p h later) where
   tenants_stay : (t p : ℕ) → (tid.0 ≡ t → ⊥) → PipeSame t p h later
   tenants_stay t p differ = others_stay t p (λ both. differ both.0)
 

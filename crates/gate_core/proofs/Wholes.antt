@@ -11,7 +11,7 @@ use Rattle.gate_core.specs.declared.answer.Answer.TheVariants.{Idle}
 use Rattle.gate_core.specs.declared.connection.Connection.{Connection}
 use Rattle.gate_core.specs.declared.tenant.Tenant.{Tenant}
 use Rattle.gate_core.specs.declared.step.Step.TheVariants as step
-use Rattle.gate_core.specs.Answers.{Does}
+use Rattle.gate_core.specs.Answers.{Does, MayBeRefused}
 use Rattle.gate_core.specs.Sends.{Sends, state}
 use Rattle.gate_core.specs.States.{ConnectionState, TenantState}
 use Rattle.gate_core.specs.Pipelines.{turned}
@@ -45,13 +45,19 @@ module _ (move : ConnectionState → ConnectionState × Answer) (c : ℕ) (conns
       ap (λ ks. (state ks tenants, answer)) (map-set connection_view conns c new)
       ∙ ap (λ (after : ConnectionState × Answer). (state (slice_set (map connection_view conns) c after.0) tenants, after.1)) does
       ∙ sym (ap (λ o. with_connection move c o (state (map connection_view conns) tenants)) (seen connection_view conns c old at))
-  connection_does old new (Err memory) at same = ap (λ ks. state ks tenants) (seen_same connection_view conns c old new at same)
+  connection_does old new (Err memory) at does = (
+    ap (λ ks. state ks tenants) (seen_same connection_view conns c old new at does.0),
+    subst MayBeRefused (sym (ap (λ o. (with_connection move c o (state (map connection_view conns) tenants)).1) (seen connection_view conns c old at))) does.1,
+  )
 
   -- where it isn't there
   pub connection_idles : slice_get conns c ≡ None → (state (map connection_view conns) tenants, Idle) ≡ on_connection move c (state (map connection_view conns) tenants)
   connection_idles gone = sym (ap (λ o. with_connection move c o (state (map connection_view conns) tenants)) (unseen connection_view conns c gone))
 
 module _ (move : TenantState → TenantState × Answer) (t : ℕ) (conns : List ConnectionState) (tenants : List Tenant) where
+  pub tenant_answers : (old : Tenant) → slice_get tenants t ≡ Some old → (on_tenant move t (state conns (map tenant_view tenants))).1 ≡ (move (tenant_view old)).1
+  tenant_answers old at = ap (λ o. (with_tenant move t o (state conns (map tenant_view tenants))).1) (seen tenant_view tenants t old at)
+
   -- a step of the tenant that is looked up
   pub tenant_does : (old new : Tenant) (result : Result Answer Memory) → slice_get tenants t ≡ Some old → Does (tenant_view old) (move (tenant_view old)) (tenant_view new) result →
       Does (state conns (map tenant_view tenants)) (on_tenant move t (state conns (map tenant_view tenants))) (state conns (map tenant_view (slice_set tenants t new))) result
@@ -59,7 +65,7 @@ module _ (move : TenantState → TenantState × Answer) (t : ℕ) (conns : List 
       ap (λ ts. (state conns ts, answer)) (map-set tenant_view tenants t new)
       ∙ ap (λ (after : TenantState × Answer). (state conns (slice_set (map tenant_view tenants) t after.0), after.1)) does
       ∙ sym (ap (λ o. with_tenant move t o (state conns (map tenant_view tenants))) (seen tenant_view tenants t old at))
-  tenant_does old new (Err memory) at same = ap (state conns) (seen_same tenant_view tenants t old new at same)
+  tenant_does old new (Err memory) at does = (ap (state conns) (seen_same tenant_view tenants t old new at does.0), subst MayBeRefused (sym (tenant_answers old at)) does.1)
 
   -- where it isn't there
   pub tenant_idles : slice_get tenants t ≡ None → (state conns (map tenant_view tenants), Idle) ≡ on_tenant move t (state conns (map tenant_view tenants))
@@ -70,9 +76,11 @@ pub tenant_turns : (config : Config) (t : TenantId) (p : PipelineId) (conns : Li
     Does (refused_turn p.0 (tenant_view old)) (on_pipeline (turned config) p.0 (tenant_view old)) (tenant_view new) result →
     Does (refused_step (state conns (map tenant_view tenants)) (step.Turn t p)) (on_tenant (on_pipeline (turned config) p.0) t.0 (state conns (map tenant_view tenants))) (state conns (map tenant_view (slice_set tenants t.0 new))) result
 tenant_turns config t p conns tenants old new (Ok answer) at does = tenant_does (on_pipeline (turned config) p.0) t.0 conns tenants old new (Ok answer) at does
-tenant_turns config t p conns tenants old new (Err memory) at same =
-    ap (state conns) (map-set tenant_view tenants t.0 new ∙ ap (slice_set (map tenant_view tenants) t.0) same)
-    ∙ sym (ap (λ o. refused_in t.0 p.0 o (state conns (map tenant_view tenants))) (seen tenant_view tenants t.0 old at))
+tenant_turns config t p conns tenants old new (Err memory) at does = (
+  ap (state conns) (map-set tenant_view tenants t.0 new ∙ ap (slice_set (map tenant_view tenants) t.0) does.0)
+      ∙ sym (ap (λ o. refused_in t.0 p.0 o (state conns (map tenant_view tenants))) (seen tenant_view tenants t.0 old at)),
+  subst MayBeRefused (sym (tenant_answers (on_pipeline (turned config) p.0) t.0 conns tenants old at)) does.1,
+)
 
 -- a turn in a tenant that isn't there
 pub refused_idles : (t : TenantId) (p : PipelineId) (conns : List ConnectionState) (tenants : List Tenant) → slice_get tenants t.0 ≡ None →

@@ -1,4 +1,5 @@
 pub mod Answers
+pub mod Chains
 pub mod Faults
 pub mod History
 pub mod Late

@@ -14,7 +14,7 @@ use Rattle.gate_core.specs.Steps.{send}
 abbrev pub Puts : TenantState → TenantItem → TenantState → Result (Unit {0}) Unput → Type 0
 Puts old item new (Ok done) = (length old.queue < PLACES) × (new ≡ record old { queue = old.queue ++ item ∷ [] })
 Puts old item new (Err (unput.Full back)) = (PLACES ≤ length old.queue) × (new ≡ old) × (back ≡ item)
-Puts old item new (Err (unput.Memory back)) = (new ≡ old) × (back ≡ item)
+Puts old item new (Err (unput.Memory back)) = (length old.queue < PLACES) × (new ≡ old) × (back ≡ item)
 
 abbrev pub state : List ConnectionState → List TenantState → State
 state connections tenants = record { connections = connections; tenants = tenants }

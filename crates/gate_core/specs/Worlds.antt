@@ -1,6 +1,8 @@
 -- What clauses see of a world.
-use Rattle.std.specs.Prelude.{◌<◌, ◌+◌, ◌^◌, map}
+use Rattle.std.specs.Prelude.{◌≡◌, ◌<◌, ◌+◌, ◌^◌, map, Some, slice_get}
 use Rattle.gate_config.specs.declared.config.Config.{Config}
+use Rattle.gate_core.specs.declared.step.Step.{Step}
+use Rattle.gate_core.specs.declared.step.Step.TheVariants as step
 use Rattle.gate_core.specs.declared.world.World.{World}
 use Rattle.gate_core.specs.States.{ConnectionState, State}
 use Rattle.gate_core.specs.Views.{EachAt, connection_view, tenant_view}
@@ -16,3 +18,16 @@ state_of world = record { connections = map connection_view world.connections.it
 -- each connection has a number left for one more record
 abbrev pub HaveNumbers : State → Type 0
 HaveNumbers state = EachAt (λ c (conn : ConnectionState). conn.accepted + 1 < 2 ^ 64) state.connections
+
+-- the connection that is offered a record, if it is there, has one; a step of another kind needs none
+abbrev pub HasNumber : State → Step → Type 0
+HasNumber state (step.Offer c line) = (conn : ConnectionState) → slice_get state.connections c.0 ≡ Some conn → conn.accepted + 1 < 2 ^ 64
+HasNumber state (step.Close c) = Unit {0}
+HasNumber state (step.Take c) = Unit {0}
+HasNumber state (step.Send c) = Unit {0}
+HasNumber state (step.Fetch t count) = Unit {0}
+HasNumber state (step.Match t) = Unit {0}
+HasNumber state (step.Give t) = Unit {0}
+HasNumber state (step.PostManage t p manage) = Unit {0}
+HasNumber state (step.PostResult t p ended) = Unit {0}
+HasNumber state (step.Turn t p) = Unit {0}

@@ -1,3 +1,4 @@
+ghost use Rattle.gate_core.specs.Chains.{EveryChainDelivers};
 ghost use Rattle.gate_core.specs.Promises.{EveryRunDelivers};
 ghost use Rattle.gate_core.specs.Ways.{WantedArrive};
 
@@ -20,6 +21,19 @@ pub fn what_is_wanted_arrives()
 /// cancelled build set changes an item. It rests on the laws of the tenants' dispatch and of queue items.
 pub fn every_run_delivers()
     ensures { EveryRunDelivers }
+{
+    each_pipeline_gets_its_own();
+    nothing_that_was_gathered_is_lost();
+    each_outcome_is_that_of_one_result();
+    cancelled_build_sets_change_nothing();
+}
+
+/// The same where memory is refused to some of the steps: for every configuration and every chain of worlds from the first
+/// on, each left by a step or by its refusal, all that is promised of a run holds of the steps that were answered. One that
+/// is refused adds nothing to what was accepted or processed; and what a pipeline holds since a turn was refused is the next
+/// that it processes, whatever comes between.
+pub fn every_chain_delivers()
+    ensures { EveryChainDelivers }
 {
     each_pipeline_gets_its_own();
     nothing_that_was_gathered_is_lost();

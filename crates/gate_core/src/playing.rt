@@ -42,7 +42,7 @@ pub(crate) fn play_script<'c>(
 ghost use Rattle.std.specs.Prelude.{OnOk};
 ghost use Rattle.gate_core.specs.Output.{answer_line};
 ghost use Rattle.gate_core.specs.Steps.{step_of};
-ghost use Rattle.gate_core.specs.Worlds.{HaveNumbers};
+ghost use Rattle.gate_core.specs.Worlds.{HasNumber};
 
 // Takes a step, whose answer goes to the end of a text.
 fn play_step(
@@ -51,7 +51,7 @@ fn play_step(
     step: Step,
     out: &mut String,
 ) -> Result<(), Memory>
-    requires numbers { HaveNumbers (state_of world.old) }
+    requires numbers { HasNumber (state_of world.old) step }
     ensures config { config_of world.new ≡ config_of world.old }
     ensures left { OnOk result (state_of world.new ≡ (step_of (config_of world.old) (state_of world.old) step).0) }
     ensures printed { OnOk result (string_bytes out.new ≡ string_bytes out.old ++ answer_line (step_of (config_of world.old) (state_of world.old) step).1) }

@@ -33,7 +33,7 @@ impl<'c> World<'c> {
     ghost use Rattle.gate_core.specs.Pipelines.{post_manage, post_result, turned};
     ghost use Rattle.gate_core.specs.States.{items_at};
     ghost use Rattle.gate_core.specs.Steps.{close, fetch, first, give, match_gathered, offer, on_connection, on_pipeline, on_tenant, refused_step, send, step_of, take};
-    ghost use Rattle.gate_core.specs.Worlds.{HaveNumbers, config_of, state_of};
+    ghost use Rattle.gate_core.specs.Worlds.{HasNumber, HaveNumbers, config_of, state_of};
 
     /// The world in which nothing was offered yet. `Memory` where its connections and tenants find no room.
     pub fn new(alloc: Global, config: &'c Config) -> Result<World<'c>, Memory>
@@ -54,7 +54,7 @@ impl<'c> World<'c> {
     /// Takes one step. An id out of range, or a step that finds nothing to do, is answered `Idle`. Where memory is
     /// refused, all is as before, save that a turn holds what it took: that is what the pipeline processes next.
     pub fn step(&mut self, step: Step) -> Result<Answer, Memory>
-        requires { HaveNumbers (state_of self.old) }
+        requires { HasNumber (state_of self.old) step }
         ensures config { config_of self.new ≡ config_of self.old }
         ensures moves { Does (refused_step (state_of self.old) step) (step_of (config_of self.old) (state_of self.old) step) (state_of self.new) result }
     {
@@ -94,7 +94,7 @@ impl<'c> World<'c> {
     }
 
     fn offer(&mut self, conn: ConnId, line: Record) -> Result<Answer, Memory>
-        requires { HaveNumbers (state_of self.old) }
+        requires { HasNumber (state_of self.old) (Step.Offer conn line) }
         ensures config { config_of self.new ≡ config_of self.old }
         ensures moves { Does (state_of self.old) (on_connection (offer line) conn.0 (state_of self.old)) (state_of self.new) result }
     {

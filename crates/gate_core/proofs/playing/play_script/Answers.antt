@@ -9,6 +9,7 @@ use Rattle.gate_core.specs.States.{State}
 use Rattle.gate_core.specs.Steps.{step_of}
 use Rattle.gate_core.specs.Worlds.{state_of}
 use Rattle.gate_core.proofs.Lines.{IsRunning, starts, steps_on, still_numbers}
+use Rattle.gate_core.proofs.Runs.{finds_number}
 use Rattle.gate_core.proofs.playing.play_script.Goals as goal
 
 pub loop-line-init : goal.loop-line-init
@@ -24,11 +25,12 @@ loop-line-init c = record {
 
 pub play_step-requires : goal.play_step-requires
 play_step-requires c = record {
-  numbers = λ i x at.
+  numbers =
       let below : c.len-total.result < 18446744073709551616 = omega (arith, c.len-total.type_inv) in
       let front : c.loop-line.script ≡ line.Step c.in-Step.step ∷ c.pop.new.self = c.in-Some.ensures ∙ ap (λ (l : Scripted). l ∷ c.pop.new.self) c.in-Step.is in
-      still_numbers c.args.config.now (state_of c.loop-line.world) (steps_in c.loop-line.script) (steps_in c.pop.new.self) (steps_in c.args.script) c.in-Step.step c.len-total.result 18446744073709551616
-      (ap steps_in front) below c.loop-line.invariant.runs i x at;
+      finds_number (state_of c.loop-line.world) c.in-Step.step
+      (still_numbers c.args.config.now (state_of c.loop-line.world) (steps_in c.loop-line.script) (steps_in c.pop.new.self) (steps_in c.args.script) c.in-Step.step c.len-total.result 18446744073709551616
+      (ap steps_in front) below c.loop-line.invariant.runs);
 }
 
 pub loop-line-preserved-in-Continue-branch-2 : goal.loop-line-preserved-in-Continue-branch-2

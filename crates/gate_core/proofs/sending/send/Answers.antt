@@ -100,6 +100,6 @@ returns-in-Err-Memory-clause-does c =
     let item = c.in-Some-get_mut.ensures.item in
     let at = lent tenants first.0.0 worker item.3.0 item.1 in
     let puts = subst (λ unput. Puts (tenant_view worker) first.1 (tenant_view c.put.new.self) (Err unput)) c.in-Err-Memory.field-0-is c.in-Err-Memory.ensures.puts in
-    let back = came_back old new (hand_of c.unsent-in-Err-Memory.new.self) first out (c.unsent-in-Err-Memory.ensures.fills ∙ ap (λ i. put_back i new.out new) puts.1) in
-    refuses conn _ (map tenant_view tenants) _
-    (ap (λ items. record conn { hand = items }) back) (seen_same tenant_view tenants first.0.0 worker c.put.new.self at puts.0)
+    let back = came_back old new (hand_of c.unsent-in-Err-Memory.new.self) first out (c.unsent-in-Err-Memory.ensures.fills ∙ ap (λ i. put_back i new.out new) puts.2) in
+    refuses conn _ (map tenant_view tenants) _ first new.items out.items _ (tenant_view worker) (seen tenant_view tenants first.0.0 worker at) puts.0
+    (ap (λ items. record conn { hand = items }) back) (seen_same tenant_view tenants first.0.0 worker c.put.new.self at puts.1)

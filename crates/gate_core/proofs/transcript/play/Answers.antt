@@ -4,7 +4,7 @@ use Rattle.gate_core.specs.declared.answer.Answer.{Answer}
 use Rattle.gate_core.specs.States.{State}
 use Rattle.gate_core.specs.Steps.{answers_to, first, left_by, step_of}
 use Rattle.gate_core.specs.Worlds.{state_of}
-use Rattle.gate_core.proofs.Runs.{Runs, begins, has_number, one_more, all_answered, all_reached, run_delivers, run_keeps, run_processes, run_rightly, run_told}
+use Rattle.gate_core.proofs.Runs.{Runs, begins, finds_number, has_number, one_more, all_answered, all_reached, run_delivers, run_keeps, run_processes, run_rightly, run_told}
 use Rattle.gate_core.proofs.transcript.play.Goals as goal
 
 pub loop-step-init : goal.loop-step-init
@@ -20,10 +20,11 @@ loop-step-init c = record {
 }
 
 pub step-requires : goal.step-requires
-step-requires c i x at =
+step-requires c =
     let below : c.len-total.result < 18446744073709551616 = omega (arith, c.len-total.type_inv) in
-    has_number c.args.config.now c.loop-step.answers (state_of c.loop-step.world) c.loop-step.steps c.pop.new.self c.args.steps c.in-Some.step c.len-total.result 18446744073709551616
-    c.in-Some.ensures below c.loop-step.invariant.runs i x at
+    finds_number (state_of c.loop-step.world) c.in-Some.step
+    (has_number c.args.config.now c.loop-step.answers (state_of c.loop-step.world) c.loop-step.steps c.pop.new.self c.args.steps c.in-Some.step c.len-total.result 18446744073709551616
+    c.in-Some.ensures below c.loop-step.invariant.runs)
 
 pub loop-step-preserved : goal.loop-step-preserved
 loop-step-preserved c = record {

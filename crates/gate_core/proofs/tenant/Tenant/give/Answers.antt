@@ -1,9 +1,12 @@
-use Rattle.std.proofs.Common.{◌∙◌, ap, sym, List, None, arith, slice_set}
+use Rattle.std.proofs.Common.{◌∙◌, ap, sym, subst, List, None, arith, slice_set}
 use Rattle.std.proofs.lemmas.Bool.{le-ltb, lt-ltb}
 use Rattle.gate_record.specs.declared.ids.PipelineId.{PipelineId}
 use Rattle.gate_record.specs.declared.transit.PipelineItem.{PipelineItem}
 use Rattle.gate_tenant.specs.States.{State as DispatchState, put_back, state_of}
+use Rattle.gate_core.specs.declared.answer.Answer.{Answer}
 use Rattle.gate_core.specs.declared.answer.Answer.TheVariants.{Full, Moved}
+use Rattle.gate_core.specs.Answers.{MayBeRefused}
+use Rattle.gate_core.specs.States.{TenantState}
 use Rattle.gate_core.specs.declared.pipeline.Pipeline.{Pipeline}
 use Rattle.gate_core.specs.Views.{tenant_view}
 use Rattle.gate_core.proofs.Elements.{lent, written_back}
@@ -48,7 +51,9 @@ returns-in-Err-clause-does c =
     let out = is_out tenant.dispatch new first c.in-Some.ensures.moves in
     let item = c.in-Some-get_mut.ensures.item in
     let at = lent tenant.pipelines p pipeline item.3.0 item.1 in
-    let dispatch_as_before = c.ungiven-in-Err.ensures.fills ∙ ap (λ back. put_back back new.out new) c.in-Err.ensures.1 ∙ came_back tenant.dispatch new first c.args.self.now.in_hand out in
-    ap (λ (d : DispatchState). record tenant { dispatch = d; pipelines = slice_set tenant.pipelines p (record pipeline { triggers = c.push.new.self }) }) dispatch_as_before
-    ∙ ap (λ queue. record tenant { pipelines = slice_set tenant.pipelines p (record pipeline { triggers = queue }) }) c.in-Err.ensures.0
-    ∙ ap (λ (ps : List Pipeline). record tenant { pipelines = ps }) (written_back tenant.pipelines p pipeline at)
+    let dispatch_as_before = c.ungiven-in-Err.ensures.fills ∙ ap (λ back. put_back back new.out new) c.in-Err.ensures.1 ∙ came_back tenant.dispatch new first c.args.self.now.in_hand out in (
+      ap (λ (d : DispatchState). record tenant { dispatch = d; pipelines = slice_set tenant.pipelines p (record pipeline { triggers = c.push.new.self }) }) dispatch_as_before
+          ∙ ap (λ queue. record tenant { pipelines = slice_set tenant.pipelines p (record pipeline { triggers = queue }) }) c.in-Err.ensures.0
+          ∙ ap (λ (ps : List Pipeline). record tenant { pipelines = ps }) (written_back tenant.pipelines p pipeline at),
+      subst (λ (after : TenantState × Answer). MayBeRefused after.1) (sym (gives tenant new first out pipeline at (lt-ltb _ _ (omega arith)))) tt,
+    )

@@ -12,7 +12,7 @@ offer-requires c =
     let old = c.in-Some.connection.now in
     let item = c.in-Some.ensures.item in
     let at = lent conns c.args.conn.0 old item.3.0 item.1 in
-    c.requires c.args.conn.0 (connection_view old) (seen connection_view conns c.args.conn.0 old at)
+    c.requires (connection_view old) (seen connection_view conns c.args.conn.0 old at)
 
 pub invariant_of-self-clause-connections_by_number : goal.invariant_of-self-clause-connections_by_number
 invariant_of-self-clause-connections_by_number c =
