@@ -6,7 +6,7 @@ use Rattle.gate_items.specs.Outcomes.{OutcomesAreSaid}
 use Rattle.gate_tenant.specs.Histories.{EachGetsItsOwn, NothingIsLost}
 use Rattle.gate_core.specs.declared.answer.Answer.{Answer}
 use Rattle.gate_core.specs.declared.step.Step.{Step}
-use Rattle.gate_core.specs.Chains.{Attempt, EveryChainDelivers, IsChain, history_of, left_behind}
+use Rattle.gate_core.specs.Chains.{Attempt, EveryChainDelivers, IsChain, answered_history, left_behind}
 use Rattle.gate_core.specs.History.{History}
 use Rattle.gate_core.specs.Promises.{AnswersRightly, IsRightAnswer}
 use Rattle.gate_core.specs.States.{State}
@@ -30,19 +30,19 @@ module _ (config : Config) where
   next_holds : (h : History) (state : State) (s : Step) (next : State) → next ≡ refused_step state s → Holds config h state → Holds config h next
   next_holds h state s next same holds = subst (Holds config h) (sym same) (refused_holds config h state s holds)
 
-  holds_along : (h : History) (state : State) (attempts : List Attempt) → IsChain config state attempts → Holds config h state → Holds config (h ++ history_of attempts) (left_behind state attempts)
+  holds_along : (h : History) (state : State) (attempts : List Attempt) → IsChain config state attempts → Holds config h state → Holds config (h ++ answered_history attempts) (left_behind state attempts)
   holds_along h state [] chain holds = subst (λ (x : History). Holds config x state) (sym (append-nil h)) holds
-  holds_along h state ((s, Err memory, next) ∷ attempts) chain holds = holds_along h next attempts chain.1 (next_holds h state s next chain.0.0 holds)
+  holds_along h state ((s, Err memory, next) ∷ attempts) chain holds = holds_along h next attempts chain.1 (next_holds h state s next chain.0 holds)
   holds_along h state ((s, Ok answer, next) ∷ attempts) chain holds =
-      subst (λ (x : History). Holds config x (left_behind next attempts)) (append_assoc h ((s, answer) ∷ []) (history_of attempts))
+      subst (λ (x : History). Holds config x (left_behind next attempts)) (append_assoc h ((s, answer) ∷ []) (answered_history attempts))
       (holds_along (h ++ (s, answer) ∷ []) next attempts chain.1 (answered_holds h state s answer next chain.0 holds))
 
-  holds_all : (attempts : List Attempt) → IsChain config (first config) attempts → Holds config (history_of attempts) (left_behind (first config) attempts)
+  holds_all : (attempts : List Attempt) → IsChain config (first config) attempts → Holds config (answered_history attempts) (left_behind (first config) attempts)
   holds_all attempts chain = holds_along [] (first config) attempts chain (first_holds config)
 
-  right_along : (h : History) (state : State) (attempts : List Attempt) → IsChain config state attempts → Holds config h state → AnswersRightly config h (history_of attempts)
+  right_along : (h : History) (state : State) (attempts : List Attempt) → IsChain config state attempts → Holds config h state → AnswersRightly config h (answered_history attempts)
   right_along h state [] chain holds = tt
-  right_along h state ((s, Err memory, next) ∷ attempts) chain holds = right_along h next attempts chain.1 (next_holds h state s next chain.0.0 holds)
+  right_along h state ((s, Err memory, next) ∷ attempts) chain holds = right_along h next attempts chain.1 (next_holds h state s next chain.0 holds)
   right_along h state ((s, Ok answer, next) ∷ attempts) chain holds = (
     subst (λ (after : State × Answer). IsRightAnswer config h s after.1) (sym chain.0) (right_answer config h state s holds),
     right_along (h ++ (s, answer) ∷ []) next attempts chain.1 (answered_holds h state s answer next chain.0 holds),
@@ -50,10 +50,10 @@ module _ (config : Config) where
 
 pub every_chain : EachGetsItsOwn → NothingIsLost → OutcomesAreSaid → CancelledChangesNothing → EveryChainDelivers
 every_chain own lossless says late = record {
-  delivers = λ config attempts chain. delivers own lossless config (history_of attempts) (left_behind (first config) attempts) (holds_all config attempts chain);
+  delivers = λ config attempts chain. delivers own lossless config (answered_history attempts) (left_behind (first config) attempts) (holds_all config attempts chain);
   rightly = λ config attempts chain. right_along config [] (first config) attempts chain (first_holds config);
-  report = λ config attempts chain. reported config (history_of attempts) (left_behind (first config) attempts) (holds_all config attempts chain);
-  processes = λ config attempts chain. processes own lossless late config (history_of attempts) (left_behind (first config) attempts) (holds_all config attempts chain);
-  keeps = λ config attempts chain. keeps says config (history_of attempts) (left_behind (first config) attempts) (holds_all config attempts chain);
+  report = λ config attempts chain. reported config (answered_history attempts) (left_behind (first config) attempts) (holds_all config attempts chain);
+  processes = λ config attempts chain. processes own lossless late config (answered_history attempts) (left_behind (first config) attempts) (holds_all config attempts chain);
+  keeps = λ config attempts chain. keeps says config (answered_history attempts) (left_behind (first config) attempts) (holds_all config attempts chain);
   held = λ config state attempts chain t p pipe waits at held. next_is_held config state attempts chain t p pipe waits at held;
 }

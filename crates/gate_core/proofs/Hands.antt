@@ -7,7 +7,7 @@ use Rattle.gate_record.specs.declared.transit.TenantItem.{TenantItem}
 use Rattle.gate_forward.specs.Hands.{Hand, moved_out, put_back}
 use Rattle.gate_core.specs.declared.answer.Answer.{Answer}
 use Rattle.gate_core.specs.declared.answer.Answer.TheVariants.{Full, Idle, Moved}
-use Rattle.gate_core.specs.Answers.{MayBeRefused}
+use Rattle.gate_core.specs.Answers.{Changes}
 use Rattle.gate_record.specs.declared.memory.Memory.{Memory}
 use Rattle.gate_core.specs.declared.TheConstants.{PLACES}
 use Rattle.gate_core.specs.Sends.{Sends, state}
@@ -100,5 +100,5 @@ module _ (conn conn' : ConnectionState) (tenants tenants' : List TenantState) wh
     pub refuses : (memory : Memory) (tenant : TenantState) → slice_get tenants first.0.0 ≡ Some tenant → length tenant.queue < PLACES → conn' ≡ conn → tenants' ≡ tenants → Sends conn tenants conn' tenants' (Err memory)
     refuses memory tenant there room same sames c connections at = (
       unmoved c connections at same sames,
-      subst (λ (after : State × Answer). MayBeRefused after.1) (sym (goes tenant c connections at there room)) tt,
+      subst (λ (after : State × Answer). Changes after.1) (sym (goes tenant c connections at there room)) tt,
     )

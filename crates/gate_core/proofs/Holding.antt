@@ -17,7 +17,7 @@ use Rattle.gate_core.specs.declared.answer.Answer.TheVariants.{Full, Idle, Moved
 use Rattle.gate_core.specs.declared.pipeline.Pipeline.{Pipeline}
 use Rattle.gate_core.specs.declared.step.Step.{Step}
 use Rattle.gate_core.specs.declared.step.Step.TheVariants as step
-use Rattle.gate_core.specs.Chains.{Attempt, IsChain, IsFirstIfAny, history_of}
+use Rattle.gate_core.specs.Chains.{Attempt, IsChain, IsNext, answered_history, left_behind}
 use Rattle.gate_core.specs.History.{is_turn, turned_in}
 use Rattle.gate_core.specs.History.{processed as processed_by, turned as turned_of}
 use Rattle.gate_core.specs.Pipelines.{Found, answer_of, found, found_where, holding, post_manage, post_result, refused, refused_by, turned, turned_by}
@@ -332,24 +332,33 @@ module _ (config : Config) (t p : ℕ) (waits : Held) (w : Worker) (held : w.hel
   abbrev first_one : Processed
   first_one = (processed config waits (held_as None w)).1
 
-  first_if : (o : Option Processed) (rest : List Processed) → o ≡ None → IsFirstIfAny first_one rest → IsFirstIfAny first_one (cons_option o rest)
-  first_if o rest none first = subst (λ (x : Option Processed). IsFirstIfAny first_one (cons_option x rest)) (sym none) first
+  first_if : (left : Option Pipeline) (o : Option Processed) (rest : List Processed) → o ≡ None → IsNext waits first_one rest left → IsNext waits first_one (cons_option o rest) left
+  first_if left o rest none first = subst (λ (x : Option Processed). IsNext waits first_one (cons_option x rest) left) (sym none) first
 
-  first_is : (o : Option Processed) (rest : List Processed) → o ≡ Some first_one → IsFirstIfAny first_one (cons_option o rest)
-  first_is o rest is = subst (λ (x : Option Processed). IsFirstIfAny first_one (cons_option x rest)) (sym is) refl
+  first_is : (left : Option Pipeline) (o : Option Processed) (rest : List Processed) → o ≡ Some first_one → IsNext waits first_one (cons_option o rest) left
+  first_is left o rest is = subst (λ (x : Option Processed). IsNext waits first_one (cons_option x rest) left) (sym is) refl
 
-  after_answer : (state : State) → worker_at t p state ≡ Some w → (s : Step) (answer : Answer) (next : State) (rest : List Processed) → Goes state t p first_one s (next, answer) →
-      (worker_at t p next ≡ Some w → IsFirstIfAny first_one rest) → IsFirstIfAny first_one (cons_option (turned_in t p (s, answer)) rest)
-  after_answer state there s answer next rest (stays same none) further = first_if (turned_in t p (s, answer)) rest none (further (same ∙ there))
-  after_answer state there s answer next rest (processes is) further = first_is (turned_in t p (s, answer)) rest is
+  after_answer : (left : Option Pipeline) (state : State) → worker_at t p state ≡ Some w → (s : Step) (answer : Answer) (next : State) (rest : List Processed) → Goes state t p first_one s (next, answer) →
+      (worker_at t p next ≡ Some w → IsNext waits first_one rest left) → IsNext waits first_one (cons_option (turned_in t p (s, answer)) rest) left
+  after_answer left state there s answer next rest (stays same none) further = first_if left (turned_in t p (s, answer)) rest none (further (same ∙ there))
+  after_answer left state there s answer next rest (processes is) further = first_is left (turned_in t p (s, answer)) rest is
 
-  held_first : (state : State) → worker_at t p state ≡ Some w → (attempts : List Attempt) → IsChain config state attempts → IsFirstIfAny first_one (turned_of t p (history_of attempts))
-  held_first state there [] chain = tt
+  held_by : (o : Option Pipeline) → option_map (λ (x : Pipeline). x.worker) o ≡ Some w → option_and_then (λ (x : Pipeline). x.worker.held) o ≡ Some waits
+  held_by None e = absurd (cc)
+  held_by (Some pipe) e = ap (λ (x : Worker). x.held) (the_same pipe.worker w e) ∙ held
+
+  still_held : (o : Option TenantState) → worker_in p o ≡ Some w → option_and_then (λ (x : Pipeline). x.worker.held) (option_and_then (λ (ten : TenantState). slice_get ten.pipelines p) o) ≡ Some waits
+  still_held None e = absurd (cc)
+  still_held (Some ten) e = held_by (slice_get ten.pipelines p) e
+
+  held_first : (state : State) → worker_at t p state ≡ Some w → (attempts : List Attempt) → IsChain config state attempts →
+      IsNext waits first_one (turned_of t p (answered_history attempts)) (pipeline_at t p (left_behind state attempts))
+  held_first state there [] chain = still_held (slice_get state.tenants t) there
   held_first state there ((s, Err memory, next) ∷ attempts) chain =
-      held_first next (ap (worker_at t p) chain.0.0 ∙ refused_leaves config state waits w held t p there s ∙ there) attempts chain.1
+      held_first next (ap (worker_at t p) chain.0 ∙ refused_leaves config state waits w held t p there s ∙ there) attempts chain.1
   held_first state there ((s, Ok answer, next) ∷ attempts) chain =
-      after_answer state there s answer next (turned_of t p (history_of attempts)) (subst (Goes state t p first_one s) (sym chain.0) (goes config state waits w held t p there s))
-      (λ still. held_first next still attempts chain.1)
+      after_answer (pipeline_at t p (left_behind next attempts)) state there s answer next (turned_of t p (answered_history attempts))
+      (subst (Goes state t p first_one s) (sym chain.0) (goes config state waits w held t p there s)) (λ still. held_first next still attempts chain.1)
 
 worker_of : (p : ℕ) (o : Option TenantState) (pipe : Pipeline) → option_and_then (λ (ten : TenantState). slice_get ten.pipelines p) o ≡ Some pipe → worker_in p o ≡ Some pipe.worker
 worker_of p None pipe e = absurd (cc)
@@ -357,5 +366,5 @@ worker_of p (Some ten) pipe e = ap (option_map (λ (x : Pipeline). x.worker)) e
 
 pub next_is_held : (config : Config) (state : State) (attempts : List Attempt) → IsChain config state attempts →
     (t p : ℕ) (pipe : Pipeline) (waits : Held) → pipeline_at t p state ≡ Some pipe → pipe.worker.held ≡ Some waits →
-    IsFirstIfAny (processed config waits (held_as None pipe.worker)).1 (turned_of t p (history_of attempts))
+    IsNext waits (processed config waits (held_as None pipe.worker)).1 (turned_of t p (answered_history attempts)) (pipeline_at t p (left_behind state attempts))
 next_is_held config state attempts chain t p pipe waits at held = held_first config t p waits pipe.worker held state (worker_of p (slice_get state.tenants t) pipe at) attempts chain

@@ -4,6 +4,7 @@ pub mod Beginnings
 pub mod Elements
 pub mod EveryChain
 pub mod EveryRun
+pub mod Examples
 pub mod Fits
 pub mod Genuine
 pub mod Going

@@ -10,7 +10,7 @@ use Rattle.gate_core.specs.declared.answer.Answer.{Answer}
 use Rattle.gate_core.specs.declared.answer.Answer.TheVariants.{Full, Moved}
 use Rattle.gate_core.specs.declared.pipeline.Pipeline.{Pipeline}
 use Rattle.gate_core.specs.declared.TheConstants.{PLACES}
-use Rattle.gate_core.specs.Answers.{Does, MayBeRefused}
+use Rattle.gate_core.specs.Answers.{Does, Changes}
 use Rattle.gate_core.specs.Pipelines.{refused, turned}
 use Rattle.gate_core.specs.States.{TenantState}
 use Rattle.gate_core.specs.Steps.{give, give_from, give_to, on_pipeline, refused_turn, with_item, with_pipeline, with_refused}
@@ -26,7 +26,7 @@ posts move p tenant pipeline new (Ok answer) e does =
     ap (λ (after : Pipeline × Answer). (with_pipelines tenant (slice_set tenant.pipelines p after.0), after.1)) does ∙ sym (ap (λ o. with_pipeline move p o tenant) e)
 posts move p tenant pipeline new (Err memory) e does = (
   ap (λ x. with_pipelines tenant (slice_set tenant.pipelines p x)) does.0 ∙ ap (with_pipelines tenant) (written_back tenant.pipelines p pipeline e),
-  subst MayBeRefused (sym (ap (λ o. (with_pipeline move p o tenant).1) e)) does.1,
+  subst Changes (sym (ap (λ o. (with_pipeline move p o tenant).1) e)) does.1,
 )
 
 -- a turn of it
@@ -36,7 +36,7 @@ turns config p tenant pipeline new (Ok answer) e does =
     ap (λ (after : Pipeline × Answer). (with_pipelines tenant (slice_set tenant.pipelines p after.0), after.1)) does ∙ sym (ap (λ o. with_pipeline (turned config) p o tenant) e)
 turns config p tenant pipeline new (Err memory) e does = (
   ap (λ x. with_pipelines tenant (slice_set tenant.pipelines p x)) does.0 ∙ sym (ap (λ o. with_refused p o tenant) e),
-  subst MayBeRefused (sym (ap (λ o. (with_pipeline (turned config) p o tenant).1) e)) does.1,
+  subst Changes (sym (ap (λ o. (with_pipeline (turned config) p o tenant).1) e)) does.1,
 )
 
 -- what is known once the first item of the hand is out

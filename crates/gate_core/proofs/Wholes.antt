@@ -11,7 +11,7 @@ use Rattle.gate_core.specs.declared.answer.Answer.TheVariants.{Idle}
 use Rattle.gate_core.specs.declared.connection.Connection.{Connection}
 use Rattle.gate_core.specs.declared.tenant.Tenant.{Tenant}
 use Rattle.gate_core.specs.declared.step.Step.TheVariants as step
-use Rattle.gate_core.specs.Answers.{Does, MayBeRefused}
+use Rattle.gate_core.specs.Answers.{Does, Changes}
 use Rattle.gate_core.specs.Sends.{Sends, state}
 use Rattle.gate_core.specs.States.{ConnectionState, TenantState}
 use Rattle.gate_core.specs.Pipelines.{turned}
@@ -47,7 +47,7 @@ module _ (move : ConnectionState → ConnectionState × Answer) (c : ℕ) (conns
       ∙ sym (ap (λ o. with_connection move c o (state (map connection_view conns) tenants)) (seen connection_view conns c old at))
   connection_does old new (Err memory) at does = (
     ap (λ ks. state ks tenants) (seen_same connection_view conns c old new at does.0),
-    subst MayBeRefused (sym (ap (λ o. (with_connection move c o (state (map connection_view conns) tenants)).1) (seen connection_view conns c old at))) does.1,
+    subst Changes (sym (ap (λ o. (with_connection move c o (state (map connection_view conns) tenants)).1) (seen connection_view conns c old at))) does.1,
   )
 
   -- where it isn't there
@@ -65,7 +65,7 @@ module _ (move : TenantState → TenantState × Answer) (t : ℕ) (conns : List 
       ap (λ ts. (state conns ts, answer)) (map-set tenant_view tenants t new)
       ∙ ap (λ (after : TenantState × Answer). (state conns (slice_set (map tenant_view tenants) t after.0), after.1)) does
       ∙ sym (ap (λ o. with_tenant move t o (state conns (map tenant_view tenants))) (seen tenant_view tenants t old at))
-  tenant_does old new (Err memory) at does = (ap (state conns) (seen_same tenant_view tenants t old new at does.0), subst MayBeRefused (sym (tenant_answers old at)) does.1)
+  tenant_does old new (Err memory) at does = (ap (state conns) (seen_same tenant_view tenants t old new at does.0), subst Changes (sym (tenant_answers old at)) does.1)
 
   -- where it isn't there
   pub tenant_idles : slice_get tenants t ≡ None → (state conns (map tenant_view tenants), Idle) ≡ on_tenant move t (state conns (map tenant_view tenants))
@@ -79,7 +79,7 @@ tenant_turns config t p conns tenants old new (Ok answer) at does = tenant_does 
 tenant_turns config t p conns tenants old new (Err memory) at does = (
   ap (state conns) (map-set tenant_view tenants t.0 new ∙ ap (slice_set (map tenant_view tenants) t.0) does.0)
       ∙ sym (ap (λ o. refused_in t.0 p.0 o (state conns (map tenant_view tenants))) (seen tenant_view tenants t.0 old at)),
-  subst MayBeRefused (sym (tenant_answers (on_pipeline (turned config) p.0) t.0 conns tenants old at)) does.1,
+  subst Changes (sym (tenant_answers (on_pipeline (turned config) p.0) t.0 conns tenants old at)) does.1,
 )
 
 -- a turn in a tenant that isn't there

@@ -3,6 +3,7 @@ pub mod Chains
 pub mod Faults
 pub mod History
 pub mod Late
+pub mod Needs
 pub mod Output
 pub mod Pipelines
 pub mod Promises

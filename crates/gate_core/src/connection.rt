@@ -26,7 +26,9 @@ pub struct Connection<'c> {
 }
 
 impl<'c> Connection<'c> {
+    ghost use Rattle.std.specs.Prelude.{OnErr};
     ghost use Rattle.gate_core.specs.Answers.{Does};
+    ghost use Rattle.gate_core.specs.Needs.{TakeNeeds};
     ghost use Rattle.gate_core.specs.Steps.{new_connection, offer, close, take};
     ghost use Rattle.gate_core.specs.Views.{connection_view, config_of_connection, number_of_connection};
 
@@ -86,6 +88,7 @@ impl<'c> Connection<'c> {
         ensures config { config_of_connection self.new ≡ config_of_connection self.old }
         ensures number { number_of_connection self.new ≡ number_of_connection self.old }
         ensures does { Does (connection_view self.old) (take (config_of_connection self.old) (number_of_connection self.old) (connection_view self.old)) (connection_view self.new) result }
+        ensures needs { OnErr result (TakeNeeds (connection_view self.old)) }
     {
         if !self.forward.is_empty() {
             return Ok(Answer::Idle);

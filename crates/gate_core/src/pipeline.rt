@@ -24,7 +24,9 @@ pub struct Pipeline {
 }
 
 impl Pipeline {
+    ghost use Rattle.std.specs.Prelude.{OnErr};
     ghost use Rattle.gate_core.specs.Answers.{Does};
+    ghost use Rattle.gate_core.specs.Needs.{TurnNeeds};
     ghost use Rattle.gate_core.specs.Pipelines.{fresh_pipeline, held_in, post_manage, post_result, refused, took, turned};
 
     /// A pipeline of a tenant before anything came.
@@ -64,7 +66,8 @@ impl Pipeline {
     /// Processes what is held, or takes one value of the phase's queue, or finds it empty. Where memory is refused, what
     /// was taken is held.
     pub fn turn(&mut self, config: &Config) -> Result<Answer, Memory>
-        ensures { Does (refused self.old) (turned config.now self.old) self.new result }
+        ensures does { Does (refused self.old) (turned config.now self.old) self.new result }
+        ensures needs { OnErr result (TurnNeeds self.old) }
     {
         match self.worker.wants() {
             Which::Finished => Ok(Answer::Idle),
@@ -84,7 +87,7 @@ impl Pipeline {
         }
     }
 
-    ghost use Rattle.std.specs.Prelude.{OnErr, true};
+    ghost use Rattle.std.specs.Prelude.{true};
     ghost use Rattle.gate_core.specs.Pipelines.{passed_on};
     ghost use Rattle.gate_pipeline.specs.States.{MayBeRefused, is_taking, to_process};
 

@@ -35,7 +35,9 @@ pub enum Unput {
 }
 
 impl<'c> Tenant<'c> {
+    ghost use Rattle.std.specs.Prelude.{OnErr};
     ghost use Rattle.gate_core.specs.Answers.{Does};
+    ghost use Rattle.gate_core.specs.Needs.{TenantTurnNeeds};
     ghost use Rattle.gate_core.specs.Steps.{new_tenant, fetch, match_gathered, give, on_pipeline, refused_turn};
     ghost use Rattle.gate_core.specs.Pipelines.{post_manage, post_result, turned};
     ghost use Rattle.gate_core.specs.Sends.{Puts};
@@ -166,6 +168,7 @@ impl<'c> Tenant<'c> {
         ensures config { config_of_tenant self.new ≡ config_of_tenant self.old }
         ensures number { number_of_tenant self.new ≡ number_of_tenant self.old }
         ensures does { Does (refused_turn pipeline.0 (tenant_view self.old)) (on_pipeline (turned config.now) pipeline.0 (tenant_view self.old)) (tenant_view self.new) result }
+        ensures needs { OnErr result (TenantTurnNeeds pipeline.0 (tenant_view self.old)) }
     {
         match self.pipelines.get_mut(pipeline.0 as usize) {
             None => Ok(Answer::Idle),

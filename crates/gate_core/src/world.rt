@@ -1,4 +1,4 @@
-ghost use Rattle.std.specs.Prelude.{◌≡◌, IfOk, option_map};
+ghost use Rattle.std.specs.Prelude.{◌≡◌, IfOk, OnErr, option_map};
 ghost use Rattle.gate_core.specs.Views.{AreConnections, AreTenants};
 
 use crate::answer::Answer;
@@ -29,6 +29,7 @@ pub struct World<'c> {
 
 impl<'c> World<'c> {
     ghost use Rattle.gate_core.specs.Answers.{Does};
+    ghost use Rattle.gate_core.specs.Needs.{StepNeeds};
     ghost use Rattle.gate_core.specs.Reports.{report_of};
     ghost use Rattle.gate_core.specs.Pipelines.{post_manage, post_result, turned};
     ghost use Rattle.gate_core.specs.States.{items_at};
@@ -51,12 +52,17 @@ impl<'c> World<'c> {
         })
     }
 
-    /// Takes one step. An id out of range, or a step that finds nothing to do, is answered `Idle`. Where memory is
-    /// refused, all is as before, save that a turn holds what it took: that is what the pipeline processes next.
+    /// Takes one step. An id out of range, or a step that finds nothing to do, is answered `Idle`. A connection that is
+    /// offered a record has accepted fewer than 2^64 - 1.
+    ///
+    /// `Memory` comes only to a step that would change something, of takings only to one of a record, and of turns only to one
+    /// that processes a trigger event, or a reset of an independent pipeline. Then all is as before, save that a turn holds
+    /// what it took: that is what the pipeline processes next.
     pub fn step(&mut self, step: Step) -> Result<Answer, Memory>
         requires { HasNumber (state_of self.old) step }
         ensures config { config_of self.new ≡ config_of self.old }
         ensures moves { Does (refused_step (state_of self.old) step) (step_of (config_of self.old) (state_of self.old) step) (state_of self.new) result }
+        ensures needs { OnErr result (StepNeeds (state_of self.old) step) }
     {
         match step {
             Step::Offer(conn, line) => self.offer(conn, line),
@@ -117,6 +123,7 @@ impl<'c> World<'c> {
     fn take(&mut self, conn: ConnId) -> Result<Answer, Memory>
         ensures config { config_of self.new ≡ config_of self.old }
         ensures moves { Does (state_of self.old) (on_connection (take (config_of self.old) conn.0) conn.0 (state_of self.old)) (state_of self.new) result }
+        ensures needs { OnErr result (StepNeeds (state_of self.old) (Step.Take conn)) }
     {
         match self.connections.get_mut(conn.0 as usize) {
             Some(connection) => connection.take(self.alloc),
@@ -197,6 +204,7 @@ impl<'c> World<'c> {
     fn turn(&mut self, tenant: TenantId, pipeline: PipelineId) -> Result<Answer, Memory>
         ensures config { config_of self.new ≡ config_of self.old }
         ensures moves { Does (refused_step (state_of self.old) (Step.Turn tenant pipeline)) (on_tenant (on_pipeline (turned (config_of self.old)) pipeline.0) tenant.0 (state_of self.old)) (state_of self.new) result }
+        ensures needs { OnErr result (StepNeeds (state_of self.old) (Step.Turn tenant pipeline)) }
     {
         match self.tenants.get_mut(tenant.0 as usize) {
             Some(worker) => worker.turn(self.config, pipeline),

@@ -5,7 +5,7 @@ use Rattle.gate_record.specs.declared.transit.PipelineItem.{PipelineItem}
 use Rattle.gate_tenant.specs.States.{State as DispatchState, put_back, state_of}
 use Rattle.gate_core.specs.declared.answer.Answer.{Answer}
 use Rattle.gate_core.specs.declared.answer.Answer.TheVariants.{Full, Moved}
-use Rattle.gate_core.specs.Answers.{MayBeRefused}
+use Rattle.gate_core.specs.Answers.{Changes}
 use Rattle.gate_core.specs.States.{TenantState}
 use Rattle.gate_core.specs.declared.pipeline.Pipeline.{Pipeline}
 use Rattle.gate_core.specs.Views.{tenant_view}
@@ -55,5 +55,5 @@ returns-in-Err-clause-does c =
       ap (λ (d : DispatchState). record tenant { dispatch = d; pipelines = slice_set tenant.pipelines p (record pipeline { triggers = c.push.new.self }) }) dispatch_as_before
           ∙ ap (λ queue. record tenant { pipelines = slice_set tenant.pipelines p (record pipeline { triggers = queue }) }) c.in-Err.ensures.0
           ∙ ap (λ (ps : List Pipeline). record tenant { pipelines = ps }) (written_back tenant.pipelines p pipeline at),
-      subst (λ (after : TenantState × Answer). MayBeRefused after.1) (sym (gives tenant new first out pipeline at (lt-ltb _ _ (omega arith)))) tt,
+      subst (λ (after : TenantState × Answer). Changes after.1) (sym (gives tenant new first out pipeline at (lt-ltb _ _ (omega arith)))) tt,
     )

@@ -1,12 +1,14 @@
-use Rattle.std.proofs.Common.{map}
+use Rattle.std.proofs.Common.{map, subst, sym, OnErr}
 use Rattle.std.proofs.lemmas.Option.{slice_get_past}
-use Rattle.std.proofs.Common.{ℕ}
+use Rattle.std.proofs.Common.{ℕ, Option}
 use Rattle.gate_config.specs.declared.config.Config.{Config}
 use Rattle.gate_core.specs.Answers.{Does}
+use Rattle.gate_core.specs.Needs.{IsThere, TakeNeeds}
+use Rattle.gate_core.specs.States.{ConnectionState}
 use Rattle.gate_core.specs.Steps.{take}
 use Rattle.gate_core.specs.Views.{connection_view, tenant_view}
-use Rattle.gate_core.proofs.Elements.{lent}
-use Rattle.gate_core.proofs.Wholes.{connection_does, connection_idles, known}
+use Rattle.gate_core.proofs.Elements.{lent, seen}
+use Rattle.gate_core.proofs.Wholes.{connection_does, connection_idles, known, still_connections}
 use Rattle.gate_core.proofs.world.World.take.Goals as goal
 
 pub returns-in-Some-clause-moves : goal.returns-in-Some-clause-moves
@@ -21,3 +23,19 @@ pub returns-in-None-clause-moves : goal.returns-in-None-clause-moves
 returns-in-None-clause-moves c =
     let conns = c.args.self.now.connections.items in
     connection_idles (take c.args.self.now.config.now c.args.conn.0) c.args.conn.0 conns (map tenant_view c.args.self.now.tenants.items) (slice_get_past conns c.args.conn.0 c.in-None.ensures.item.3)
+
+pub invariant_of-self-clause-connections_by_number : goal.invariant_of-self-clause-connections_by_number
+invariant_of-self-clause-connections_by_number c =
+    let conns = c.args.self.now.connections.items in
+    let old = c.in-Some.connection.now in
+    let item = c.in-Some.ensures.item in
+    let at = lent conns c.args.conn.0 old item.3.0 item.1 in
+    still_connections c.args.self.now.config.now conns c.args.conn.0 old c.take.new.self at c.args.self.now.connections_by_number c.take.ensures.config c.take.ensures.number
+
+pub returns-in-Some-clause-needs : goal.returns-in-Some-clause-needs
+returns-in-Some-clause-needs c =
+    let conns = c.args.self.now.connections.items in
+    let old = c.in-Some.connection.now in
+    let item = c.in-Some.ensures.item in
+    let at = lent conns c.args.conn.0 old item.3.0 item.1 in
+    subst (λ (o : Option ConnectionState). OnErr c.take.result (IsThere TakeNeeds o)) (sym (seen connection_view conns c.args.conn.0 old at)) c.take.ensures.needs

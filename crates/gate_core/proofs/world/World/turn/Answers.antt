@@ -1,9 +1,11 @@
-use Rattle.std.proofs.Common.{map}
+use Rattle.std.proofs.Common.{map, subst, sym, OnErr, Option}
 use Rattle.std.proofs.lemmas.Option.{slice_get_past}
+use Rattle.gate_core.specs.Needs.{IsThere, TenantTurnNeeds}
 use Rattle.gate_core.specs.Pipelines.{turned}
+use Rattle.gate_core.specs.States.{TenantState}
 use Rattle.gate_core.specs.Steps.{on_pipeline}
-use Rattle.gate_core.specs.Views.{connection_view}
-use Rattle.gate_core.proofs.Elements.{lent}
+use Rattle.gate_core.specs.Views.{connection_view, tenant_view}
+use Rattle.gate_core.proofs.Elements.{lent, seen}
 use Rattle.gate_core.proofs.Wholes.{tenant_turns, tenant_idles, still_tenants}
 use Rattle.gate_core.proofs.world.World.turn.Goals as goal
 
@@ -27,3 +29,11 @@ pub returns-in-None-clause-moves : goal.returns-in-None-clause-moves
 returns-in-None-clause-moves c =
     let tenants = c.args.self.now.tenants.items in
     tenant_idles (on_pipeline (turned c.args.self.now.config.now) c.args.pipeline.0) c.args.tenant.0 (map connection_view c.args.self.now.connections.items) tenants (slice_get_past tenants c.args.tenant.0 c.in-None.ensures.item.3)
+
+pub returns-in-Some-clause-needs : goal.returns-in-Some-clause-needs
+returns-in-Some-clause-needs c =
+    let tenants = c.args.self.now.tenants.items in
+    let old = c.in-Some.worker.now in
+    let item = c.in-Some.ensures.item in
+    let at = lent tenants c.args.tenant.0 old item.3.0 item.1 in
+    subst (λ (o : Option TenantState). OnErr c.turn.result (IsThere (TenantTurnNeeds c.args.pipeline.0) o)) (sym (seen tenant_view tenants c.args.tenant.0 old at)) c.turn.ensures.needs
