@@ -30,7 +30,7 @@ pub use number::{number_of_text, read_number};
 pub use queue::Queue;
 pub use read::read_record;
 pub use reading::{Reading, Why};
-pub use record::Record;
+pub use record::{MAX_LINE, Record};
 pub use sequence::Sequence;
 pub use shared::Shared;
 pub use text::Text;

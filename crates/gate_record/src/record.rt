@@ -4,10 +4,13 @@ use crate::memory::Memory;
 use crate::sequence::Sequence;
 use std::alloc::Global;
 
+/// How many bytes a line of a stream has at most, its end aside (this project's profile).
+pub const MAX_LINE: usize = 1_048_576;
+
 /// One record of a stream: what stands on one line.
 #[derive(Debug, Drop)]
 pub enum Record {
-    /// The bytes of the line, of which there are at most 1,048,576 where a stream was cut.
+    /// The bytes of the line, of which there are at most `MAX_LINE` where a stream was cut.
     Line(Sequence<u8>),
     /// A line of more bytes than that, without its content.
     Oversize,

@@ -1,0 +1,47 @@
+-- What a splitter keeps of the stream that it was fed, and what its calls promise.
+use Rattle.std.specs.Prelude.{◌≡◌, ◌+◌, ℕ, List, ◌++◌, All, false, length, nat_lt, Option, Some, None, if◌then◌else◌}
+use Rattle.std.specs.Option.{option_to_list}
+use Rattle.std.specs.Str.Lines.{strip_carriage_return}
+use Rattle.gate_record.specs.declared.record.Record.{Record}
+use Rattle.gate_record.specs.declared.record.Record.TheVariants.{Oversize}
+use Rattle.gate_record.specs.declared.record.TheConstants.{MAX_LINE}
+use Rattle.gate_record.specs.Lines.{ended_records, is_line_feed, record_of_line, records_of, unfinished_line}
+
+-- What is kept of a line that hasn't ended: its bytes, up to one above the limit (a CR may belong to the line's end), and
+-- nothing of a longer one.
+abbrev pub kept_of : List ℕ → Option (List ℕ)
+kept_of line = if nat_lt (MAX_LINE + 1) (length line) then None else Some line
+
+-- a splitter that keeps this was fed these bytes
+abbrev pub IsFed : List ℕ → Option (List ℕ) → Type 0
+IsFed bytes kept = kept ≡ kept_of (unfinished_line bytes)
+
+-- Whatever was fed before, the records so far were those of the lines that had ended; now they are those of the lines that
+-- have ended with this piece.
+abbrev pub Feeds : Option (List ℕ) → (piece : List ℕ) → List Record → Option (List ℕ) → Type 0
+Feeds kept piece records kept' =
+    (bytes : List ℕ) → IsFed bytes kept → IsFed (bytes ++ piece) kept' × (ended_records bytes ++ records ≡ ended_records (bytes ++ piece))
+
+-- whatever was fed before, the records so far and this one are those of the whole text
+abbrev pub Finishes : Option (List ℕ) → Option Record → Type 0
+Finishes kept record' = (bytes : List ℕ) → IsFed bytes kept → ended_records bytes ++ option_to_list record' ≡ records_of bytes
+
+-- ---- the steps of a call
+
+abbrev pub HasNoFeed : List ℕ → Type 0
+HasNoFeed bytes = All (λ byte. is_line_feed byte ≡ false) bytes
+
+-- what is kept with more of the line
+abbrev pub kept_with : Option (List ℕ) → List ℕ → Option (List ℕ)
+kept_with None more = None
+kept_with (Some line) more = kept_of (line ++ more)
+
+-- the record of the line, once this ends it
+abbrev pub record_with : Option (List ℕ) → List ℕ → Option Record
+record_with None end = Some Oversize
+record_with (Some line) end = record_of_line (strip_carriage_return (line ++ end))
+
+-- the record of the line, where the stream ends in it
+abbrev pub record_left : Option (List ℕ) → Option Record
+record_left None = Some Oversize
+record_left (Some line) = record_of_line line

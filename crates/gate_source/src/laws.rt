@@ -1,0 +1,13 @@
+ghost use Rattle.gate_source.specs.Cuttings.{CuttingDoesNotMatter, EndedLinesAreGiven};
+
+/// Whatever pieces a stream comes in, the records that were given so far are those of its lines that have ended.
+#[tactic(auto, using(crate::proofs::Whole::ended_lines_are_given))]
+pub fn the_lines_that_ended_are_given()
+    ensures { EndedLinesAreGiven }
+{}
+
+/// Whatever pieces a stream comes in, the records of all of them, with that of its end, are those of the whole text.
+#[tactic(auto, using(crate::proofs::Whole::cutting_does_not_matter))]
+pub fn the_cutting_does_not_matter()
+    ensures { CuttingDoesNotMatter }
+{}

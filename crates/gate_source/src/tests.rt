@@ -1,0 +1,3 @@
+mod cuttings;
+
+use super::*;
