@@ -4,8 +4,10 @@
 mod laws;
 mod lines;
 mod split;
+mod stop;
 #[cfg(test)]
 mod tests;
 
 pub use laws::{the_cutting_does_not_matter, the_lines_that_ended_are_given};
 pub use split::LineSplit;
+pub use stop::{StopCause, StopCell, StopNote};

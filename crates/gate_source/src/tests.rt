@@ -1,3 +1,2 @@
 mod cuttings;
-
-use super::*;
+mod stops;
