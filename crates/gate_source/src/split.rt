@@ -9,7 +9,7 @@ use std::marker::Model;
 /// Cuts a stream into records, piece by piece. It keeps the line that hasn't ended, up to one byte above `MAX_LINE` (a CR
 /// may belong to the line's end), and nothing of a line that is longer.
 ///
-/// Contracts see these bytes, or `None` where the line is too long, whatever follows.
+/// Contracts see these bytes, or `None` where the line is too long already, whatever follows.
 #[derive(Debug, Drop)]
 pub struct LineSplit {
     alloc: Global,
@@ -17,11 +17,15 @@ pub struct LineSplit {
 }
 
 impl Model for LineSplit {
-    ghost use Rattle.std.specs.Prelude.{List, ℕ, Option, option_map};
+    ghost use Rattle.std.specs.Prelude.{List, ℕ, Option, option_map, ◌+◌, ◌≤◌, vec_len};
+    ghost use Rattle.std.specs.Option.{ForSome};
+    ghost use Rattle.gate_record.specs.declared.record.TheConstants.{MAX_LINE};
 
     ghost Value = { Option (List ℕ) };
 
     ghost view = { λ s. option_map (λ line. line.items) s.kept };
+
+    ghost invariant = { λ s. ForSome s.kept (λ line. vec_len line ≤ MAX_LINE + 1) };
 }
 
 impl LineSplit {
@@ -37,7 +41,8 @@ impl LineSplit {
         }
     }
 
-    /// Takes the next piece of the stream, and gives the records of the lines that end in it. `Memory` leaves all as before.
+    /// Takes the next piece of the stream, and gives the records of the lines that end in it, in order. `Memory` leaves all as
+    /// before: the piece may be fed again.
     pub fn feed(&mut self, piece: &[u8]) -> Result<Sequence<Record>, Memory>
         ensures ok { IfOk result (λ records. Feeds self.old piece.now records self.new) }
         ensures memory { OnErr result (self.new ≡ self.old) }
@@ -79,7 +84,7 @@ impl LineSplit {
         }
     }
 
-    /// The record of the line that the stream ended in, if there is one. It takes no memory.
+    /// The record of what follows the last LF, now that the stream has ended; none where nothing does. It takes no memory.
     pub fn finish(self) -> Option<Record>
         ensures { Finishes self result }
     {
@@ -120,7 +125,7 @@ fn left(kept: Option<Vec<u8>>) -> Option<Record>
     }
 }
 
-// The record of a line that was kept so far and ends with this.
+// The record of a line of which this was kept, and which ends with that.
 fn joined(alloc: Global, kept: &[u8], end: &[u8]) -> Result<Option<Record>, Memory>
     ensures { IfOk result (λ made. made ≡ record_of_line (strip_carriage_return (kept.now ++ end.now))) }
 {
