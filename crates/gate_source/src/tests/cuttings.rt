@@ -1,6 +1,6 @@
 //! Streams in pieces.
 use crate::LineSplit;
-use gate_record::Record;
+use gate_record::{Memory, Record};
 use std::alloc::Global;
 use std::process::Abort;
 use std::test::Fail;
@@ -31,8 +31,13 @@ fn around_line_feeds(alloc: Global, stream: &[u8]) -> Result<Vec<Record>, Fail> 
     last(splitter, records)
 }
 
+// Adds the records that a piece completes. Where memory is refused the piece is fed again.
 fn add(splitter: &mut LineSplit, piece: &[u8], records: &mut Vec<Record>) -> Result<(), Fail> {
-    for record in splitter.feed(piece)?.into_vec() {
+    let found = match splitter.feed(piece) {
+        Ok(found) => found,
+        Err(Memory) => splitter.feed(piece)?,
+    };
+    for record in found.into_vec() {
         records.push(record)?;
     }
     Ok(())
