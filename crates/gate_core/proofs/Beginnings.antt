@@ -13,7 +13,7 @@ use Rattle.gate_core.specs.declared.pipeline.Pipeline.{Pipeline}
 use Rattle.gate_core.specs.Pipelines.{fresh_pipeline}
 use Rattle.gate_core.specs.States.{ConnectionState}
 use Rattle.gate_core.specs.Steps.{first, new_connection, new_tenant}
-use Rattle.gate_core.specs.Worlds.{HaveNumbers}
+use Rattle.gate_core.specs.Worlds.{AcceptedAtMost}
 use Rattle.gate_core.proofs.Fits.{fits_new}
 use Rattle.gate_core.proofs.Sendings.{items_to}
 use Rattle.gate_core.proofs.Streams.{ConnHolds, Holds, PipeHolds, TenantHolds, count_of, hand_of, queue_of}
@@ -79,9 +79,8 @@ module _ (config : Config) where
     others = λ t p none. (refl, refl);
   }
 
--- each connection has a number left in the beginning
-pub first_numbers : (config : Config) → HaveNumbers (first config)
-first_numbers config c conn at =
+-- nothing is accepted in the beginning
+pub first_counts : (config : Config) → AcceptedAtMost 0 (first config)
+first_counts config c conn at =
     let none : conn.accepted ≡ 0 = ap count_of (sym at) ∙ ((first_holds config).conns c).count in
-    let below : conn.accepted + 1 < 18446744073709551616 = omega (arith, none) in
-    below
+    omega (arith, none)

@@ -1,6 +1,7 @@
 pub mod AllSteps
 pub mod Arrivals
 pub mod Beginnings
+pub mod Counting
 pub mod Elements
 pub mod EveryChain
 pub mod EveryRun

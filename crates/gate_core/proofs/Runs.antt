@@ -11,7 +11,7 @@ use Rattle.gate_core.specs.Promises.{AnswersRightly, Delivers, EveryRunDelivers,
 use Rattle.gate_core.specs.Reports.{report_after, report_of}
 use Rattle.gate_core.specs.States.{ConnectionState, State}
 use Rattle.gate_core.specs.Steps.{answers_to, first, left_by, run_from, step_of}
-use Rattle.gate_core.specs.Worlds.{HasNumber, HaveNumbers}
+use Rattle.gate_core.specs.Worlds.{HasNumber}
 use Rattle.gate_core.proofs.AllSteps.{holds_on}
 use Rattle.gate_core.proofs.Beginnings.{first_holds}
 use Rattle.gate_core.proofs.Streams.{Holds, count_of}
@@ -78,7 +78,7 @@ has_number config answers state left rest all s total limit front below runs c c
     omega (arith, count, picked, more, few, below)
 
 -- so each step finds the number that it asks for
-pub finds_number : (state : State) (s : Step) → HaveNumbers state → HasNumber state s
+pub finds_number : (state : State) (s : Step) → ((c : ℕ) (conn : ConnectionState) → slice_get state.connections c ≡ Some conn → conn.accepted + 1 < 18446744073709551616) → HasNumber state s
 finds_number state (step.Offer c line) numbers = numbers c.0
 finds_number state (step.Close c) numbers = tt
 finds_number state (step.Take c) numbers = tt

@@ -1,5 +1,5 @@
 -- What clauses see of a world.
-use Rattle.std.specs.Prelude.{◌≡◌, ◌<◌, ◌+◌, ◌^◌, map, Some, slice_get}
+use Rattle.std.specs.Prelude.{◌≡◌, ◌<◌, ◌≤◌, ◌+◌, ◌^◌, ℕ, map, Some, slice_get}
 use Rattle.gate_config.specs.declared.config.Config.{Config}
 use Rattle.gate_core.specs.declared.step.Step.{Step}
 use Rattle.gate_core.specs.declared.step.Step.TheVariants as step
@@ -15,11 +15,11 @@ config_of world = world.config.now
 abbrev pub state_of : World → State
 state_of world = record { connections = map connection_view world.connections.items; tenants = map tenant_view world.tenants.items }
 
--- each connection has a number left for one more record
-abbrev pub HaveNumbers : State → Type 0
-HaveNumbers state = EachAt (λ c (conn : ConnectionState). conn.accepted + 1 < 2 ^ 64) state.connections
+-- each connection has accepted at most so many records
+abbrev pub AcceptedAtMost : ℕ → State → Type 0
+AcceptedAtMost n state = EachAt (λ c (conn : ConnectionState). conn.accepted ≤ n) state.connections
 
--- the connection that is offered a record, if it is there, has one; a step of another kind needs none
+-- the connection that is offered a record, if it is there, has a number left for it; a step of another kind needs none
 abbrev pub HasNumber : State → Step → Type 0
 HasNumber state (step.Offer c line) = (conn : ConnectionState) → slice_get state.connections c.0 ≡ Some conn → conn.accepted + 1 < 2 ^ 64
 HasNumber state (step.Close c) = Unit {0}

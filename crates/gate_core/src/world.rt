@@ -1,4 +1,4 @@
-ghost use Rattle.std.specs.Prelude.{◌≡◌, IfOk, OnErr, option_map};
+ghost use Rattle.std.specs.Prelude.{◌≡◌, ◌+◌, ℕ, IfOk, OnErr, option_map};
 ghost use Rattle.gate_core.specs.Views.{AreConnections, AreTenants};
 
 use crate::answer::Answer;
@@ -34,13 +34,13 @@ impl<'c> World<'c> {
     ghost use Rattle.gate_core.specs.Pipelines.{post_manage, post_result, turned};
     ghost use Rattle.gate_core.specs.States.{items_at};
     ghost use Rattle.gate_core.specs.Steps.{close, fetch, first, give, match_gathered, offer, on_connection, on_pipeline, on_tenant, refused_step, send, step_of, take};
-    ghost use Rattle.gate_core.specs.Worlds.{HasNumber, HaveNumbers, config_of, state_of};
+    ghost use Rattle.gate_core.specs.Worlds.{AcceptedAtMost, HasNumber, config_of, state_of};
 
     /// The world in which nothing was offered yet. `Memory` where its connections and tenants find no room.
     pub fn new(alloc: Global, config: &'c Config) -> Result<World<'c>, Memory>
         ensures config { IfOk result (λ world. config_of world ≡ config.entry.now) }
         ensures first { IfOk result (λ world. state_of world ≡ first config.entry.now) }
-        ensures numbers { IfOk result (λ world. HaveNumbers (state_of world)) }
+        ensures counts { IfOk result (λ world. AcceptedAtMost 0 (state_of world)) }
     {
         let connections = new_connections(alloc, config)?;
         let tenants = new_tenants(alloc, config)?;
@@ -58,11 +58,13 @@ impl<'c> World<'c> {
     /// `Memory` comes only to a step that would change something, of takings only to one of a record, and of turns only to one
     /// that processes a trigger event, or a reset of an independent pipeline. Then all is as before, save that a turn holds
     /// what it took: that is what the pipeline processes next.
+    #[tactic(auto, using(crate::proofs::Counting::one_more))]
     pub fn step(&mut self, step: Step) -> Result<Answer, Memory>
         requires { HasNumber (state_of self.old) step }
         ensures config { config_of self.new ≡ config_of self.old }
         ensures moves { Does (refused_step (state_of self.old) step) (step_of (config_of self.old) (state_of self.old) step) (state_of self.new) result }
         ensures needs { OnErr result (StepNeeds (state_of self.old) step) }
+        ensures counts { (most : ℕ) → AcceptedAtMost most (state_of self.old) → AcceptedAtMost (most + 1) (state_of self.new) }
     {
         match step {
             Step::Offer(conn, line) => self.offer(conn, line),

@@ -1,0 +1,118 @@
+-- A step accepts at most one record more.
+use Rattle.std.proofs.Common.{◌≡◌, ◌∙◌, refl, sym, ap, subst, ℕ, ◌+◌, ◌≤◌, List, [], ◌∷◌, ◌++◌, Bool, true, false, length, Option, Some, None, Result, Ok, Err, arith, slice_set, if◌then◌else◌}
+use Rattle.std.specs.Prelude.{nat_lt, slice_get}
+use Rattle.gate_record.specs.declared.ids.TenantId.{TenantId}
+use Rattle.gate_record.specs.declared.memory.Memory.{Memory}
+use Rattle.gate_record.specs.declared.record.Record.{Record}
+use Rattle.gate_record.specs.declared.transit.ConnEntry.{ConnEntry}
+use Rattle.gate_record.specs.declared.transit.ConnEntry.TheVariants as entry
+use Rattle.gate_record.specs.declared.transit.TenantItem.{TenantItem}
+use Rattle.gate_config.specs.declared.config.Config.{Config}
+use Rattle.gate_core.specs.declared.answer.Answer.{Answer}
+use Rattle.gate_core.specs.declared.answer.Answer.TheVariants.{Accepted, Closed, Full, Moved}
+use Rattle.gate_core.specs.declared.step.Step.{Step}
+use Rattle.gate_core.specs.declared.step.Step.TheVariants as step
+use Rattle.gate_core.specs.Answers.{Does}
+use Rattle.gate_core.specs.States.{ConnectionState, State, TenantState}
+use Rattle.gate_core.specs.Steps.{close, offer, refused_in, refused_step, send_from, send_of, send_to, step_of, take, take_from, with_connection, with_tenant}
+use Rattle.gate_core.specs.Worlds.{AcceptedAtMost}
+use Rattle.gate_core.proofs.Spots.{AfterSet, after_set, another, it}
+use Rattle.gate_core.proofs.Working.{the_same}
+
+module _ (n : ℕ) (state : State) (few : AcceptedAtMost n state) where
+  no_more : AcceptedAtMost (n + 1) state
+  no_more c conn at =
+      let some : conn.accepted ≤ n = few c conn at in
+      omega (arith, some)
+
+  -- one connection changes
+  by_place : (tenants : List TenantState) (d : ℕ) (k k' : ConnectionState) → slice_get state.connections d ≡ Some k → k'.accepted ≤ k.accepted + 1 →
+      (c : ℕ) (conn : ConnectionState) → AfterSet state.connections d k' c → slice_get (slice_set state.connections d k') c ≡ Some conn → conn.accepted ≤ n + 1
+  by_place tenants d k k' at one c conn (it e g) there =
+      let same : k'.accepted ≡ conn.accepted = ap (λ (x : ConnectionState). x.accepted) (the_same k' conn (sym g ∙ there)) in
+      let some : k.accepted ≤ n = few d k at in
+      omega (arith, same, some, one)
+  by_place tenants d k k' at one c conn (another differ g) there =
+      let some : conn.accepted ≤ n = few c conn (sym g ∙ there) in
+      omega (arith, some)
+
+  changes : (tenants : List TenantState) (d : ℕ) (k k' : ConnectionState) → slice_get state.connections d ≡ Some k → k'.accepted ≤ k.accepted + 1 →
+      AcceptedAtMost (n + 1) (record { connections = slice_set state.connections d k'; tenants = tenants })
+  changes tenants d k k' at one c conn there = by_place tenants d k k' at one c conn (after_set state.connections d c k k' at) there
+
+  moves : (move : ConnectionState → ConnectionState × Answer) → ((k : ConnectionState) → (move k).0.accepted ≤ k.accepted + 1) → (d : ℕ) (o : Option ConnectionState) → slice_get state.connections d ≡ o →
+      AcceptedAtMost (n + 1) (with_connection move d o state).0
+  moves move one d None at = no_more
+  moves move one d (Some k) at = changes state.tenants d k (move k).0 at (one k)
+
+  offers : (line : Record) (k : ConnectionState) (closed room : Bool) →
+      (if◌then◌else◌ {A = ConnectionState × Answer} closed (k, Closed) (if◌then◌else◌ {A = ConnectionState × Answer} room (record k { accepted = k.accepted + 1; queue = k.queue ++ entry.Numbered k.accepted line ∷ [] }, Accepted k.accepted) (k, Full))).0.accepted ≤ k.accepted + 1
+  offers line k true room = omega arith
+  offers line k false true = omega arith
+  offers line k false false = omega arith
+
+  closes : (k : ConnectionState) (closed room : Bool) →
+      (if◌then◌else◌ {A = ConnectionState × Answer} closed (k, Closed) (if◌then◌else◌ {A = ConnectionState × Answer} room (record k { closed = true; queue = k.queue ++ entry.End ∷ [] }, Moved) (k, Full))).0.accepted ≤ k.accepted + 1
+  closes k true room = omega arith
+  closes k false true = omega arith
+  closes k false false = omega arith
+
+  takes : (config : Config) (c : ℕ) (k : ConnectionState) (hand : List (TenantId × TenantItem)) (queue : List ConnEntry) → (take_from config c hand queue k).0.accepted ≤ k.accepted + 1
+  takes config c k (x ∷ hand) queue = omega arith
+  takes config c k [] [] = omega arith
+  takes config c k [] (x ∷ queue) = omega arith
+
+  send_by : (d : ℕ) (k : ConnectionState) (u : ℕ) (x : TenantItem) (hand : List (TenantId × TenantItem)) (ten : TenantState) → slice_get state.connections d ≡ Some k → (room : Bool) →
+      AcceptedAtMost (n + 1) (if◌then◌else◌ {A = State × Answer} room (record { connections = slice_set state.connections d (record k { hand = hand }); tenants = slice_set state.tenants u (record ten { queue = ten.queue ++ x ∷ [] }) }, Moved) (state, Full)).0
+  send_by d k u x hand ten at true = changes (slice_set state.tenants u (record ten { queue = ten.queue ++ x ∷ [] })) d k (record k { hand = hand }) at (omega arith)
+  send_by d k u x hand ten at false = no_more
+
+  sends_to : (d : ℕ) (k : ConnectionState) (u : ℕ) (x : TenantItem) (hand : List (TenantId × TenantItem)) (o : Option TenantState) → slice_get state.connections d ≡ Some k → AcceptedAtMost (n + 1) (send_to d k u x hand o state).0
+  sends_to d k u x hand None at = no_more
+  sends_to d k u x hand (Some ten) at = send_by d k u x hand ten at (nat_lt (length ten.queue) 4096)
+
+  sends_from : (d : ℕ) (k : ConnectionState) (hand : List (TenantId × TenantItem)) → slice_get state.connections d ≡ Some k → AcceptedAtMost (n + 1) (send_from d k hand state).0
+  sends_from d k [] at = no_more
+  sends_from d k (first ∷ hand) at = sends_to d k first.0.0 first.1 hand (slice_get state.tenants first.0.0) at
+
+  sends : (d : ℕ) (o : Option ConnectionState) → slice_get state.connections d ≡ o → AcceptedAtMost (n + 1) (send_of d o state).0
+  sends d None at = no_more
+  sends d (Some k) at = sends_from d k k.hand at
+
+  inside : (move : TenantState → TenantState × Answer) (t : ℕ) (o : Option TenantState) → AcceptedAtMost (n + 1) (with_tenant move t o state).0
+  inside move t None = no_more
+  inside move t (Some ten) = no_more
+
+  refused : (t p : ℕ) (o : Option TenantState) → AcceptedAtMost (n + 1) (refused_in t p o state)
+  refused t p None = no_more
+  refused t p (Some ten) = no_more
+
+  step_counts : (config : Config) (s : Step) → AcceptedAtMost (n + 1) (step_of config state s).0
+  step_counts config (step.Offer c line) = moves (offer line) (λ k. offers line k k.closed (nat_lt (length k.queue) 4096)) c.0 (slice_get state.connections c.0) refl
+  step_counts config (step.Close c) = moves close (λ k. closes k k.closed (nat_lt (length k.queue) 4096)) c.0 (slice_get state.connections c.0) refl
+  step_counts config (step.Take c) = moves (take config c.0) (λ k. takes config c.0 k k.hand k.queue) c.0 (slice_get state.connections c.0) refl
+  step_counts config (step.Send c) = sends c.0 (slice_get state.connections c.0) refl
+  step_counts config (step.Fetch t count) = inside _ t.0 (slice_get state.tenants t.0)
+  step_counts config (step.Match t) = inside _ t.0 (slice_get state.tenants t.0)
+  step_counts config (step.Give t) = inside _ t.0 (slice_get state.tenants t.0)
+  step_counts config (step.PostManage t p m) = inside _ t.0 (slice_get state.tenants t.0)
+  step_counts config (step.PostResult t p r) = inside _ t.0 (slice_get state.tenants t.0)
+  step_counts config (step.Turn t p) = inside _ t.0 (slice_get state.tenants t.0)
+
+  refused_counts : (s : Step) → AcceptedAtMost (n + 1) (refused_step state s)
+  refused_counts (step.Turn t p) = refused t.0 p.0 (slice_get state.tenants t.0)
+  refused_counts (step.Offer c line) = no_more
+  refused_counts (step.Close c) = no_more
+  refused_counts (step.Take c) = no_more
+  refused_counts (step.Send c) = no_more
+  refused_counts (step.Fetch t count) = no_more
+  refused_counts (step.Match t) = no_more
+  refused_counts (step.Give t) = no_more
+  refused_counts (step.PostManage t p m) = no_more
+  refused_counts (step.PostResult t p r) = no_more
+
+-- whatever a step that was done or refused leaves
+pub one_more : (config : Config) (state : State) (s : Step) (next : State) (result : Result Answer Memory) → Does (refused_step state s) (step_of config state s) next result →
+    (n : ℕ) → AcceptedAtMost n state → AcceptedAtMost (n + 1) next
+one_more config state s next (Ok answer) does n few = subst (λ (after : State × Answer). AcceptedAtMost (n + 1) after.0) (sym does) (step_counts n state few config s)
+one_more config state s next (Err memory) does n few = subst (AcceptedAtMost (n + 1)) (sym does.0) (refused_counts n state few s)
