@@ -1,5 +1,6 @@
 pub mod Categories
 pub mod JsonOf
 pub mod Kept
+pub mod LineExamples
 pub mod Numbers
 pub mod Views

@@ -24,7 +24,7 @@ Feeds kept piece records kept' =
 
 -- whatever was fed before, the records so far and this one are those of the whole text
 abbrev pub Finishes : Option (List ℕ) → Option Record → Type 0
-Finishes kept record' = (bytes : List ℕ) → IsFed bytes kept → ended_records bytes ++ option_to_list record' ≡ records_of bytes
+Finishes kept last = (bytes : List ℕ) → IsFed bytes kept → ended_records bytes ++ option_to_list last ≡ records_of bytes
 
 -- ---- the steps of a call
 
