@@ -58,6 +58,13 @@ impl LineSplit {
         Ok(Sequence::new(records))
     }
 
+    /// The record of what follows the last LF, now that the stream has ended; none where nothing does. It takes no memory.
+    pub fn finish(self) -> Option<Record>
+        ensures { Finishes self result }
+    {
+        left(self.kept)
+    }
+
     // Adds more of the line that hasn't ended.
     fn keep(&mut self, more: &[u8]) -> Result<(), Memory>
         ensures ok { OnOk result (self.new ≡ kept_with self.old more.now) }
@@ -82,13 +89,6 @@ impl LineSplit {
             Some(line) => joined(self.alloc, line.as_slice(), end),
             None => Ok(Some(Record::Oversize)),
         }
-    }
-
-    /// The record of what follows the last LF, now that the stream has ended; none where nothing does. It takes no memory.
-    pub fn finish(self) -> Option<Record>
-        ensures { Finishes self result }
-    {
-        left(self.kept)
     }
 }
 
