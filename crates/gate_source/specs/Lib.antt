@@ -1,3 +1,4 @@
 pub mod Cuttings
+pub mod Sources
 pub mod Splitting
 pub mod Stops

@@ -1,2 +1,3 @@
 mod cuttings;
+mod sources;
 mod stops;
