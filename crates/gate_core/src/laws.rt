@@ -31,7 +31,7 @@ pub fn every_run_delivers()
 /// The same where memory is refused to some of the steps: for every configuration and every chain of worlds from the first
 /// on, each left by a step or by its refusal, all that is promised of a run holds of the steps that were answered. One that
 /// is refused adds nothing to what was accepted or processed; and what a pipeline holds since a turn was refused is the next
-/// that it processes, whatever comes between.
+/// that it processes, or is held still, whatever comes between.
 pub fn every_chain_delivers()
     ensures { EveryChainDelivers }
 {
