@@ -1,0 +1,168 @@
+"""Wrong bodies as edits of a crate's sources, and the functions that they change."""
+import collections
+import dataclasses
+import os
+import re
+import subprocess
+import tempfile
+
+from .checks import KIT, rtlib, sources
+
+# The names of goals of the function's own contract: its clauses, a loop's or a type's invariant. Others are of what it does
+# on the way: a call, an index, a sum, an end.
+OF_CONTRACT = re.compile(r"(\S+-)?(returns|invariant_of|loop-\S+-(init|preserved))(-|\Z)")
+
+
+class Unfit(Exception):
+    """Why an edit can't be judged as a wrong body."""
+
+
+@dataclasses.dataclass(frozen=True)
+class Change:
+    """New text in place of the bytes from start to end of a file."""
+
+    file: str
+    start: int
+    end: int
+    new: bytes
+
+    def inner(self, data):
+        """Returns the bytes that really change, less what the old and the new text begin and end with."""
+        old = data[self.start : self.end]
+        front = len(os.path.commonprefix([old, self.new]))
+        back = len(os.path.commonprefix([old[front:][::-1], self.new[front:][::-1]]))
+        return self.start + front, self.end - back
+
+
+@dataclasses.dataclass(eq=False)
+class Body:
+    """A wrong body, or a control."""
+
+    name: str
+    changes: list
+    functions: list = dataclasses.field(default_factory=list)
+    # Whether all that changes is the inside of one function, so that others can be tried beside it.
+    is_inside: bool = False
+    # The symbols of changed functions through which it fell in an earlier round.
+    avoids: set = dataclasses.field(default_factory=set)
+    # The proof files of its function without the answers that no longer fit, and the names of these answers.
+    proofs: dict = dataclasses.field(default_factory=dict)
+    stale: set = dataclasses.field(default_factory=set)
+    tries: int = 0
+
+    def failed(self, verdict):
+        """Returns the goals of the contract that failed, save those whose answer was taken out."""
+        found = [name for _, name, how in verdict.goals if OF_CONTRACT.match(name) and "gave up" not in how]
+        return [it for it in found if it not in self.stale]
+
+    def drop_stale(self, folder, errors):
+        """Takes the answers at these places out of the proof files, and says whether there were any."""
+        before = len(self.stale)
+        for file in dict.fromkeys(file for file, _ in errors):
+            lines = {line for it, line in errors if it == file}
+            text, at, left = self.proofs.get(file) or rtlib.text_of(f"{folder}/{file}"), 1, ""
+            for part in re.split(r"(\n\n+)", text):
+                answer = re.match(r"(?:abbrev )?(?:pub )?(\S+) :", part)
+                if answer and lines & {*range(at, at + part.count("\n") + 1)}:
+                    self.stale.add(answer[1])
+                else:
+                    left += part
+                at += part.count("\n")
+            self.proofs[file] = left
+        return len(self.stale) > before
+
+
+def tokens(file, data):
+    """Returns the kind and the text of each word of a source."""
+    with tempfile.TemporaryDirectory(prefix="wrong-bodies-") as room:
+        whole = f"{room}/{os.path.basename(file)}"
+        with open(whole, "wb") as it:
+            it.write(data)
+        ran = subprocess.run([f"{KIT}/rattle", "fmt", "--tokens", whole], capture_output=True, encoding="utf-8")
+    if ran.returncode:
+        raise Unfit(f"the prover can't read the edited text: {ran.stderr.strip()[:160]}")
+    return [tuple(it.split(" ", 4)[3:]) for it in ran.stdout.split("\n")[1:] if it]
+
+
+class Sources:
+    """A crate's sources, and its edits."""
+
+    def __init__(self, crate):
+        self.folder = f"{crate.folder}/wrong-bodies"
+        self.read = sources.Source(crate.folder)
+        self.read.read("src/lib.rt")
+        self.bodies, self.controls, self.unfit = [], [], []
+        for file in sorted(os.listdir(self.folder)):
+            name = file.removesuffix(".edit")
+            try:
+                body = self.body(name, file)
+                (self.controls if name.startswith("control-") else self.bodies).append(body)
+            except Unfit as why:
+                self.unfit.append((name, str(why)))
+
+    def body(self, name, file):
+        if name == file:
+            raise Unfit("its name doesn't end in .edit")
+        with open(f"{self.folder}/{file}", encoding="utf-8", errors="replace") as it:
+            lines = it.read().split("\n")
+        changes, path, old = [], None, None
+        for line in filter(None, lines):
+            word, _, text = line.partition(":")
+            text = text.removeprefix(" ")
+            if word == "file":
+                path = text.strip()
+            elif word == "old" and path:
+                old = text
+            elif word == "new" and old:
+                changes.append(self.change(path, old.encode(), text.encode()))
+                old = None
+            else:
+                raise Unfit("it has a line that is no file, old or new text at its turn")
+        if not changes or old:
+            raise Unfit("it has no pair of an old and a new text, or half a pair")
+        return self.placed(Body(name, changes))
+
+    def change(self, path, old, new):
+        if not path.startswith("src/"):
+            raise Unfit(f"it edits {path}, and a wrong body edits code below src/ alone")
+        if path not in self.read.data:
+            raise Unfit(f"there is no file {path}, or only tests have it")
+        found = self.read.data[path].count(old)
+        if found != 1:
+            raise Unfit(f"an old text stands in {path} {found} times, and not once")
+        start = self.read.data[path].index(old)
+        return Change(path, start, start + len(old), new)
+
+    def placed(self, body):
+        """Finds the functions that the edit changes, and whether it changes the inside of one alone."""
+        for file, data in self.edited([body]).items():
+            was, now = tokens(file, self.read.data[file]), tokens(file, data)
+            if was == now:
+                raise Unfit("it changes no word of the code")
+            clauses = [[it for it in words if it[0] in ("Head", "Antt")] for words in (was, now)]
+            if clauses[0] != clauses[1]:
+                raise Unfit("it changes a clause, a ghost item or an import of these, and not the code")
+        body.is_inside = True
+        for it in body.changes:
+            start, end = it.inner(self.read.data[it.file])
+            near = [f for f in self.read.functions if f.file == it.file and f.has_body]
+            touched = [f for f in near if f.first < max(end, start + 1) and start < f.end]
+            body.functions += [f for f in touched if f not in body.functions]
+            body.is_inside &= len(touched) == 1 and touched[0].opens < start and end < touched[0].end
+        body.is_inside &= len(body.functions) == 1 and not body.functions[0].in_cycle
+        return body
+
+    def edited(self, bodies):
+        """Returns the files that these edits change, with all of them applied."""
+        changes = collections.defaultdict(list)
+        for it in (it for body in bodies for it in body.changes):
+            changes[it.file].append(it)
+        made = {}
+        for file, found in changes.items():
+            data, found = self.read.data[file], sorted(found, key=lambda it: it.start)
+            if any(a.end > b.start for a, b in zip(found, found[1:])):
+                raise Unfit("two of its old texts overlap")
+            for it in reversed(found):
+                data = data[: it.start] + it.new + data[it.end :]
+            made[file] = data
+        return made

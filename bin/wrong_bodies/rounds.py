@@ -1,0 +1,198 @@
+"""The wrong bodies of a crate, judged in rounds."""
+import shutil
+import sys
+import tempfile
+import threading
+import time
+from concurrent.futures import ThreadPoolExecutor
+
+from .checks import check, rt
+from .edits import Sources
+
+printing = threading.Lock()
+# Checks go side by side, whichever crate they are of: one a processor, each with one job. With more, or over nothing that was
+# kept, copies of rattle try failing proofs first, and then it tries them again.
+slots = threading.BoundedSemaphore(rt.processors())
+# The most wrong bodies of a round: enough that reading the libraries costs little for each, and rounds go side by side.
+MOST = 12
+
+
+def folder_of(symbol):
+    """Returns the folder of the function's own proof files."""
+    return f"proofs/{'/'.join(symbol.split('::')[1:])}/"
+
+
+class Judging:
+    """A crate whose wrong bodies are judged."""
+
+    def __init__(self, crate):
+        self.crate, self.name, self.sources = crate, crate.name, Sources(crate)
+        # The symbol of each function that a check has named.
+        self.named = {}
+        self.refused, self.failed = 0, 0
+
+    def tell(self, name, verdict, why):
+        with printing:
+            print(f"{self.name}/{name}: {verdict}, {why}", flush=True)
+        self.refused += verdict != "FAILED"
+        self.failed += verdict == "FAILED"
+
+    def note(self, text):
+        """Tells on standard error how the work goes."""
+        print(f"    {self.name}: {text}", file=sys.stderr, flush=True)
+
+    def judge(self):
+        with tempfile.TemporaryDirectory(prefix="wrong-bodies-") as self.room, ThreadPoolExecutor() as self.pool:
+            self.judge_all()
+
+    def judge_all(self):
+        for name, why in self.sources.unfit:
+            self.tell(name, "FAILED", why)
+        controls = self.sources.controls
+        if not controls or not all(it.is_inside for it in controls):
+            return self.tell("control", "FAILED", "there is no control-NAME.edit that changes the inside of one function")
+        if not self.check([]).is_proved:
+            return self.tell("control", "FAILED", "the crate itself isn't proved")
+        waiting = [it for it in self.sources.bodies if it.is_inside]
+        alone = [it for it in self.sources.bodies if not it.is_inside]
+        while waiting:
+            batches = []
+            while waiting:
+                batch, waiting = self.batch(waiting)
+                batches.append(batch)
+            for later in self.pool.map(lambda it: self.round(it, alone), batches):
+                waiting += later
+        for _ in self.pool.map(self.judge_alone, alone):
+            pass
+        if not self.check([]).is_proved:
+            self.tell("control", "FAILED", "the crate itself isn't proved over what was kept, so the rounds show nothing")
+
+    def batch(self, waiting):
+        """Chooses wrong bodies of different functions, none of which is one through which another fell."""
+        batch, left, avoided, symbols = [], [], set(), set()
+        functions = {f for it in self.sources.controls for f in it.functions}
+        for it in waiting:
+            own = {*self.symbols(it.functions[0])}
+            if len(batch) == MOST or it.functions[0] in functions or own & avoided or symbols & it.avoids:
+                left.append(it)
+            else:
+                batch.append(it)
+                functions.add(it.functions[0])
+                symbols |= own
+                avoided |= it.avoids
+        return batch, left
+
+    def round(self, batch, alone):
+        """Tries wrong bodies of different functions at once, and returns those that are for a later round."""
+        bodies = [*self.sources.controls, *batch]
+        said = self.check(bodies)
+        why_not = self.why_not(bodies, said)
+        if why_not and len(batch) == 1:
+            alone += batch
+            return []
+        if why_not:
+            self.note(f"this round shows nothing and is tried in halves: {why_not}")
+            half = len(batch) // 2
+            return self.round(batch[:half], alone) + self.round(batch[half:], alone)
+        return [it for it in batch if self.is_for_later(it, said, alone)]
+
+    def check(self, bodies, over_kept=True):
+        """Checks the crate with these bodies, over a copy of what the check of the crate itself kept, so that none of them
+        leaves anything behind. That check is the first one."""
+        texts = {file: data.decode() for file, data in self.sources.edited(bodies).items()}
+        for it in bodies:
+            texts.update(it.proofs)
+        kept = f"{self.room}/kept"
+        with slots, tempfile.TemporaryDirectory(dir=self.room) as copy:
+            start = time.monotonic()
+            if bodies and over_kept:
+                kept = shutil.copytree(kept, f"{copy}/kept")
+            said = check(self.crate, texts, kept if over_kept else None)
+            took = time.monotonic() - start
+        self.named.update(dict.fromkeys(said.functions))
+        self.note(f"{took:.0f} s for {', '.join(it.name for it in bodies) or 'the crate itself'}")
+        return said
+
+    def symbols(self, function):
+        """Returns the names under which a check speaks of a function and its closures; none where that isn't clear."""
+        module = "::".join([self.name, *function.module, ""])
+        if function.in_trait:
+            # what is written of an impl's name is between the module and the function
+            parts = [(it, it.removeprefix(module).split("::")) for it in self.named if it.startswith(module)]
+            found = [it for it, left in parts if len(left) == 2 and left[1] == function.name and function.block.fits(left[0])]
+        else:
+            owner = f"{function.owner}::" if function.block else ""
+            found = [it for it in [f"{module}{owner}{function.name}"] if it in self.named]
+        return found + [it for it in self.named if it.startswith(f"{found[0]}::")] if len(found) == 1 else []
+
+    def own(self, body):
+        """Returns the symbols of what the body changes; all, where it changes what belongs to no function."""
+        found = [self.symbols(it) for it in body.functions]
+        return [it for names in found for it in names] if found and all(found) else [*self.named]
+
+    def why_not(self, bodies, said):
+        """Returns why a round doesn't count: what failed of a function that isn't changed, or of the control, or nothing."""
+        changed = {it for body in bodies for f in body.functions for it in self.symbols(f)}
+        controls = [it for body in self.sources.controls for it in self.symbols(body.functions[0])]
+        if not said.is_judged:
+            return said.first_error()
+        for name, it in said.functions.items():
+            if not (it.is_proved or name in changed or it.falls_through_callees()):
+                return f"{name}: {it.words[:120]}"
+        if not controls or not all(it in said.functions and said.functions[it].is_proved for it in controls):
+            return "the control isn't proved"
+        folders = tuple(map(folder_of, changed))
+        elsewhere = [f"{file}:{line}{text}" for file, line, text in said.errors if not file.startswith(folders)]
+        return next(iter([*said.others, *elsewhere]), None)
+
+    def is_for_later(self, body, said, alone):
+        """Tells the verdict on a wrong body where the round shows it; else says whether it is for a later round, or alone."""
+        own = self.own(body)
+        fell = said.unproved(own)
+        body.tries += 1
+        if any(map(body.failed, fell.values())):
+            self.tell_refused(body, fell)
+            return False
+        if fell and body.tries < 4:
+            if all(it.falls_through_callees() for it in fell.values()):
+                body.avoids |= {root for name in fell for root in said.roots(name)} - {*own}
+                return True
+            if self.drop_stale(body, said):
+                return True
+        alone.append(body)
+        return False
+
+    def drop_stale(self, body, said):
+        folders = tuple(map(folder_of, self.own(body)))
+        errors = [(file, line) for file, line, _ in said.errors if file.startswith(folders)]
+        return body.drop_stale(self.crate.folder, errors)
+
+    def tell_refused(self, body, fell):
+        by = [(name, goal) for name, verdict in fell.items() for goal in body.failed(verdict)]
+        self.tell(body.name, "refused", f"by {by[0][0]}: " + ", ".join(f"`{goal}`" for _, goal in by[:2]))
+
+    def judge_alone(self, body):
+        said = self.check([body])
+        while said.is_judged and not said.is_proved and body.tries < 8 and self.drop_stale(body, said):
+            body.tries += 1
+            said = self.check([body])
+        fell = said.unproved(self.own(body))
+        goals = [(name, goal) for name, it in fell.items() for goal in it.goals]
+        words = next((it.words for it in fell.values() if not it.falls_through_callees()), None)
+        if any(map(body.failed, fell.values())):
+            self.tell_refused(body, fell)
+        elif not said.is_judged:
+            self.tell(body.name, "FAILED", f"the prover can't read the edited text: {said.first_error()}")
+        elif said.is_proved and self.check([body], over_kept=False).is_proved:
+            self.tell(body.name, "FAILED", "the crate is still proved with it")
+        elif said.is_proved:
+            self.tell(body.name, "FAILED", "the crate is proved with it over what was kept, and not from nothing")
+        elif goals:
+            name, (about, goal, how) = goals[0]
+            about = "the search gave up at a limit" if "gave up" in how else about.removeprefix("it is not proved that ")
+            about = "a kept answer no longer fits" if goal in body.stale else about
+            self.tell(body.name, "weak", f"{name}: {about} (`{goal}`)")
+        elif said.errors or not words:
+            self.tell(body.name, "FAILED", f"no goal of its own failed: {said.first_error()}")
+        else:
+            self.tell(body.name, "weak", words[:200])
