@@ -1,0 +1,83 @@
+//! Files that want memory.
+use super::*;
+use std::alloc::Allocator;
+use std::fs::{File, Metadata, OpenOptions};
+use std::io;
+
+// Has no memory for any file.
+#[derive(Drop)]
+struct Refusing(Global);
+
+impl Alloc for Refusing {
+    type A = Global;
+
+    fn alloc(&self) -> Global {
+        self.0
+    }
+}
+
+fn refused<T>() -> io::Result<T> {
+    Err(io::Error::from(AllocError))
+}
+
+impl Files for Refusing {
+    type File = File;
+
+    type Dir = File;
+
+    fn open_file(&self, _how: &OpenOptions, _path: &str) -> io::Result<File> {
+        refused()
+    }
+
+    fn open_dir(&self, _path: &str) -> io::Result<File> {
+        refused()
+    }
+
+    fn metadata(&self, _path: &str) -> io::Result<Metadata> {
+        refused()
+    }
+
+    fn symlink_metadata(&self, _path: &str) -> io::Result<Metadata> {
+        refused()
+    }
+
+    fn copy(&self, _from: &str, _to: &str) -> io::Result<u64> {
+        refused()
+    }
+
+    fn rename(&self, _from: &str, _to: &str) -> io::Result<()> {
+        refused()
+    }
+
+    fn remove_file(&self, _path: &str) -> io::Result<()> {
+        refused()
+    }
+
+    fn create_dir(&self, _path: &str) -> io::Result<()> {
+        refused()
+    }
+
+    fn remove_dir(&self, _path: &str) -> io::Result<()> {
+        refused()
+    }
+
+    fn remove_dir_all<B: Allocator>(&self, _alloc: B, _path: &str) -> io::Result<()> {
+        refused()
+    }
+}
+
+#[test]
+fn tells_want_of_memory_as_such(rt: HostRuntime) {
+    let mut output: Vec<u8> = Vec::new(rt.alloc());
+    let words = ["gate", "check", "config.json"];
+    let read = outcome(
+        &Refusing(rt.alloc()),
+        &words,
+        &mut b"".as_slice(),
+        &mut output,
+    );
+    let (status, errors) = given(&rt, read);
+    assert_eq!(rt; errors.as_slice(), b"fault: memory\n".as_slice());
+    assert_eq!(rt; status, 1);
+    assert!(rt; output.is_empty());
+}
