@@ -31,7 +31,7 @@ UNPROVED = re.compile(r"(?m)^fn \S+: (not proved|no proof)")
 GOAL = re.compile(r"note: \S+: (.*?) \(`(\S+)`\)(.*)")
 LINE = re.compile(r"(fn|struct|enum|impl|trait|union|const|static|type) (\S+): ((?:not |could not |no )?\w.*)")
 ERROR = re.compile(r"(?:\./)?((?:src|specs|proofs)/\S+?):(\d+):\d+: error(.*)")
-CALLEE = re.compile(r"(?:it calls|it passes|a call of|the call of) `([^`]+)`")
+CALLEE = re.compile(r"(?:it calls|it passes|a call of|the call of)\b[^`]*`([^`]+)`")
 
 
 class Verdict:
