@@ -1,4 +1,23 @@
+//! What events ask of a pipeline.
 use super::*;
+use gate_items::Key;
+use gate_record::{ConnId, Reading, Record, Sequence, Shared, Stamped, Text, read_record};
+
+// The event of a record, with a stamp.
+fn event_of(alloc: Global, line: &str) -> Result<PipelineItem, Fail> {
+    let record = Record::Line(Sequence::new(line.as_bytes().to_vec(alloc)?));
+    let stamp = Stamp {
+        conn: ConnId(0),
+        number: 3,
+    };
+    match read_record(alloc, &record)? {
+        Reading::Nothing(_) => Err(Fail::from("an event")),
+        Reading::Event(event) => Ok(PipelineItem::Event(Stamped {
+            stamp,
+            event: Shared::new(alloc, event)?,
+        })),
+    }
+}
 
 // What the trigger of a record asks for: its key, its patch set and its jobs.
 fn asked(alloc: Global, pipeline: PipelineId, line: &str) -> Result<String, Fail> {
@@ -6,14 +25,31 @@ fn asked(alloc: Global, pipeline: PipelineId, line: &str) -> Result<String, Fail
     let mut worker = Pipeline::new(alloc, &config, MAIN, pipeline);
     found_empty(&mut worker)?;
     found_empty(&mut worker)?;
-    let item = PipelineItem::Event(stamped(alloc, 3, line)?);
-    let (_, action, _) = took(&mut worker, &config, Taken::Trigger(item))?.ok_or(
-        "it is an action",
-    )?;
-    let Action::Trigger(key, patchset, jobs) = action else {
-        return Ok(None.ok_or("it is a trigger")?);
-    };
-    let mut text = match &key {
+    match trigger(&mut worker, &config, event_of(alloc, line)?)? {
+        Some((_, Action::Trigger(key, patchset, jobs), _)) => {
+            action_text(alloc, &key, patchset, jobs.as_slice())
+        }
+        _ => Err(Fail::from("a trigger")),
+    }
+}
+
+fn action_text(
+    alloc: Global,
+    key: &Option<Key>,
+    patchset: i64,
+    jobs: &[Text],
+) -> Result<String, Fail> {
+    let key = key_text(alloc, key)?;
+    let mut text = format!(in alloc; "{key} {patchset}")?;
+    for job in jobs {
+        text.push_str(" ")?;
+        text.push_str(job.as_str())?;
+    }
+    Ok(text)
+}
+
+fn key_text(alloc: Global, key: &Option<Key>) -> Result<String, Fail> {
+    Ok(match key {
         None => String::from_str(alloc, "none")?,
         Some(Key::Change { conn, number }) => format!(in alloc; "change {} {number}", conn.0)?,
         Some(
@@ -32,57 +68,33 @@ fn asked(alloc: Global, pipeline: PipelineId, line: &str) -> Result<String, Fail
                 project.as_str()
             )?
         }
-    };
-    let number = format!(in alloc; " {patchset}")?;
-    text.push_str(number.as_str())?;
-    for job in jobs.as_slice() {
-        text.push_str(" ")?;
-        text.push_str(job.as_str())?;
-    }
-    Ok(text)
+    })
 }
 
 #[test]
 fn makes_an_action_of_an_event(rt: HostRuntime) -> Result<(), Fail> {
-    let cases = [
-        (
-            CHECK,
-            r#"{"type":"patchset-created","change":{"project":"demo","number":7},"patchSet":{"number":2}}"#,
-            "change 0 7 2 build lint",
-        ),
-        (
-            GATE,
-            r#"{"type":"change-restored","change":{"project":"demo","number":"-7"}}"#,
-            "change 0 -7 0 build",
-        ),
-        (
-            CHECK,
-            r#"{"type":"ref-updated","patchSet":{"number":2},"refUpdate":{"project":"demo","refName":"refs/heads/a","newRev":"12ab"}}"#,
-            "ref 0 12ab refs/heads/a demo 0 build lint",
-        ),
-        (
-            CHECK,
-            r#"{"type":"x","change":{"number":7},"refUpdate":{"refName":"refs/heads/a","newRev":"12ab"}}"#,
-            "change 0 7 0",
-        ),
-        (
-            CHECK,
-            r#"{"type":"x","refUpdate":{"refName":"refs/heads/a","newRev":"12ab"}}"#,
-            "ref 0 12ab refs/heads/a  0",
-        ),
-        (
-            GATE,
-            r#"{"type":"ref-updated","refUpdate":{"project":"demo","refName":"refs/heads/a"}}"#,
-            "none 0 build",
-        ),
-        (
-            GATE,
-            r#"{"type":"ref-updated","refUpdate":{"project":"other","newRev":"12ab"}}"#,
-            "none 0",
-        ),
-    ];
-    for (pipeline, line, wanted) in cases {
-        assert_eq!(rt; asked(rt.alloc(), pipeline, line)?.as_str(), wanted);
+    let table = r#"
+        check {"type":"patchset-created","change":{"project":"demo","number":7},"patchSet":{"number":2}} -> change 0 7 2 build lint
+        gate {"type":"change-restored","change":{"project":"demo","number":"-7"}} -> change 0 -7 0 build
+        check {"type":"ref-updated","patchSet":{"number":2},"refUpdate":{"project":"demo","refName":"refs/heads/a","newRev":"12ab"}} -> ref 0 12ab refs/heads/a demo 0 build lint
+        check {"type":"x","change":{"number":7},"refUpdate":{"refName":"refs/heads/a","newRev":"12ab"}} -> change 0 7 0
+        check {"type":"x","refUpdate":{"refName":"refs/heads/a","newRev":"12ab"}} -> ref 0 12ab refs/heads/a  0
+        gate {"type":"ref-updated","refUpdate":{"project":"demo","refName":"refs/heads/a"}} -> none 0 build
+        gate {"type":"ref-updated","refUpdate":{"project":"other","newRev":"12ab"}} -> none 0
+    "#;
+    for line in table.trim().lines() {
+        let (given, wanted) = line.trim().split_once(" -> ").ok_or("an arrow")?;
+        let found = asked_of(rt.alloc(), given)?;
+        assert_eq!(rt; found.as_str(), wanted, "{line}");
     }
     Ok(())
+}
+
+// What a record asks of the pipeline that is named before it.
+fn asked_of(alloc: Global, given: &str) -> Result<String, Fail> {
+    match given.split_once(' ') {
+        Some(("check", line)) => asked(alloc, CHECK, line),
+        Some(("gate", line)) => asked(alloc, GATE, line),
+        _ => Err(Fail::from("a pipeline")),
+    }
 }
