@@ -76,15 +76,19 @@ fn is_refused(
     front: &str,
     fault: &str,
 ) -> Result<(), Fail> {
-    let (word, place) = fault.split_once(' ').unwrap_or((fault, ""));
-    let wanted = format!(in alloc; "{word} {front}{place}")?;
+    let wanted = fault_text(alloc, front, fault)?;
     let found = fault_of(alloc, document)?;
-    assert_eq!(rt;
-        found.as_str().trim_end(),
-        wanted.as_str().trim_end(),
-        "at {document}"
-    );
+    assert_eq!(rt; found.as_str(), wanted.as_str(), "at {document}");
     Ok(())
+}
+
+// A fault of a table with the front of its place. What is not JSON has none.
+fn fault_text(alloc: Global, front: &str, fault: &str) -> Result<String, AllocError> {
+    if fault == "not-json" {
+        return String::from_str(alloc, fault);
+    }
+    let (word, place) = fault.split_once(' ').unwrap_or((fault, ""));
+    format!(in alloc; "{word} {front}{place}")
 }
 
 fn fault_of(alloc: Global, document: &str) -> Result<String, AllocError> {

@@ -5,7 +5,9 @@
 //! - `listed TENANT CONN` and `belongs TENANT CONN PROJECT`
 //! - `rules TENANT PIPELINE CONN`, how many; the first of 0 0 0 as text, `rule`, and whether a record meets it, `meets JSON`
 use crate::{Config, PipelineSpec, TenantSpec};
-use gate_record::{ConnId, PipelineId, Reading, Record, Sequence, TenantId, Text, read_record};
+use gate_record::{
+    ConnId, Event, PipelineId, Reading, Record, Sequence, TenantId, Text, read_record,
+};
 use gate_rule::{Pattern, Rule};
 use std::alloc::Global;
 use std::test::Fail;
@@ -162,12 +164,15 @@ fn push_approvals(
 }
 
 fn meets(alloc: Global, rule: &Rule, json: &str) -> Result<String, Fail> {
+    let event = event_of(alloc, json)?;
+    let meets = rule.matches(alloc, &event)?;
+    Ok(format!(in alloc; "{meets}")?)
+}
+
+fn event_of(alloc: Global, json: &str) -> Result<Event, Fail> {
     let record = Record::Line(Sequence::new(json.as_bytes().to_vec(alloc)?));
     match read_record(alloc, &record)? {
-        Reading::Event(event) => {
-            let meets = rule.matches(alloc, &event)?;
-            Ok(format!(in alloc; "{meets}")?)
-        }
+        Reading::Event(event) => Ok(event),
         Reading::Nothing(_) => Err(Fail::from("an event")),
     }
 }

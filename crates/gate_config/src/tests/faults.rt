@@ -106,6 +106,12 @@ fn each_fault_of_a_rule_stands_at_its_place(rt: HostRuntime) -> Result<(), Fail>
     refused(&rt, rt.alloc(), SOURCE, AT_SOURCE, table)
 }
 
+// A document with a hole at an attribute of a rule.
+fn with_attribute(alloc: Global, attribute: &str) -> Result<String, Fail> {
+    let rules = format!(in alloc; r#"[{{"{attribute}":@}}]"#)?;
+    filled(alloc, SOURCE, rules.as_str())
+}
+
 // Sees that an attribute that lists patterns is refused, with each fault at its place.
 fn patterns_are_refused(
     rt: &impl Abort,
@@ -113,8 +119,7 @@ fn patterns_are_refused(
     attribute: &str,
     table: &str,
 ) -> Result<(), Fail> {
-    let rules = format!(in alloc; r#"[{{"{attribute}":@}}]"#)?;
-    let document = filled(alloc, SOURCE, rules.as_str())?;
+    let document = with_attribute(alloc, attribute)?;
     let place = format!(in alloc; "{AT_SOURCE}[0].{attribute}")?;
     refused(rt, alloc, document.as_str(), place.as_str(), table)
 }
