@@ -6,15 +6,23 @@ use std::test::Fail;
 
 // Compares a key with that of each line, `KEY: true` where they are the same and `KEY: false` where they aren't.
 fn compare(rt: &impl Abort, alloc: Global, key: &str, lines: &str) -> Result<(), Fail> {
-    let key = key_of(alloc, key)?;
     for line in lines.lines() {
-        let (other, same) = line.split_once(": ").ok_or("a key and a word")?;
-        let other = key_of(alloc, other)?;
-        let same = same.parse::<bool>()?;
-        assert_eq!(rt; key.is_same(&other), same, "{line}");
-        assert_eq!(rt; other.is_same(&key), same, "{line}");
+        let (other, same) = line.trim().split_once(": ").ok_or("a key and a word")?;
+        let found = are_same(alloc, key, other)?;
+        assert_eq!(rt; found.as_str(), same, "{line}");
     }
     Ok(())
+}
+
+// Whether two keys are the same, by either; they have to agree.
+fn are_same(alloc: Global, key: &str, other: &str) -> Result<String, Fail> {
+    let key = key_of(alloc, key)?;
+    let other = key_of(alloc, other)?;
+    let same = key.is_same(&other);
+    if other.is_same(&key) != same {
+        return Err(Fail::from("they agree"));
+    }
+    Ok(format!(in alloc; "{same}")?)
 }
 
 #[test]

@@ -111,11 +111,12 @@ fn complete_items_wait_for_the_head(rt: HostRuntime) -> Result<(), Fail> {
 
 // Triggers patch set 1 of changes 1 to 40, each with this outcome.
 fn forty(rt: &impl Abort, alloc: Global, items: &mut Items, outcome: &str) -> Result<(), Fail> {
+    let mut script = String::new(alloc);
     for number in 1..41 {
-        let line = format!(in alloc; "trigger {number} 1: {outcome}")?;
-        play(rt, alloc, items, "build", line.as_str())?;
+        let line = format!(in alloc; "trigger {number} 1: {outcome}\n")?;
+        script.push_str(line.as_str())?;
     }
-    Ok(())
+    play(rt, alloc, items, "build", script.as_str())
 }
 
 // Changes 1 to 40 have sets 0 to 39, and from change 10 on then 40 to 70.

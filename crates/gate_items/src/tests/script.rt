@@ -178,23 +178,28 @@ fn state(outcome: Option<bool>) -> &'static str {
 }
 
 fn key_text(alloc: Global, key: &Key) -> Result<String, Fail> {
-    Ok(match key {
-        Key::Change {
-            conn: ConnId(0),
-            number,
-        } => format!(in alloc; "{number}")?,
-        Key::Change { conn, number } => format!(in alloc; "change {} {number}", conn.0)?,
+    match key {
+        Key::Change { conn, number } => change_text(alloc, conn.0, *number),
         Key::Ref {
             conn,
             project,
             refname,
             newrev,
-        } => format!(in alloc;
-            "ref {} {} {} {}",
-            conn.0,
-            project.as_str(),
-            refname.as_str(),
-            newrev.as_str()
-        )?,
-    })
+        } => {
+            let names = [project.as_str(), refname.as_str(), newrev.as_str()];
+            ref_text(alloc, conn.0, names)
+        }
+    }
+}
+
+fn change_text(alloc: Global, conn: u32, number: i64) -> Result<String, Fail> {
+    if conn == 0 {
+        return Ok(format!(in alloc; "{number}")?);
+    }
+    Ok(format!(in alloc; "change {conn} {number}")?)
+}
+
+fn ref_text(alloc: Global, conn: u32, names: [&str; 3]) -> Result<String, Fail> {
+    let [project, refname, newrev] = names;
+    Ok(format!(in alloc; "ref {conn} {project} {refname} {newrev}")?)
 }
