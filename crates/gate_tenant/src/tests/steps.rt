@@ -8,7 +8,7 @@
 //! - `room`, `ended` and `empty` come to what they ask
 use crate::Dispatch;
 use gate_record::{
-    ConnId, PipelineId, PipelineItem, Reading, Record, Sequence, Shared, Stamp, Stamped,
+    ConnId, Event, PipelineId, PipelineItem, Reading, Record, Sequence, Shared, Stamp, Stamped,
     TenantItem, read_record,
 };
 use std::alloc::Global;
@@ -57,15 +57,20 @@ fn stamped(alloc: Global, words: &str) -> Result<Stamped, Fail> {
         conn: ConnId(conn.parse::<u32>()?),
         number: number.parse::<u64>()?,
     };
-    let line = format!(in alloc; r#"{{"type":"{kind}","change":{{"project":"demo"}}}}"#)?;
-    let record = Record::Line(Sequence::new(line.as_bytes().to_vec(alloc)?));
-    match read_record(alloc, &record)? {
+    let event = Shared::new(alloc, event_of(alloc, kind)?)?;
+    Ok(Stamped { stamp, event })
+}
+
+fn event_of(alloc: Global, kind: &str) -> Result<Event, Fail> {
+    match read_record(alloc, &record_of(alloc, kind)?)? {
+        Reading::Event(event) => Ok(event),
         Reading::Nothing(_) => Err(Fail::from("an event")),
-        Reading::Event(event) => Ok(Stamped {
-            stamp,
-            event: Shared::new(alloc, event)?,
-        }),
     }
+}
+
+fn record_of(alloc: Global, kind: &str) -> Result<Record, Fail> {
+    let line = format!(in alloc; r#"{{"type":"{kind}","change":{{"project":"demo"}}}}"#)?;
+    Ok(Record::Line(Sequence::new(line.as_bytes().to_vec(alloc)?)))
 }
 
 fn match_batch(alloc: Global, dispatch: &mut Dispatch<'_>) -> Result<(), Fail> {
