@@ -1,21 +1,23 @@
 //! What events ask of a pipeline.
 use super::*;
 use gate_items::Key;
-use gate_record::{ConnId, Reading, Record, Sequence, Shared, Stamped, Text, read_record};
+use gate_record::{ConnId, Event, Reading, Record, Sequence, Shared, Stamped, Text, read_record};
 
 // The event of a record, with a stamp.
-fn event_of(alloc: Global, line: &str) -> Result<PipelineItem, Fail> {
-    let record = Record::Line(Sequence::new(line.as_bytes().to_vec(alloc)?));
+fn item_of(alloc: Global, line: &str) -> Result<PipelineItem, Fail> {
     let stamp = Stamp {
         conn: ConnId(0),
         number: 3,
     };
+    let event = Shared::new(alloc, event_of(alloc, line)?)?;
+    Ok(PipelineItem::Event(Stamped { stamp, event }))
+}
+
+fn event_of(alloc: Global, line: &str) -> Result<Event, Fail> {
+    let record = Record::Line(Sequence::new(line.as_bytes().to_vec(alloc)?));
     match read_record(alloc, &record)? {
+        Reading::Event(event) => Ok(event),
         Reading::Nothing(_) => Err(Fail::from("an event")),
-        Reading::Event(event) => Ok(PipelineItem::Event(Stamped {
-            stamp,
-            event: Shared::new(alloc, event)?,
-        })),
     }
 }
 
@@ -25,7 +27,7 @@ fn asked(alloc: Global, pipeline: PipelineId, line: &str) -> Result<String, Fail
     let mut worker = Pipeline::new(alloc, &config, MAIN, pipeline);
     found_empty(&mut worker)?;
     found_empty(&mut worker)?;
-    match trigger(&mut worker, &config, event_of(alloc, line)?)? {
+    match trigger(&mut worker, &config, item_of(alloc, line)?)? {
         Some((_, Action::Trigger(key, patchset, jobs), _)) => {
             action_text(alloc, &key, patchset, jobs.as_slice())
         }
@@ -49,9 +51,9 @@ fn action_text(
 }
 
 fn key_text(alloc: Global, key: &Option<Key>) -> Result<String, Fail> {
-    Ok(match key {
-        None => String::from_str(alloc, "none")?,
-        Some(Key::Change { conn, number }) => format!(in alloc; "change {} {number}", conn.0)?,
+    match key {
+        None => Ok(String::from_str(alloc, "none")?),
+        Some(Key::Change { conn, number }) => Ok(format!(in alloc; "change {} {number}", conn.0)?),
         Some(
             Key::Ref {
                 conn,
@@ -60,15 +62,15 @@ fn key_text(alloc: Global, key: &Option<Key>) -> Result<String, Fail> {
                 newrev,
             },
         ) => {
-            format!(in alloc;
-                "ref {} {} {} {}",
-                conn.0,
-                newrev.as_str(),
-                refname.as_str(),
-                project.as_str()
-            )?
+            let names = [newrev.as_str(), refname.as_str(), project.as_str()];
+            ref_text(alloc, conn.0, names)
         }
-    })
+    }
+}
+
+fn ref_text(alloc: Global, conn: u32, names: [&str; 3]) -> Result<String, Fail> {
+    let [newrev, refname, project] = names;
+    Ok(format!(in alloc; "ref {conn} {newrev} {refname} {project}")?)
 }
 
 #[test]
