@@ -30,11 +30,21 @@ fn load(alloc: Global, forward: &mut Forward<'_>, words: &str) -> Result<String,
     let (number, line) = words.split_once(' ').ok_or("a number")?;
     let number = number.parse::<u64>()?;
     let record = Record::Line(Sequence::new(line.as_bytes().to_vec(alloc)?));
+    load_record(alloc, forward, number, record)?;
+    Ok(String::new(alloc))
+}
+
+fn load_record(
+    alloc: Global,
+    forward: &mut Forward<'_>,
+    number: u64,
+    record: Record,
+) -> Result<(), Fail> {
     if forward.is_out() || !forward.is_empty() {
         return Err(Fail::from("an item is in the hand"));
     }
     forward.load(alloc, number, record)?;
-    Ok(String::new(alloc))
+    Ok(())
 }
 
 fn load_end(alloc: Global, forward: &mut Forward<'_>) -> Result<String, Fail> {
