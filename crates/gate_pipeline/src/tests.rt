@@ -2,10 +2,13 @@
 mod actions;
 mod turns;
 
+ghost use Rattle.std.specs.Prelude.{◌≡◌};
+ghost use Rattle.gate_pipeline.specs.States.{asked, next_of};
+
 use super::*;
 use gate_config::{Config, ConfigFault, read_config};
 use gate_items::{Action, JobResult, Manage, Outcome};
-use gate_record::{PipelineId, PipelineItem, Stamp, TenantId};
+use gate_record::{Memory, PipelineId, PipelineItem, Stamp, TenantId};
 use std::alloc::Global;
 use std::test::Fail;
 
@@ -26,17 +29,24 @@ fn config(alloc: Global) -> Result<Config, ConfigFault> {
 // What the pipeline makes of a taking, and its outcome; nothing for the end mark.
 type Processed = Option<(Option<Stamp>, Action, Outcome)>;
 
+// Takes what the pipeline asks for. Whoever calls this knows nothing of what came of it, so that little has to be proved.
+fn took(pipeline: &mut Pipeline, config: &Config, given: Taken) -> Result<Processed, Memory>
+    requires asked { next_of pipeline.old ≡ asked given }
+{
+    pipeline.took(config, given)
+}
+
 // Takes an operator's wish, if the pipeline wants one.
 fn manage(pipeline: &mut Pipeline, config: &Config, manage: Manage) -> Result<Processed, Fail> {
     match pipeline.wants() {
-        Which::Management => Ok(pipeline.took(config, Taken::Manage(manage))?),
+        Which::Management => Ok(took(pipeline, config, Taken::Manage(manage))?),
         _ => Err(Fail::from("the pipeline wants another queue")),
     }
 }
 
 fn ended(pipeline: &mut Pipeline, config: &Config, ended: JobResult) -> Result<Processed, Fail> {
     match pipeline.wants() {
-        Which::Result => Ok(pipeline.took(config, Taken::Result(ended))?),
+        Which::Result => Ok(took(pipeline, config, Taken::Result(ended))?),
         _ => Err(Fail::from("the pipeline wants another queue")),
     }
 }
@@ -47,7 +57,7 @@ fn trigger(
     item: PipelineItem,
 ) -> Result<Processed, Fail> {
     match pipeline.wants() {
-        Which::Trigger => Ok(pipeline.took(config, Taken::Trigger(item))?),
+        Which::Trigger => Ok(took(pipeline, config, Taken::Trigger(item))?),
         _ => Err(Fail::from("the pipeline wants another queue")),
     }
 }
