@@ -9,7 +9,6 @@
 use super::{Action, Items, JobResult, Key, Manage};
 use gate_record::{ConnId, Sequence, Text};
 use std::alloc::Global;
-use std::str::SplitWhitespace;
 use std::test::Fail;
 
 // The lines without what stands around them, and without empty ones.
@@ -59,7 +58,7 @@ fn do_act(alloc: Global, items: &mut Items, jobs: &str, act: &str) -> Result<Str
 }
 
 fn action_of(alloc: Global, jobs: &str, act: &str) -> Result<Action, Fail> {
-    let mut words = act.split_whitespace();
+    let mut words = act;
     match word(&mut words)? {
         "keyless" => Ok(Action::Trigger(None, 1, texts(alloc, jobs)?)),
         "jobless" => Ok(Action::Trigger(Some(key(alloc, &mut words)?), 1, Sequence::empty(alloc))),
@@ -71,13 +70,13 @@ fn action_of(alloc: Global, jobs: &str, act: &str) -> Result<Action, Fail> {
     }
 }
 
-fn trigger(alloc: Global, jobs: &str, words: &mut SplitWhitespace<'_>) -> Result<Action, Fail> {
+fn trigger(alloc: Global, jobs: &str, words: &mut &str) -> Result<Action, Fail> {
     let key = key(alloc, words)?;
     let patchset = number(words)?;
     Ok(Action::Trigger(Some(key), patchset, texts(alloc, jobs)?))
 }
 
-fn ended(alloc: Global, words: &mut SplitWhitespace<'_>) -> Result<Action, Fail> {
+fn ended(alloc: Global, words: &mut &str) -> Result<Action, Fail> {
     let set = word(words)?.parse::<u64>()?;
     let job = Text::copy(alloc, word(words)?)?;
     let success = match word(words)? {
@@ -90,11 +89,11 @@ fn ended(alloc: Global, words: &mut SplitWhitespace<'_>) -> Result<Action, Fail>
 
 // The key of one line.
 pub(super) fn key_of(alloc: Global, line: &str) -> Result<Key, Fail> {
-    let mut words = line.split_whitespace();
+    let mut words = line.trim();
     key(alloc, &mut words)
 }
 
-fn key(alloc: Global, words: &mut SplitWhitespace<'_>) -> Result<Key, Fail> {
+fn key(alloc: Global, words: &mut &str) -> Result<Key, Fail> {
     match word(words)? {
         "ref" => ref_key(alloc, words),
         "change" => Ok(change(conn(words)?, number(words)?)),
@@ -106,7 +105,7 @@ fn change(conn: ConnId, number: i64) -> Key {
     Key::Change { conn, number }
 }
 
-fn ref_key(alloc: Global, words: &mut SplitWhitespace<'_>) -> Result<Key, Fail> {
+fn ref_key(alloc: Global, words: &mut &str) -> Result<Key, Fail> {
     let conn = conn(words)?;
     let project = Text::copy(alloc, word(words)?)?;
     let refname = Text::copy(alloc, word(words)?)?;
@@ -119,15 +118,22 @@ fn ref_key(alloc: Global, words: &mut SplitWhitespace<'_>) -> Result<Key, Fail> 
     })
 }
 
-fn word<'a>(words: &mut SplitWhitespace<'a>) -> Result<&'a str, Fail> {
-    Ok(words.next().ok_or("a word")?)
+// The next word, without which the others are left.
+fn word<'a>(words: &mut &'a str) -> Result<&'a str, Fail> {
+    let text: &'a str = *words;
+    let (word, rest) = text.split_once(' ').unwrap_or((text, ""));
+    *words = rest;
+    if word.is_empty() {
+        return Err(Fail::from("a word"));
+    }
+    Ok(word)
 }
 
-fn number(words: &mut SplitWhitespace<'_>) -> Result<i64, Fail> {
+fn number(words: &mut &str) -> Result<i64, Fail> {
     Ok(word(words)?.parse::<i64>()?)
 }
 
-fn conn(words: &mut SplitWhitespace<'_>) -> Result<ConnId, Fail> {
+fn conn(words: &mut &str) -> Result<ConnId, Fail> {
     Ok(ConnId(word(words)?.parse::<u32>()?))
 }
 
