@@ -25,11 +25,25 @@ fn event_of(alloc: Global, line: &str) -> Result<Event, Fail> {
 fn asked(alloc: Global, pipeline: PipelineId, line: &str) -> Result<String, Fail> {
     let config = config(alloc)?;
     let mut worker = Pipeline::new(alloc, &config, MAIN, pipeline);
-    found_empty(&mut worker)?;
-    found_empty(&mut worker)?;
-    match trigger(&mut worker, &config, item_of(alloc, line)?)? {
+    asked_of(alloc, &mut worker, &config, line)
+}
+
+fn asked_of(
+    alloc: Global,
+    worker: &mut Pipeline,
+    config: &Config,
+    line: &str,
+) -> Result<String, Fail> {
+    found_empty(worker)?;
+    found_empty(worker)?;
+    let processed = trigger(worker, config, item_of(alloc, line)?)?;
+    processed_text(alloc, &processed)
+}
+
+fn processed_text(alloc: Global, processed: &Processed) -> Result<String, Fail> {
+    match processed {
         Some((_, Action::Trigger(key, patchset, jobs), _)) => {
-            action_text(alloc, &key, patchset, jobs.as_slice())
+            action_text(alloc, key, *patchset, jobs.as_slice())
         }
         _ => Err(Fail::from("a trigger")),
     }
@@ -86,14 +100,14 @@ fn makes_an_action_of_an_event(rt: HostRuntime) -> Result<(), Fail> {
     "#;
     for line in table.trim().lines() {
         let (given, wanted) = line.trim().split_once(" -> ").ok_or("an arrow")?;
-        let found = asked_of(rt.alloc(), given)?;
+        let found = answer(rt.alloc(), given)?;
         assert_eq!(rt; found.as_str(), wanted, "{line}");
     }
     Ok(())
 }
 
 // What a record asks of the pipeline that is named before it.
-fn asked_of(alloc: Global, given: &str) -> Result<String, Fail> {
+fn answer(alloc: Global, given: &str) -> Result<String, Fail> {
     match given.split_once(' ') {
         Some(("check", line)) => asked(alloc, CHECK, line),
         Some(("gate", line)) => asked(alloc, GATE, line),

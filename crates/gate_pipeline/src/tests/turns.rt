@@ -9,13 +9,24 @@ use gate_items::Key;
 use gate_record::{ConnId, Text};
 use std::process::Abort;
 
-// Takes each turn of a script, and compares what it comes to with what stands behind the arrow.
+// Plays a script from the start of the pipeline.
 fn play(rt: &impl Abort, alloc: Global, script: &str) -> Result<(), Fail> {
     let config = config(alloc)?;
     let mut pipeline = Pipeline::new(alloc, &config, MAIN, CHECK);
+    play_over(rt, alloc, &mut pipeline, &config, script)
+}
+
+// Takes each turn of a script, and compares what it comes to with what stands behind the arrow.
+fn play_over(
+    rt: &impl Abort,
+    alloc: Global,
+    pipeline: &mut Pipeline,
+    config: &Config,
+    script: &str,
+) -> Result<(), Fail> {
     for line in script.trim().lines() {
         let (act, wanted) = line.trim().split_once(" -> ").unwrap_or((line.trim(), ""));
-        let found = turn(alloc, &mut pipeline, &config, act)?;
+        let found = turn(alloc, pipeline, config, act)?;
         assert_eq!(rt; found.as_str(), wanted, "{line}");
     }
     Ok(())
