@@ -44,9 +44,9 @@ fn turn(
             found_empty(pipeline)?;
             Ok(String::new(alloc))
         }
-        "end" => outcome(alloc, trigger(pipeline, config, PipelineItem::End)?),
-        "dequeue" => outcome(alloc, manage(pipeline, config, dequeue(rest)?)?),
-        "ended" => outcome(alloc, ended(pipeline, config, succeeded(alloc, rest)?)?),
+        "end" => take_end(alloc, pipeline, config),
+        "dequeue" => take_dequeue(alloc, pipeline, config, rest),
+        "ended" => take_ended(alloc, pipeline, config, rest),
         "wants" => Ok(format!(in alloc; "{:?}", pipeline.wants())?),
         "finished" => Ok(format!(in alloc; "{}", pipeline.finished())?),
         "done" => Ok(format!(in alloc; "{}", pipeline.done().len())?),
@@ -54,7 +54,32 @@ fn turn(
     }
 }
 
-fn outcome(alloc: Global, processed: Processed) -> Result<String, Fail> {
+fn take_end(alloc: Global, pipeline: &mut Pipeline, config: &Config) -> Result<String, Fail> {
+    let processed = trigger(pipeline, config, PipelineItem::End)?;
+    outcome(alloc, &processed)
+}
+
+fn take_dequeue(
+    alloc: Global,
+    pipeline: &mut Pipeline,
+    config: &Config,
+    number: &str,
+) -> Result<String, Fail> {
+    let processed = manage(pipeline, config, dequeue(number)?)?;
+    outcome(alloc, &processed)
+}
+
+fn take_ended(
+    alloc: Global,
+    pipeline: &mut Pipeline,
+    config: &Config,
+    words: &str,
+) -> Result<String, Fail> {
+    let processed = ended(pipeline, config, succeeded(alloc, words)?)?;
+    outcome(alloc, &processed)
+}
+
+fn outcome(alloc: Global, processed: &Processed) -> Result<String, Fail> {
     match processed {
         Some((_, _, outcome)) => Ok(format!(in alloc; "{outcome:?}")?),
         None => Ok(String::new(alloc)),
