@@ -1,3 +1,4 @@
+mod asked;
 mod faults;
 mod jobs;
 mod pipelines;
@@ -5,38 +6,32 @@ mod rules;
 mod tenants;
 
 use super::*;
-use gate_record::{ConnId, PipelineId, Reading, Record, Sequence, TenantId, read_record};
 use std::alloc::{AllocError, Global};
 use std::process::Abort;
 use std::test::Fail;
 
-const BASE: &str =
-    r#"{"tenants":[{"name":"main","source":{"gerrit":{"untrusted-projects":["demo"]}}}],"config":{"main":[{"pipeline":{"name":"check","manager":"independent","trigger":{"gerrit":[{"event":"patchset-created"}]}}},{"project":{"name":"demo","check":{"jobs":["build"]}}}]}}"#;
+// Documents, each with a hole at `@`: the list of tenants; the items of `main`, alone and behind a pipeline `check`; a
+// trigger of that pipeline; the rules of that trigger.
+const TENANTS: &str = r#"{"tenants":@,"config":{}}"#;
 
-// A document with these tenants, and with none of their lists.
-fn with_tenants(alloc: Global, tenants: &str) -> Result<String, AllocError> {
-    format!(in alloc; "{{\"tenants\":{tenants},\"config\":{{}}}}")
-}
+const ITEMS: &str = r#"{"tenants":[{"name":"main","source":{"gerrit":null}}],"config":{"main":@}}"#;
 
-// The base document with these items of `main`.
-fn with_items(alloc: Global, items: &str) -> Result<String, AllocError> {
-    format!(in alloc;
-        "{{\"tenants\":[{{\"name\":\"main\",\"source\":{{\"gerrit\":null}}}}],\"config\":{{\"main\":{items}}}}}"
-    )
-}
+const BEHIND_CHECK: &str =
+    r#"{"tenants":[{"name":"main","source":{"gerrit":null}}],"config":{"main":[{"pipeline":{"name":"check","manager":"independent"}},@]}}"#;
 
-// The base document with this trigger.
-fn with_trigger(alloc: Global, trigger: &str) -> Result<String, AllocError> {
-    let items = format!(in alloc;
-        "[{{\"pipeline\":{{\"name\":\"check\",\"manager\":\"independent\",\"trigger\":{trigger}}}}}]"
-    )?;
-    with_items(alloc, items.as_str())
-}
+const TRIGGER: &str =
+    r#"{"tenants":[{"name":"main","source":{"gerrit":null}}],"config":{"main":[{"pipeline":{"name":"check","manager":"independent","trigger":@}}]}}"#;
 
-// The base document with this value at `trigger.gerrit`.
-fn with_rules(alloc: Global, rules: &str) -> Result<String, AllocError> {
-    let trigger = format!(in alloc; "{{\"gerrit\":{rules}}}")?;
-    with_trigger(alloc, trigger.as_str())
+const RULES: &str =
+    r#"{"tenants":[{"name":"main","source":{"gerrit":null}}],"config":{"main":[{"pipeline":{"name":"check","manager":"independent","trigger":{"gerrit":@}}}]}}"#;
+
+// The place of those rules.
+const AT_RULES: &str = "config.main[0].pipeline.trigger.gerrit";
+
+// A document with this in its hole.
+fn filled(alloc: Global, document: &str, text: &str) -> Result<String, Fail> {
+    let (front, back) = document.split_once('@').ok_or("a hole")?;
+    Ok(format!(in alloc; "{front}{text}{back}")?)
 }
 
 // A list of that many times this item.
@@ -52,139 +47,144 @@ fn list_of(alloc: Global, count: usize, item: &str) -> Result<String, AllocError
     Ok(list)
 }
 
-fn kind_of(fault: &ConfigFault) -> &'static str {
-    match fault {
-        ConfigFault::Memory => "memory",
-        ConfigFault::NotJson => "not-json",
-        ConfigFault::Shape(_) => "shape",
-        ConfigFault::Limit(_) => "limit",
-        ConfigFault::Manager(_) => "manager",
-        ConfigFault::Attribute(_) => "attribute",
-        ConfigFault::Pattern(_) => "pattern",
-        ConfigFault::Repeated(_) => "repeated",
-    }
+// The two halves of a line of a table, around the arrow.
+fn halves(line: &str) -> Result<(&str, &str), Fail> {
+    Ok(line.trim().split_once(" -> ").ok_or("an arrow")?)
 }
 
-fn place_of(fault: &ConfigFault) -> &str {
-    match fault {
-        ConfigFault::Memory | ConfigFault::NotJson => "",
-        ConfigFault::Shape(place)
-        | ConfigFault::Limit(place)
-        | ConfigFault::Manager(place)
-        | ConfigFault::Attribute(place)
-        | ConfigFault::Pattern(place)
-        | ConfigFault::Repeated(place) => place.as_str(),
+// Sees that a document is refused for each line of a table: what is in its hole, an arrow, the word of the fault and, behind
+// a space, what follows `front` in the place.
+fn refused(
+    rt: &impl Abort,
+    alloc: Global,
+    document: &str,
+    front: &str,
+    table: &str,
+) -> Result<(), Fail> {
+    for line in table.trim().lines() {
+        let (text, fault) = halves(line)?;
+        let whole = filled(alloc, document, text)?;
+        is_refused(rt, alloc, whole.as_str(), front, fault)?;
     }
+    Ok(())
 }
 
-fn assert_fault(rt: &impl Abort, alloc: Global, document: &str, kind: &str, place: &str) {
+fn is_refused(
+    rt: &impl Abort,
+    alloc: Global,
+    document: &str,
+    front: &str,
+    fault: &str,
+) -> Result<(), Fail> {
+    let wanted = fault_text(alloc, front, fault)?;
+    let found = fault_of(alloc, document)?;
+    assert_eq!(rt; found.as_str(), wanted.as_str(), "at {document}");
+    Ok(())
+}
+
+// A fault of a table with the front of its place. What is not JSON has none.
+fn fault_text(alloc: Global, front: &str, fault: &str) -> Result<String, AllocError> {
+    if fault == "not-json" {
+        return String::from_str(alloc, fault);
+    }
+    let (word, place) = fault.split_once(' ').unwrap_or((fault, ""));
+    format!(in alloc; "{word} {front}{place}")
+}
+
+fn fault_of(alloc: Global, document: &str) -> Result<String, AllocError> {
     match read_config(alloc, document.as_bytes()) {
-        Ok(_) => assert!(rt; false, "{document} is read"),
-        Err(fault) => {
-            assert_eq!(rt; kind_of(&fault), kind, "at {document}");
-            assert_eq!(rt; place_of(&fault), place, "at {document}");
-        }
+        Ok(_) => String::from_str(alloc, "none"),
+        Err(fault) => format!(in alloc; "{fault}"),
     }
 }
 
-// How many rules the first pipeline has for the first connection.
-fn count_rules(alloc: Global, document: &str) -> Result<usize, ConfigFault> {
-    let config = read_config(alloc, document.as_bytes())?;
-    Ok(config.rules(TenantId(0), PipelineId(0), ConnId(0)).len())
+// Sees that the document with this in its hole says what a table says: questions (`asked`), and behind arrows answers.
+fn says(
+    rt: &impl Abort,
+    alloc: Global,
+    document: &str,
+    text: &str,
+    table: &str,
+) -> Result<(), Fail> {
+    let whole = filled(alloc, document, text)?;
+    let config = read_config(alloc, whole.as_bytes())?;
+    answers(rt, alloc, &config, table)
 }
 
-#[test]
-fn base_is_read(rt: HostRuntime) -> Result<(), Fail> {
-    let alloc = rt.alloc();
-    let config = read_config(alloc, BASE.as_bytes())?;
-    let (tenant, conn, pipeline) = (TenantId(0), ConnId(0), PipelineId(0));
-    assert_eq!(rt; config.connections().len(), 1);
-    assert_eq!(rt; config.connections()[0].as_str(), "gerrit");
-    assert_eq!(rt; config.tenants().len(), 1);
-    assert_eq!(rt; config.tenants()[0].name.as_str(), "main");
-    assert_eq!(rt; config.pipelines(tenant).len(), 1);
-    assert_eq!(rt; config.pipelines(tenant)[0].name.as_str(), "check");
-    assert_eq!(rt;
-        config.pipelines(tenant)[0].manager,
-        ManagerKind::Independent
-    );
-    assert!(rt; config.listed(tenant, conn));
-    assert!(rt; !config.listed(tenant, ConnId(1)));
-    assert!(rt; config.belongs(tenant, conn, "demo"));
-    assert!(rt; !config.belongs(tenant, conn, "other"));
-    let rules = config.rules(tenant, pipeline, conn);
-    assert_eq!(rt; rules.len(), 1);
-    let patterns = rules[0].event.as_slice();
-    assert_eq!(rt; patterns.len(), 1);
-    assert_eq!(rt; patterns[0].text(), "patchset-created");
-    let jobs = config.jobs(tenant, pipeline, "demo");
-    assert_eq!(rt; jobs.len(), 1);
-    assert_eq!(rt; jobs[0].as_str(), "build");
-    for (line, met) in [
-        (r#"{"type":"patchset-created"}"#, true),
-        (r#"{"type":"ref-updated"}"#, false),
-    ] {
-        let record = Record::Line(Sequence::new(line.as_bytes().to_vec(alloc)?));
-        match read_record(alloc, &record)? {
-            Reading::Event(event) => {
-                assert_eq!(rt; rules[0].matches(alloc, &event)?, met, "{line}");
-            }
-            Reading::Nothing(_) => panic!(rt; "the record is an event"),
-        }
+fn answers(rt: &impl Abort, alloc: Global, config: &Config, table: &str) -> Result<(), Fail> {
+    for line in table.trim().lines() {
+        let (question, wanted) = halves(line)?;
+        let found = asked::answer(alloc, config, question)?;
+        assert_eq!(rt; found.as_str(), wanted, "{question}");
     }
     Ok(())
 }
 
 #[test]
-fn documents_are_refused(rt: HostRuntime) {
-    for (document, kind, place) in [
-        ("{", "not-json", ""),
-        ("[]", "shape", ""),
-        (r#"{"tenants":[{"name":"main"}]}"#, "shape", "config"),
-        (
-            r#"{"tenants":[{"name":"main"}],"config":null}"#,
-            "shape",
-            "config",
-        ),
-        (r#"{"tenants":[5],"config":[]}"#, "shape", "config"),
-        (r#"{"tenants":{},"config":[]}"#, "shape", "tenants"),
-        (r#"{"config":{}}"#, "shape", "tenants"),
-        (
-            r#"{"tenants":[{"name":"main"}],"config":{"main":{}}}"#,
-            "shape",
-            "config.main",
-        ),
-    ] {
-        assert_fault(&rt, rt.alloc(), document, kind, place);
-    }
+fn base_is_read(rt: HostRuntime) -> Result<(), Fail> {
+    let base =
+        r#"{"tenants":[{"name":"main","source":{"gerrit":{"untrusted-projects":["demo"]}}}],"config":{"main":[{"pipeline":{"name":"check","manager":"independent","trigger":{"gerrit":[{"event":"patchset-created"}]}}},{"project":{"name":"demo","check":{"jobs":["build"]}}}]}}"#;
+    let table = r#"
+        connections -> gerrit
+        tenants -> main
+        pipelines 0 -> check:Independent
+        listed 0 0 -> true
+        listed 0 1 -> false
+        belongs 0 0 demo -> true
+        belongs 0 0 other -> false
+        rules 0 0 0 -> 1
+        rule -> event=patchset-created ignore-deletes=true
+        jobs 0 0 demo -> build
+        meets {"type":"patchset-created"} -> true
+        meets {"type":"ref-updated"} -> false
+    "#;
+    says(&rt, rt.alloc(), "@", base, table)
+}
+
+#[test]
+fn documents_are_refused(rt: HostRuntime) -> Result<(), Fail> {
+    let table = r#"
+        { -> not-json
+        [] -> shape
+        {"tenants":[{"name":"main"}]} -> shape config
+        {"tenants":[{"name":"main"}],"config":null} -> shape config
+        {"tenants":[5],"config":[]} -> shape config
+        {"tenants":{},"config":[]} -> shape tenants
+        {"config":{}} -> shape tenants
+        {"tenants":[{"name":"main"}],"config":{"main":{}}} -> shape config.main
+    "#;
+    refused(&rt, rt.alloc(), "@", "", table)
 }
 
 #[test]
 fn what_is_absent(rt: HostRuntime) -> Result<(), Fail> {
-    let alloc = rt.alloc();
     for trigger in [
         r#"{"timer":[{"time":"0 0"}]}"#,
         r#"{"gerrit":null}"#,
         r#"{"gerrit":[]}"#,
         "null",
     ] {
-        assert_eq!(rt;
-            count_rules(alloc, with_trigger(alloc, trigger)?.as_str())?,
-            0,
-            "at {trigger}"
-        );
+        says(&rt, rt.alloc(), TRIGGER, trigger, "rules 0 0 0 -> 0")?;
     }
+    let nothing = "
+        pipelines 0 -> nothing
+        listed 0 0 -> true
+        belongs 0 0 demo -> false
+    ";
     for items in ["null", "[]", r#"[{"pipeline":null},{"project":null}]"#] {
-        let config = read_config(alloc, with_items(alloc, items)?.as_bytes())?;
-        assert_eq!(rt; config.pipelines(TenantId(0)).len(), 0, "at {items}");
-        assert!(rt; config.listed(TenantId(0), ConnId(0)));
-        assert!(rt; !config.belongs(TenantId(0), ConnId(0), "demo"));
+        says(&rt, rt.alloc(), ITEMS, items, nothing)?;
     }
+    Ok(())
+}
+
+#[test]
+fn what_is_absent_of_tenants(rt: HostRuntime) -> Result<(), Fail> {
     let tenants =
         r#"[{},{"tenant":null},{"tenant":null,"name":"main","source":{"a":{"config-projects":["x"],"untrusted-projects":["y"]}}}]"#;
-    let config = read_config(alloc, with_tenants(alloc, tenants)?.as_bytes())?;
-    assert_eq!(rt; config.tenants().len(), 1);
-    assert!(rt; config.belongs(TenantId(0), ConnId(0), "x"));
-    assert!(rt; config.belongs(TenantId(0), ConnId(0), "y"));
-    Ok(())
+    let table = "
+        tenants -> main
+        belongs 0 0 x -> true
+        belongs 0 0 y -> true
+    ";
+    says(&rt, rt.alloc(), TENANTS, tenants, table)
 }

@@ -1,56 +1,46 @@
+//! Scripts: a line `read TEXT` and, in the lines behind it, what the record is read as.
 mod accounts;
 mod approvals;
 mod events;
 mod numbers;
 mod readings;
+mod shown;
 
 use super::*;
 use std::alloc::Global;
 use std::process::Abort;
 use std::test::Fail;
 
-// What a line is read as.
-fn read(rt: &impl Abort, alloc: Global, line: &[u8]) -> Result<Reading, Fail> {
-    let record = Record::Line(Sequence::new(line.to_vec(alloc)?));
-    match read_record(alloc, &record) {
-        Ok(reading) => Ok(reading),
-        Err(Memory) => panic!(rt; "there is memory"),
-    }
+// Reads the records of a script. What they are read as has to be what the script says.
+fn play(rt: &impl Abort, alloc: Global, script: &str) -> Result<(), Fail> {
+    let wanted = shown::trimmed(alloc, script)?;
+    let played = shown::played(alloc, wanted.as_str())?;
+    assert_eq!(rt; played.as_str(), wanted.as_str());
+    Ok(())
 }
 
-// The event that a line is read as.
-fn read_event(rt: &impl Abort, alloc: Global, line: &str) -> Result<Event, Fail> {
-    match read(rt, alloc, line.as_bytes())? {
-        Reading::Event(event) => Ok(event),
-        Reading::Nothing(_) => panic!(rt; "the record is an event"),
-    }
+// Sees what one record is read as, whose bytes no script can have.
+fn check(rt: &impl Abort, alloc: Global, line: &[u8], wanted: &str) -> Result<(), Fail> {
+    let found = shown::reading(alloc, line)?;
+    assert_eq!(rt; found.as_str(), wanted);
+    Ok(())
 }
 
-// Why a line is no event; nothing where it is one.
-fn why(rt: &impl Abort, alloc: Global, line: &[u8]) -> Result<Option<Why>, Fail> {
-    match read(rt, alloc, line)? {
-        Reading::Event(_) => Ok(None),
-        Reading::Nothing(why) => Ok(Some(why)),
-    }
-}
-
-fn text_of(field: &Option<Text>) -> Option<&str> {
-    field.as_ref().map(Text::as_str)
-}
-
-// Whether an event has these approvals, in this order.
-fn has_votes(event: &Event, wanted: &[(&str, i64)]) -> bool {
-    event.approvals.len() == wanted.len()
-        && event.approvals.as_slice().iter().zip(wanted).all(|(vote, wanted)| vote.0.as_str()
-            == wanted.0
-            && vote.1 == wanted.1)
+// The two halves of a line of a table, around the first arrow.
+fn halves(line: &str) -> Result<(&str, &str), Fail> {
+    Ok(line.trim().split_once(" -> ").ok_or("an arrow")?)
 }
 
 #[test]
-fn keeps_texts_and_lists(rt: HostRuntime) -> Result<(), Fail> {
+fn keeps_texts(rt: HostRuntime) -> Result<(), Fail> {
     let text = Text::copy(rt.alloc(), "demo")?;
     assert_eq!(rt; text.as_str(), "demo");
     assert_eq!(rt; Text::new(text.into_string()).as_str(), "demo");
+    Ok(())
+}
+
+#[test]
+fn keeps_lists(rt: HostRuntime) -> Result<(), Fail> {
     let mut list = Sequence::empty(rt.alloc());
     list.push(7)?;
     list.push(8)?;
@@ -59,19 +49,30 @@ fn keeps_texts_and_lists(rt: HostRuntime) -> Result<(), Fail> {
     assert_eq!(rt; list.get(2).copied(), None);
     assert_eq!(rt; list.as_slice(), [7, 8].as_slice());
     assert_eq!(rt; list.into_vec().len(), 2);
+    Ok(())
+}
+
+#[test]
+fn shares_values(rt: HostRuntime) -> Result<(), Fail> {
     let shared = Shared::new(rt.alloc(), 5)?;
     assert_eq!(rt; *shared.share()?.get(), 5);
     Ok(())
 }
 
-#[test]
-fn queues_pop_at_the_front(rt: HostRuntime) -> Result<(), Fail> {
-    let mut queue = Queue::new(rt.alloc());
-    let mut other = Queue::new(rt.alloc());
-    assert_eq!(rt; queue.is_empty(), true);
+// A queue of 0, 1 and 2.
+fn three(alloc: Global) -> Result<Queue<i32>, Fail> {
+    let mut queue = Queue::new(alloc);
     for value in 0..3 {
         queue.push(value)?;
     }
+    Ok(queue)
+}
+
+#[test]
+fn queues_pop_at_the_front(rt: HostRuntime) -> Result<(), Fail> {
+    let mut other = Queue::new(rt.alloc());
+    assert_eq!(rt; other.is_empty(), true);
+    let mut queue = three(rt.alloc())?;
     assert_eq!(rt; queue.len(), 3);
     queue.move_first_to(&mut other)?;
     assert_eq!(rt; other.get(0).copied(), Some(0));

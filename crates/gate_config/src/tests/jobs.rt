@@ -1,174 +1,100 @@
 //! Projects and their jobs.
-use super::{assert_fault, with_items};
-use crate::read_config;
-use gate_record::{PipelineId, TenantId, Text};
-use std::alloc::{AllocError, Global};
-use std::process::Abort;
+use super::{BEHIND_CHECK, ITEMS, refused, says};
 use std::test::Fail;
-
-// A document with these items behind a pipeline `check`.
-fn behind_check(alloc: Global, items: &str) -> Result<String, AllocError> {
-    let list = format!(in alloc;
-        "[{{\"pipeline\":{{\"name\":\"check\",\"manager\":\"independent\"}}}},{items}]"
-    )?;
-    with_items(alloc, list.as_str())
-}
-
-fn assert_names(rt: &impl Abort, jobs: &[Text], names: &[&str]) {
-    assert_eq!(rt; jobs.len(), names.len());
-    for (job, name) in jobs.iter().zip(names) {
-        assert_eq!(rt; job.as_str(), *name);
-    }
-}
 
 #[test]
 fn jobs_are_read(rt: HostRuntime) -> Result<(), Fail> {
-    let alloc = rt.alloc();
     let items =
         r#"{"project":{"name":"demo","check":{"jobs":["build","lint"]}}},{"project":{"name":"other","check":{"jobs":["x","x",{"y":5},"x"]}}},{"project":{"name":"demo","check":{"jobs":["lint",{"docs":{}}]}}}"#;
-    let config = read_config(alloc, behind_check(alloc, items)?.as_bytes())?;
-    let (tenant, pipeline) = (TenantId(0), PipelineId(0));
-    assert_names(
-        &rt,
-        config.jobs(tenant, pipeline, "demo"),
-        &["build", "lint", "docs"],
-    );
-    assert_names(&rt, config.jobs(tenant, pipeline, "other"), &["x", "y"]);
-    for (tenant, pipeline, project) in [
-        (0, 0, "unknown"),
-        (0, 0, "dem"),
-        (0, 0, "Demo"),
-        (0, 0, ""),
-        (0, 1, "demo"),
-        (1, 0, "demo"),
-        (4294967295, 4294967295, "demo"),
-    ] {
-        let jobs = config.jobs(TenantId(tenant), PipelineId(pipeline), project);
-        assert_eq!(rt; jobs.len(), 0, "at {tenant} {pipeline} {project}");
-    }
-    Ok(())
+    let table = "
+        jobs 0 0 demo -> build lint docs
+        jobs 0 0 other -> x y
+        jobs 0 0 unknown -> nothing
+        jobs 0 0 dem -> nothing
+        jobs 0 0 Demo -> nothing
+        jobs 0 0 empty -> nothing
+        jobs 0 1 demo -> nothing
+        jobs 1 0 demo -> nothing
+        jobs 4294967295 4294967295 demo -> nothing
+    ";
+    says(&rt, rt.alloc(), BEHIND_CHECK, items, table)
 }
 
 #[test]
 fn an_item_may_be_both(rt: HostRuntime) -> Result<(), Fail> {
-    let alloc = rt.alloc();
     let items =
         r#"[{"project":{"name":"demo","check":{"jobs":["build"]}},"pipeline":{"name":"check","manager":"dependent"}}]"#;
-    let config = read_config(alloc, with_items(alloc, items)?.as_bytes())?;
-    assert_eq!(rt; config.pipelines(TenantId(0)).len(), 1);
-    assert_names(
-        &rt,
-        config.jobs(TenantId(0), PipelineId(0), "demo"),
-        &["build"],
-    );
-    Ok(())
+    let table = "
+        pipelines 0 -> check:Dependent
+        jobs 0 0 demo -> build
+    ";
+    says(&rt, rt.alloc(), ITEMS, items, table)
 }
 
 #[test]
 fn what_has_no_jobs(rt: HostRuntime) -> Result<(), Fail> {
-    let alloc = rt.alloc();
-    for item in [
-        r#"{"project":null}"#,
-        r#"{"project":{}}"#,
-        r#"{"project":{"check":5}}"#,
-        r#"{"project":{"name":null,"check":5}}"#,
-        r#"{"project":{"name":5,"check":5}}"#,
-        r#"{"project":{"name":"^demo","check":5}}"#,
-        r#"{"project":{"name":"^demo","check":{"jobs":["build"]}}}"#,
-        r#"{"project":{"name":"^","check":5}}"#,
-        r#"{"project":{"name":"demo"}}"#,
-        r#"{"project":{"name":"demo","check":null}}"#,
-        r#"{"project":{"name":"demo","check":{}}}"#,
-        r#"{"project":{"name":"demo","check":{"jobs":null}}}"#,
-        r#"{"project":{"name":"demo","check":{"jobs":[]}}}"#,
-        r#"{"project":{"name":"demo","gate":5,"jobs":5}}"#,
-        r#"{"Project":5}"#,
-    ] {
-        let config = read_config(alloc, behind_check(alloc, item)?.as_bytes())?;
-        for project in ["demo", "^demo", "^", ""] {
-            let jobs = config.jobs(TenantId(0), PipelineId(0), project);
-            assert_eq!(rt; jobs.len(), 0, "{project} at {item}");
-        }
+    let items = r#"
+        {"project":null}
+        {"project":{}}
+        {"project":{"check":5}}
+        {"project":{"name":null,"check":5}}
+        {"project":{"name":5,"check":5}}
+        {"project":{"name":"^demo","check":5}}
+        {"project":{"name":"^demo","check":{"jobs":["build"]}}}
+        {"project":{"name":"^","check":5}}
+        {"project":{"name":"demo"}}
+        {"project":{"name":"demo","check":null}}
+        {"project":{"name":"demo","check":{}}}
+        {"project":{"name":"demo","check":{"jobs":null}}}
+        {"project":{"name":"demo","check":{"jobs":[]}}}
+        {"project":{"name":"demo","gate":5,"jobs":5}}
+        {"Project":5}
+    "#;
+    let table = "
+        jobs 0 0 demo -> nothing
+        jobs 0 0 ^demo -> nothing
+        jobs 0 0 ^ -> nothing
+        jobs 0 0 empty -> nothing
+    ";
+    for item in items.trim().lines() {
+        says(&rt, rt.alloc(), BEHIND_CHECK, item, table)?;
     }
     Ok(())
 }
 
 #[test]
 fn projects_are_refused(rt: HostRuntime) -> Result<(), Fail> {
-    let alloc = rt.alloc();
-    for (items, place) in [
-        (r#"{"project":5}"#, "[1].project"),
-        (r#"{"project":[]}"#, "[1].project"),
-        (
-            r#"{"project":{"name":"demo","check":[]}}"#,
-            "[1].project.check",
-        ),
-        (
-            r#"{"project":{"name":"","check":{"jobs":"build"}}}"#,
-            "[1].project.check.jobs",
-        ),
-        (
-            r#"{"project":{"name":"a^","check":{"jobs":["build",null]}}}"#,
-            "[1].project.check.jobs[1]",
-        ),
-        (
-            r#"{"project":{"name":"demo","check":{"jobs":[{},5]}}}"#,
-            "[1].project.check.jobs[0]",
-        ),
-        (
-            r#"{"project":{"name":"demo","check":{"jobs":["x",{"a":1,"b":2}]}}}"#,
-            "[1].project.check.jobs[1]",
-        ),
-        (
-            r#"{"project":{"name":"demo","check":{"jobs":[5]}}},{"project":5}"#,
-            "[1].project.check.jobs[0]",
-        ),
-        (
-            r#"{"project":{"name":"^","check":5}},{"project":5}"#,
-            "[2].project",
-        ),
-        (r#"{"project":5},5"#, "[2]"),
-        (
-            r#"{"project":5},{"pipeline":{"manager":5}}"#,
-            "[2].pipeline.name",
-        ),
-    ] {
-        let document = behind_check(alloc, items)?;
-        let place = format!(in alloc; "config.main{place}")?;
-        assert_fault(&rt, alloc, document.as_str(), "shape", place.as_str());
-    }
-    for (items, place) in [
-        (r#"[{"project":5}]"#, "config.main[0].project"),
-        (
-            r#"[{"project":{"name":"demo"}},{"pipeline":{"name":"name","manager":"independent"}}]"#,
-            "config.main[0].project.name",
-        ),
-        (
-            r#"[{"project":5,"pipeline":{"name":"check","manager":5}}]"#,
-            "config.main[0].pipeline.manager",
-        ),
-    ] {
-        let document = with_items(alloc, items)?;
-        assert_fault(&rt, alloc, document.as_str(), "shape", place);
-    }
-    Ok(())
+    let behind_check = r#"
+        {"project":5} -> shape [1].project
+        {"project":[]} -> shape [1].project
+        {"project":{"name":"demo","check":[]}} -> shape [1].project.check
+        {"project":{"name":"","check":{"jobs":"build"}}} -> shape [1].project.check.jobs
+        {"project":{"name":"a^","check":{"jobs":["build",null]}}} -> shape [1].project.check.jobs[1]
+        {"project":{"name":"demo","check":{"jobs":[{},5]}}} -> shape [1].project.check.jobs[0]
+        {"project":{"name":"demo","check":{"jobs":["x",{"a":1,"b":2}]}}} -> shape [1].project.check.jobs[1]
+        {"project":{"name":"demo","check":{"jobs":[5]}}},{"project":5} -> shape [1].project.check.jobs[0]
+        {"project":{"name":"^","check":5}},{"project":5} -> shape [2].project
+        {"project":5},5 -> shape [2]
+        {"project":5},{"pipeline":{"manager":5}} -> shape [2].pipeline.name
+    "#;
+    refused(&rt, rt.alloc(), BEHIND_CHECK, "config.main", behind_check)?;
+    let alone = r#"
+        [{"project":5}] -> shape config.main[0].project
+        [{"project":{"name":"demo"}},{"pipeline":{"name":"name","manager":"independent"}}] -> shape config.main[0].project.name
+        [{"project":5,"pipeline":{"name":"check","manager":5}}] -> shape config.main[0].pipeline.manager
+    "#;
+    refused(&rt, rt.alloc(), ITEMS, "", alone)
 }
 
 #[test]
 fn each_pipeline_has_its_jobs(rt: HostRuntime) -> Result<(), Fail> {
-    let document = behind_check(
-        rt.alloc(),
-        r#"{"project":{"name":"demo","gate":{"jobs":["build"]},"check":{"jobs":["lint"]}}},{"pipeline":{"name":"gate","manager":"dependent"}},{"pipeline":{"name":"post","manager":"independent"}},{"project":{"name":"demo","gate":{"jobs":["docs","build"]},"other":{"jobs":5}}}"#,
-    )?;
-    let config = read_config(rt.alloc(), document.as_bytes())?;
-    let tenant = TenantId(0);
-    assert_names(&rt, config.jobs(tenant, PipelineId(0), "demo"), &["lint"]);
-    assert_names(
-        &rt,
-        config.jobs(tenant, PipelineId(1), "demo"),
-        &["build", "docs"],
-    );
-    assert_names(&rt, config.jobs(tenant, PipelineId(2), "demo"), &[]);
-    assert_names(&rt, config.jobs(tenant, PipelineId(3), "demo"), &[]);
-    Ok(())
+    let items =
+        r#"{"project":{"name":"demo","gate":{"jobs":["build"]},"check":{"jobs":["lint"]}}},{"pipeline":{"name":"gate","manager":"dependent"}},{"pipeline":{"name":"post","manager":"independent"}},{"project":{"name":"demo","gate":{"jobs":["docs","build"]},"other":{"jobs":5}}}"#;
+    let table = "
+        jobs 0 0 demo -> lint
+        jobs 0 1 demo -> build docs
+        jobs 0 2 demo -> nothing
+        jobs 0 3 demo -> nothing
+    ";
+    says(&rt, rt.alloc(), BEHIND_CHECK, items, table)
 }

@@ -1,244 +1,180 @@
 //! Triggers and rules.
-use super::{assert_fault, count_rules, list_of, with_rules};
-use crate::{Config, read_config};
-use gate_record::{ConnId, PipelineId, Sequence, TenantId};
-use gate_rule::{Pattern, Rule};
+use super::{AT_RULES, RULES, filled, list_of, refused, says};
 use std::alloc::{AllocError, Global};
 use std::process::Abort;
 use std::test::Fail;
 
 #[test]
 fn rules_are_refused(rt: HostRuntime) -> Result<(), Fail> {
-    for (rules, kind, place) in [
-        ("5", "shape", ""),
-        (r#"{"branch":"x"}"#, "shape", ".event"),
-        (r#"{"event":"x","zeta":null}"#, "attribute", ".zeta"),
-        (r#"{"event":["x","("]}"#, "pattern", ".event[1]"),
-        (r#"[{"event":"x"},5]"#, "shape", "[1]"),
-        (
-            r#"[{"event":"x","require-approval":[]}]"#,
-            "attribute",
-            "[0].require-approval",
-        ),
-        (r#"[{"event":"x","zeta":null}]"#, "attribute", "[0].zeta"),
-        (r#"[{"event":"(","Branch":"("}]"#, "attribute", "[0].Branch"),
-        (r#"[{"event":5,"branch":null}]"#, "shape", "[0].event"),
-        (r#"[{"event":5,"username":"("}]"#, "shape", "[0].event"),
-        (r#"[{"event":"(","email":5}]"#, "shape", "[0].email"),
-        (r#"[{"event":"x","comment":"*"}]"#, "pattern", "[0].comment"),
-        (
-            r#"[{"event":"x","branch":["a","("]}]"#,
-            "pattern",
-            "[0].branch[1]",
-        ),
-        (r#"[{"event":"x","ref":["a",null]}]"#, "shape", "[0].ref[1]"),
-        (r#"[{"event":"x","username":{}}]"#, "shape", "[0].username"),
-        (
-            r#"[{"event":"x","ignore-deletes":"no"}]"#,
-            "shape",
-            "[0].ignore-deletes",
-        ),
-        (r#"[{"branch":"master"}]"#, "shape", "[0].event"),
-        (r#"[{"event":["x","("]}]"#, "pattern", "[0].event[1]"),
-        (r#"[{"event":"("}]"#, "pattern", "[0].event"),
-        (r#"[{"event":["x",5]}]"#, "shape", "[0].event[1]"),
-        (r#"[{}]"#, "shape", "[0].event"),
-        (r#"[{"event":null}]"#, "shape", "[0].event"),
-        (r#"[{"event":[]}]"#, "shape", "[0].event"),
-        (r#"[{"event":5}]"#, "shape", "[0].event"),
-    ] {
-        let place = format!(in rt.alloc(); "config.main[0].pipeline.trigger.gerrit{place}")?;
-        assert_fault(
-            &rt,
-            rt.alloc(),
-            with_rules(rt.alloc(), rules)?.as_str(),
-            kind,
-            place.as_str(),
-        );
-    }
-    Ok(())
+    let table = r#"
+        5 -> shape
+        {"branch":"x"} -> shape .event
+        {"event":"x","zeta":null} -> attribute .zeta
+        {"event":["x","("]} -> pattern .event[1]
+        [{"event":"x"},5] -> shape [1]
+        [{"event":"x","require-approval":[]}] -> attribute [0].require-approval
+        [{"event":"x","zeta":null}] -> attribute [0].zeta
+        [{"event":"(","Branch":"("}] -> attribute [0].Branch
+        [{"event":5,"branch":null}] -> shape [0].event
+        [{"event":5,"username":"("}] -> shape [0].event
+        [{"event":"(","email":5}] -> shape [0].email
+        [{"event":"x","comment":"*"}] -> pattern [0].comment
+        [{"event":"x","branch":["a","("]}] -> pattern [0].branch[1]
+        [{"event":"x","ref":["a",null]}] -> shape [0].ref[1]
+        [{"event":"x","username":{}}] -> shape [0].username
+        [{"event":"x","ignore-deletes":"no"}] -> shape [0].ignore-deletes
+        [{"branch":"master"}] -> shape [0].event
+        [{"event":["x","("]}] -> pattern [0].event[1]
+        [{"event":"("}] -> pattern [0].event
+        [{"event":["x",5]}] -> shape [0].event[1]
+        [{}] -> shape [0].event
+        [{"event":null}] -> shape [0].event
+        [{"event":[]}] -> shape [0].event
+        [{"event":5}] -> shape [0].event
+    "#;
+    refused(&rt, rt.alloc(), RULES, AT_RULES, table)
+}
+
+// A document with a hole at the attribute `approval` of a rule.
+fn with_approval(alloc: Global, front: &str) -> Result<String, Fail> {
+    let rules = format!(in alloc; r#"[{{{front},"approval":@}}]"#)?;
+    filled(alloc, RULES, rules.as_str())
 }
 
 #[test]
 fn approvals_are_refused(rt: HostRuntime) -> Result<(), Fail> {
-    for (approval, kind, place) in [
-        ("5", "shape", ""),
-        ("[5]", "shape", "[0]"),
-        (r#"{"a":1.0}"#, "shape", ""),
-        (r#"{"a":-0}"#, "shape", ""),
-        (r#"{"a":null}"#, "shape", ""),
-        (r#"[{"a":1},{"b":"x","c":1}]"#, "shape", "[1]"),
-        (r#"[{"a":1},[]]"#, "shape", "[1]"),
-    ] {
-        let rules = format!(in rt.alloc();
-            "[{{\"zeta\":1,\"branch\":5,\"approval\":{approval}}}]"
-        )?;
-        let place = format!(in rt.alloc();
-            "config.main[0].pipeline.trigger.gerrit[0].approval{place}"
-        )?;
-        assert_fault(
-            &rt,
-            rt.alloc(),
-            with_rules(rt.alloc(), rules.as_str())?.as_str(),
-            kind,
-            place.as_str(),
-        );
-    }
-    Ok(())
+    let document = with_approval(rt.alloc(), r#""zeta":1,"branch":5"#)?;
+    let place = format!(in rt.alloc(); "{AT_RULES}[0].approval")?;
+    let table = r#"
+        5 -> shape
+        [5] -> shape [0]
+        {"a":1.0} -> shape
+        {"a":-0} -> shape
+        {"a":null} -> shape
+        [{"a":1},{"b":"x","c":1}] -> shape [1]
+        [{"a":1},[]] -> shape [1]
+    "#;
+    refused(&rt, rt.alloc(), document.as_str(), place.as_str(), table)
 }
 
 // An object with that many approvals.
 fn approvals_of(alloc: Global, count: usize) -> Result<String, AllocError> {
-    let mut object = String::from_str(alloc, "{\"a\":1")?;
+    let mut object = String::from_str(alloc, r#"{"a":1"#)?;
     for number in 1..count {
-        let member = format!(in alloc; ",\"a{number}\":1")?;
+        let member = format!(in alloc; r#","a{number}":1"#)?;
         object.push_str(member.as_str())?;
     }
     object.push_str("}")?;
     Ok(object)
 }
 
+// Sees that a rule is refused whose approvals are so many, and then those of each line of a table.
+fn behind_approvals(rt: &impl Abort, alloc: Global, count: usize, table: &str) -> Result<(), Fail> {
+    let object = approvals_of(alloc, count)?;
+    let list = format!(in alloc; "[{object},@]")?;
+    let event = with_approval(alloc, r#""event":"x""#)?;
+    let document = filled(alloc, event.as_str(), list.as_str())?;
+    let place = format!(in alloc; "{AT_RULES}[0].approval")?;
+    refused(rt, alloc, document.as_str(), place.as_str(), table)
+}
+
 #[test]
 fn approvals_have_a_limit(rt: HostRuntime) -> Result<(), Fail> {
-    let alloc = rt.alloc();
-    let attribute = "config.main[0].pipeline.trigger.gerrit[0].approval";
-    for (first, second, fault) in [
-        (32, "{}", None),
-        (32, r#"{"x":1}"#, Some(("limit", ""))),
-        (32, r#"{"x":null}"#, Some(("limit", ""))),
-        (32, "5", Some(("shape", "[1]"))),
-        (33, "5", Some(("limit", ""))),
-    ] {
-        let object = approvals_of(alloc, first)?;
-        let rules = format!(in alloc; "[{{\"event\":\"x\",\"approval\":[{object},{second}]}}]")?;
-        let document = with_rules(alloc, rules.as_str())?;
-        match fault {
-            None => assert_eq!(rt; count_rules(alloc, document.as_str())?, 1),
-            Some((kind, place)) => {
-                let place = format!(in alloc; "{attribute}{place}")?;
-                assert_fault(&rt, alloc, document.as_str(), kind, place.as_str());
-            }
-        }
-    }
-    Ok(())
+    let table = r#"
+        {"x":1} -> limit
+        {"x":null} -> limit
+        5 -> shape [1]
+    "#;
+    behind_approvals(&rt, rt.alloc(), 32, table)?;
+    behind_approvals(&rt, rt.alloc(), 33, "5 -> limit")
 }
 
-// The first rule of the first pipeline for the first connection.
-fn first_rule<'c>(rt: &impl Abort, config: &'c Config) -> &'c Rule {
-    match config.rules(TenantId(0), PipelineId(0), ConnId(0)).first() {
-        Some(rule) => rule,
-        None => panic!(rt; "there is a rule"),
-    }
-}
-
-fn assert_texts(rt: &impl Abort, patterns: &Sequence<Pattern>, texts: &[&str]) {
-    assert_eq!(rt; patterns.len(), texts.len());
-    for (pattern, text) in patterns.as_slice().iter().zip(texts) {
-        assert_eq!(rt; pattern.text(), *text);
-    }
+#[test]
+fn a_rule_may_have_32_approvals(rt: HostRuntime) -> Result<(), Fail> {
+    let object = approvals_of(rt.alloc(), 32)?;
+    let list = format!(in rt.alloc(); "[{object},{{}}]")?;
+    let document = with_approval(rt.alloc(), r#""event":"x""#)?;
+    says(
+        &rt,
+        rt.alloc(),
+        document.as_str(),
+        list.as_str(),
+        "rules 0 0 0 -> 1",
+    )
 }
 
 #[test]
 fn attributes_are_read(rt: HostRuntime) -> Result<(), Fail> {
-    let alloc = rt.alloc();
     let rules =
-        r#"{"username":"zuul","ref":["^refs/tags/","a|b"],"ignore-deletes":false,"event":["x",""],"email":["@example.org$"],"comment":"(?i)recheck","branch":[],"approval":[{"Verified":"+1","Code-Review":2},{},{"My Label":-2}]}"#;
-    let list = format!(in alloc; "[{rules}]")?;
-    let config = read_config(alloc, with_rules(alloc, list.as_str())?.as_bytes())?;
-    let rule = first_rule(&rt, &config);
-    assert_texts(&rt, &rule.event, &["x", ""]);
-    assert_texts(&rt, &rule.branch, &[]);
-    assert_texts(&rt, &rule.refname, &["^refs/tags/", "a|b"]);
-    assert_texts(&rt, &rule.username, &["zuul"]);
-    assert_texts(&rt, &rule.email, &["@example.org$"]);
-    assert_texts(&rt, &rule.comment, &["(?i)recheck"]);
-    assert!(rt; !rule.ignore_deletes);
-    let wanted = [("code-review", 2), ("verified", 1), ("my-label", -2)];
-    assert_eq!(rt; rule.approval.len(), wanted.len());
-    for (approval, (category, vote)) in rule.approval.as_slice().iter().zip(wanted) {
-        assert_eq!(rt; approval.0.as_str(), category);
-        assert_eq!(rt; approval.1, vote);
-    }
-    Ok(())
+        r#"[{"username":"zuul","ref":["^refs/tags/","a|b"],"ignore-deletes":false,"event":["x",""],"email":["@example.org$"],"comment":"(?i)recheck","branch":[],"approval":[{"Verified":"+1","Code-Review":2},{},{"My Label":-2}]}]"#;
+    let table = "
+        rule -> event=x event= ref=^refs/tags/ ref=a|b username=zuul email=@example.org$ comment=(?i)recheck approval=code-review:2 approval=verified:1 approval=my-label:-2 ignore-deletes=false
+    ";
+    says(&rt, rt.alloc(), RULES, rules, table)
 }
 
 #[test]
 fn a_lone_rule_is_read(rt: HostRuntime) -> Result<(), Fail> {
-    let alloc = rt.alloc();
+    let table = "
+        rules 0 0 0 -> 1
+        rule -> event=x event=y branch=main approval=verified:1 ignore-deletes=true
+    ";
     for rules in [
         r#"{"event":["x","y"],"branch":"main","approval":{"Verified":1}}"#,
         r#"[{"event":["x","y"],"branch":"main","approval":{"Verified":1}}]"#,
     ] {
-        let document = with_rules(alloc, rules)?;
-        assert_eq!(rt; count_rules(alloc, document.as_str())?, 1, "at {rules}");
-        let config = read_config(alloc, document.as_bytes())?;
-        let rule = first_rule(&rt, &config);
-        assert_texts(&rt, &rule.event, &["x", "y"]);
-        assert_texts(&rt, &rule.branch, &["main"]);
-        assert_texts(&rt, &rule.refname, &[]);
-        assert_eq!(rt; rule.approval.len(), 1);
-        assert_eq!(rt; rule.approval.as_slice()[0].0.as_str(), "verified");
-        assert!(rt; rule.ignore_deletes);
+        says(&rt, rt.alloc(), RULES, rules, table)?;
     }
     Ok(())
 }
 
 #[test]
 fn attributes_are_absent(rt: HostRuntime) -> Result<(), Fail> {
-    let alloc = rt.alloc();
-    for rule in [
-        r#"{"event":"x"}"#,
-        r#"{"event":"x","approval":null,"branch":null,"comment":null,"ignore-deletes":null}"#,
-        r#"{"event":"x","approval":[],"branch":[],"email":[],"ref":[],"username":[]}"#,
-        r#"{"event":"x","approval":{},"ignore-deletes":true}"#,
-        r#"{"event":"x","approval":[{}]}"#,
-    ] {
-        let list = format!(in alloc; "[{rule}]")?;
-        let config = read_config(alloc, with_rules(alloc, list.as_str())?.as_bytes())?;
-        let read = first_rule(&rt, &config);
-        assert_texts(&rt, &read.event, &["x"]);
-        for patterns in [
-            &read.branch,
-            &read.refname,
-            &read.username,
-            &read.email,
-            &read.comment,
-        ] {
-            assert_texts(&rt, patterns, &[]);
-        }
-        assert_eq!(rt; read.approval.len(), 0);
-        assert!(rt; read.ignore_deletes);
+    let rules = r#"
+        [{"event":"x"}]
+        [{"event":"x","approval":null,"branch":null,"comment":null,"ignore-deletes":null}]
+        [{"event":"x","approval":[],"branch":[],"email":[],"ref":[],"username":[]}]
+        [{"event":"x","approval":{},"ignore-deletes":true}]
+        [{"event":"x","approval":[{}]}]
+    "#;
+    for rule in rules.trim().lines() {
+        says(
+            &rt,
+            rt.alloc(),
+            RULES,
+            rule,
+            "rule -> event=x ignore-deletes=true",
+        )?;
     }
     Ok(())
 }
 
+// Sees that so many rules are read.
+fn are_read(rt: &impl Abort, alloc: Global, rules: &str, count: &str) -> Result<(), Fail> {
+    let table = format!(in alloc; "rules 0 0 0 -> {count}")?;
+    says(rt, alloc, RULES, rules, table.as_str())
+}
+
+// Sees that rules are refused, for a limit at this place.
+fn are_beyond(rt: &impl Abort, alloc: Global, rules: &str, place: &str) -> Result<(), Fail> {
+    let table = format!(in alloc; "{rules} -> limit {place}")?;
+    refused(rt, alloc, RULES, AT_RULES, table.as_str())
+}
+
 #[test]
-fn limits_hold(rt: HostRuntime) -> Result<(), Fail> {
-    let alloc = rt.alloc();
-    let rules = list_of(alloc, 64, r#"{"event":"x"}"#)?;
-    assert_eq!(rt;
-        count_rules(alloc, with_rules(alloc, rules.as_str())?.as_str())?,
-        64
-    );
-    let rules = list_of(alloc, 65, "5")?;
-    let place = "config.main[0].pipeline.trigger.gerrit";
-    assert_fault(
-        &rt,
-        rt.alloc(),
-        with_rules(alloc, rules.as_str())?.as_str(),
-        "limit",
-        place,
-    );
-    for (patterns, read) in [(32, true), (33, false)] {
-        let event = list_of(alloc, patterns, r#""x""#)?;
-        let rules = format!(in alloc; "[{{\"event\":{event}}}]")?;
-        let document = with_rules(alloc, rules.as_str())?;
-        if read {
-            assert_eq!(rt; count_rules(alloc, document.as_str())?, 1);
-        } else {
-            let place = "config.main[0].pipeline.trigger.gerrit[0].event";
-            assert_fault(&rt, rt.alloc(), document.as_str(), "limit", place);
-        }
-    }
-    Ok(())
+fn rules_have_a_limit(rt: HostRuntime) -> Result<(), Fail> {
+    let rules = list_of(rt.alloc(), 64, r#"{"event":"x"}"#)?;
+    are_read(&rt, rt.alloc(), rules.as_str(), "64")?;
+    let more = list_of(rt.alloc(), 65, "5")?;
+    are_beyond(&rt, rt.alloc(), more.as_str(), "")
+}
+
+#[test]
+fn patterns_have_a_limit(rt: HostRuntime) -> Result<(), Fail> {
+    let event = list_of(rt.alloc(), 32, r#""x""#)?;
+    let rules = format!(in rt.alloc(); r#"[{{"event":{event}}}]"#)?;
+    are_read(&rt, rt.alloc(), rules.as_str(), "1")?;
+    let event = list_of(rt.alloc(), 33, r#""x""#)?;
+    let rules = format!(in rt.alloc(); r#"[{{"event":{event}}}]"#)?;
+    are_beyond(&rt, rt.alloc(), rules.as_str(), "[0].event")
 }

@@ -1,152 +1,177 @@
 //! Each cause for which an action is discarded, with both managers, and that nothing changes then.
-use super::Act::*;
-use super::Discard::*;
-use super::Outcome::*;
-use super::{Act, Items, ManagerKind, Outcome, left, take};
+use super::{BOTH, ManagerKind, check};
 use std::alloc::Global;
 use std::process::Abort;
 use std::test::Fail;
 
 const LAST: u64 = 18446744073709551614;
 
-const BOTH: [ManagerKind; 2] = [ManagerKind::Independent, ManagerKind::Dependent];
+// Plays each act after `front` and before `back`, with the jobs `build` and `lint`.
+fn each(
+    rt: &impl Abort,
+    alloc: Global,
+    manager: ManagerKind,
+    first_set: u64,
+    front: &str,
+    acts: &str,
+    back: &str,
+) -> Result<(), Fail> {
+    for act in acts.lines() {
+        let script = format!(in alloc; "{front}\n{act}\n{back}")?;
+        check(rt, alloc, manager, first_set, "build lint", script.as_str())?;
+    }
+    Ok(())
+}
 
-// With either manager the action is discarded where two changes wait, and nothing changes.
-fn cause(rt: &impl Abort, alloc: Global, act: Act, outcome: Outcome) -> Result<(), Fail> {
-    let jobs = ["build", "lint"];
+// With either manager each act is discarded where two changes wait, and nothing changes.
+fn causes(rt: &impl Abort, alloc: Global, acts: &str) -> Result<(), Fail> {
+    let front = "
+        trigger 7 2: Applied
+        trigger 8 1: Applied
+        ended 0 lint success: Applied";
+    let left = "
+        left
+        item 7 2 set 0 build waiting lint success
+        item 8 1 set 1 build waiting lint waiting";
     for manager in BOTH {
-        let mut items = Items::new(alloc, manager, 0);
-        take(rt, alloc, &mut items, &jobs, Trigger(7, 2), Applied)?;
-        take(rt, alloc, &mut items, &jobs, Trigger(8, 1), Applied)?;
-        take(
-            rt,
-            alloc,
-            &mut items,
-            &jobs,
-            Ended(0, "lint", true),
-            Applied,
-        )?;
-        take(rt, alloc, &mut items, &jobs, act, outcome)?;
-        left(
-            rt,
-            alloc,
-            &items,
-            "item 7 2 set 0 build waiting lint success\nitem 8 1 set 1 build waiting lint waiting\n",
-        )?;
+        each(rt, alloc, manager, 0, front, acts, left)?;
     }
     Ok(())
 }
 
 #[test]
 fn causes_of_triggers(rt: HostRuntime) -> Result<(), Fail> {
-    let alloc = rt.alloc();
-    cause(&rt, alloc, Keyless, Discarded(NoKey))?;
-    cause(&rt, alloc, Jobless(7), Discarded(NoJobs))?;
-    cause(&rt, alloc, Jobless(9), Discarded(NoJobs))?;
-    cause(&rt, alloc, Trigger(7, 2), Discarded(Known))?;
-    cause(&rt, alloc, Trigger(7, 1), Discarded(Older))?;
-    cause(&rt, alloc, Trigger(7, -2), Discarded(Older))
+    causes(
+        &rt,
+        rt.alloc(),
+        "
+        keyless: Discarded(NoKey)
+        jobless 7: Discarded(NoJobs)
+        jobless 9: Discarded(NoJobs)
+        trigger 7 2: Discarded(Known)
+        trigger 7 1: Discarded(Older)
+        trigger 7 -2: Discarded(Older)
+        ",
+    )
 }
 
 #[test]
 fn causes_of_results_and_management(rt: HostRuntime) -> Result<(), Fail> {
-    let alloc = rt.alloc();
-    cause(&rt, alloc, Ended(2, "build", true), Discarded(NotCurrent))?;
-    cause(&rt, alloc, Ended(0, "docs", true), Discarded(NoJob))?;
-    cause(&rt, alloc, Ended(0, "lint", true), Discarded(Repeated))?;
-    cause(&rt, alloc, Ended(0, "lint", false), Discarded(Repeated))?;
-    cause(&rt, alloc, Dequeue(9), Discarded(NoItem))?;
-    cause(&rt, alloc, Reset(9), Discarded(NoItem))
+    causes(
+        &rt,
+        rt.alloc(),
+        "
+        ended 2 build success: Discarded(NotCurrent)
+        ended 0 docs success: Discarded(NoJob)
+        ended 0 lint success: Discarded(Repeated)
+        ended 0 lint failure: Discarded(Repeated)
+        dequeue 9: Discarded(NoItem)
+        reset 9: Discarded(NoItem)
+        ",
+    )
 }
 
-// What comes of an action where two items have the last two numbers; nothing changes where it is discarded.
+// Plays each act where two items have the last two numbers.
 fn at_the_end(
     rt: &impl Abort,
     alloc: Global,
     manager: ManagerKind,
-    act: Act,
-    outcome: Outcome,
+    acts: &str,
+    back: &str,
 ) -> Result<(), Fail> {
-    let jobs = ["build", "lint"];
-    let mut items = Items::new(alloc, manager, LAST - 1);
-    take(rt, alloc, &mut items, &jobs, Trigger(1, 1), Applied)?;
-    take(rt, alloc, &mut items, &jobs, Trigger(2, 1), Applied)?;
-    take(rt, alloc, &mut items, &jobs, act, outcome)?;
-    if outcome == Applied {
-        return Ok(());
-    }
-    left(
-        rt,
-        alloc,
-        &items,
-        "item 1 1 set 18446744073709551613 build waiting lint waiting\nitem 2 1 set 18446744073709551614 build waiting lint waiting\n",
-    )
+    let front = "
+        trigger 1 1: Applied
+        trigger 2 1: Applied";
+    each(rt, alloc, manager, LAST - 1, front, acts, back)
 }
 
-fn at_both_ends(rt: &impl Abort, alloc: Global, act: Act, outcome: Outcome) -> Result<(), Fail> {
+// What is left at the end where nothing changes.
+const UNCHANGED: &str = "
+        left
+        item 1 1 set 18446744073709551613 build waiting lint waiting
+        item 2 1 set 18446744073709551614 build waiting lint waiting";
+
+#[test]
+fn other_causes_come_before_numbers(rt: HostRuntime) -> Result<(), Fail> {
+    let acts = "
+        keyless: Discarded(NoKey)
+        jobless 9: Discarded(NoJobs)
+        trigger 1 1: Discarded(Known)
+        trigger 1 0: Discarded(Older)
+        ended 0 build failure: Discarded(NotCurrent)
+        ended 18446744073709551614 docs failure: Discarded(NoJob)
+        dequeue 9: Discarded(NoItem)
+        reset 9: Discarded(NoItem)
+        ";
     for manager in BOTH {
-        at_the_end(rt, alloc, manager, act, outcome)?;
+        at_the_end(&rt, rt.alloc(), manager, acts, UNCHANGED)?;
     }
     Ok(())
 }
 
 #[test]
-fn other_causes_come_before_numbers(rt: HostRuntime) -> Result<(), Fail> {
-    let alloc = rt.alloc();
-    at_both_ends(&rt, alloc, Keyless, Discarded(NoKey))?;
-    at_both_ends(&rt, alloc, Jobless(9), Discarded(NoJobs))?;
-    at_both_ends(&rt, alloc, Trigger(1, 1), Discarded(Known))?;
-    at_both_ends(&rt, alloc, Trigger(1, 0), Discarded(Older))?;
-    at_both_ends(&rt, alloc, Ended(0, "build", false), Discarded(NotCurrent))?;
-    at_both_ends(&rt, alloc, Ended(LAST, "docs", false), Discarded(NoJob))?;
-    at_both_ends(&rt, alloc, Dequeue(9), Discarded(NoItem))?;
-    at_both_ends(&rt, alloc, Reset(9), Discarded(NoItem))
+fn too_few_numbers(rt: HostRuntime) -> Result<(), Fail> {
+    let acts = "
+        trigger 1 2: Discarded(Numbers)
+        trigger 3 1: Discarded(Numbers)
+        reset 2: Discarded(Numbers)
+        ";
+    for manager in BOTH {
+        at_the_end(&rt, rt.alloc(), manager, acts, UNCHANGED)?;
+    }
+    Ok(())
 }
 
 #[test]
-fn too_few_numbers(rt: HostRuntime) -> Result<(), Fail> {
-    let alloc = rt.alloc();
-    at_both_ends(&rt, alloc, Trigger(1, 2), Discarded(Numbers))?;
-    at_both_ends(&rt, alloc, Trigger(3, 1), Discarded(Numbers))?;
-    at_both_ends(&rt, alloc, Reset(2), Discarded(Numbers))?;
-    let failure = Ended(LAST - 1, "build", false);
-    at_the_end(&rt, alloc, ManagerKind::Independent, failure, Applied)?;
+fn too_few_numbers_in_a_queue_alone(rt: HostRuntime) -> Result<(), Fail> {
+    let applied = "
+        ended 18446744073709551613 build failure: Applied
+        dequeue 1: Applied
+        ";
+    at_the_end(&rt, rt.alloc(), ManagerKind::Independent, applied, "")?;
+    let discarded = "
+        ended 18446744073709551613 build failure: Discarded(Numbers)
+        dequeue 1: Discarded(Numbers)
+        ";
     at_the_end(
         &rt,
-        alloc,
+        rt.alloc(),
         ManagerKind::Dependent,
-        failure,
-        Discarded(Numbers),
-    )?;
-    at_the_end(&rt, alloc, ManagerKind::Independent, Dequeue(1), Applied)?;
-    at_the_end(
-        &rt,
-        alloc,
-        ManagerKind::Dependent,
-        Dequeue(1),
-        Discarded(Numbers),
+        discarded,
+        UNCHANGED,
     )
 }
 
 #[test]
 fn the_last_item_needs_no_number(rt: HostRuntime) -> Result<(), Fail> {
-    let alloc = rt.alloc();
-    at_both_ends(&rt, alloc, Ended(LAST, "build", false), Applied)?;
-    at_both_ends(&rt, alloc, Ended(LAST - 1, "build", true), Applied)?;
-    at_both_ends(&rt, alloc, Dequeue(2), Applied)
+    let acts = "
+        ended 18446744073709551614 build failure: Applied
+        ended 18446744073709551613 build success: Applied
+        dequeue 2: Applied
+        ";
+    for manager in BOTH {
+        at_the_end(&rt, rt.alloc(), manager, acts, "")?;
+    }
+    Ok(())
 }
 
 #[test]
 fn current_build_sets(rt: HostRuntime) -> Result<(), Fail> {
-    let alloc = rt.alloc();
-    let mut items = Items::new(alloc, ManagerKind::Independent, 3);
-    assert!(rt; !items.current(3));
-    take(&rt, alloc, &mut items, &["build"], Trigger(1, 1), Applied)?;
-    take(&rt, alloc, &mut items, &["build"], Trigger(2, 1), Applied)?;
-    take(&rt, alloc, &mut items, &["build"], Reset(1), Applied)?;
-    assert!(rt; !items.current(3));
-    assert!(rt; items.current(4));
-    assert!(rt; items.current(5));
-    assert!(rt; !items.current(6));
-    Ok(())
+    check(
+        &rt,
+        rt.alloc(),
+        ManagerKind::Independent,
+        3,
+        "build",
+        "
+        current 3: false
+        trigger 1 1: Applied
+        trigger 2 1: Applied
+        reset 1: Applied
+        current 3: false
+        current 4: true
+        current 5: true
+        current 6: false
+        ",
+    )
 }

@@ -1,104 +1,92 @@
 //! What an index finds, and in which order its items stand.
-use super::Act::*;
-use super::Discard::*;
-use super::Outcome::*;
-use super::{Items, Key, ManagerKind, left, take};
-use gate_record::{ConnId, Text};
+use super::script::key_of;
+use super::{Key, ManagerKind, check};
 use std::alloc::Global;
 use std::cmp::Ordering;
+use std::process::Abort;
 use std::test::Fail;
 
 #[test]
 fn items_keep_their_order(rt: HostRuntime) -> Result<(), Fail> {
-    let alloc = rt.alloc();
-    let jobs = ["build"];
-    let mut items = Items::new(alloc, ManagerKind::Independent, 0);
-    for number in [1, 2, 3] {
-        take(&rt, alloc, &mut items, &jobs, Trigger(number, 1), Applied)?;
-    }
-    take(&rt, alloc, &mut items, &jobs, Reset(2), Applied)?;
-    take(&rt, alloc, &mut items, &jobs, Trigger(1, 2), Applied)?;
-    left(
+    check(
         &rt,
-        alloc,
-        &items,
-        "item 2 1 set 3 build waiting\nitem 3 1 set 2 build waiting\nitem 1 2 set 4 build waiting\n",
+        rt.alloc(),
+        ManagerKind::Independent,
+        0,
+        "build",
+        "
+        trigger 1 1: Applied
+        trigger 2 1: Applied
+        trigger 3 1: Applied
+        reset 2: Applied
+        trigger 1 2: Applied
+        left
+        item 2 1 set 3 build waiting
+        item 3 1 set 2 build waiting
+        item 1 2 set 4 build waiting
+        ",
     )
 }
 
 #[test]
 fn numbers_of_earlier_build_sets_find_nothing(rt: HostRuntime) -> Result<(), Fail> {
-    let alloc = rt.alloc();
-    let jobs = ["build"];
-    let mut items = Items::new(alloc, ManagerKind::Independent, 0);
-    let late = Discarded(NotCurrent);
-    let table = [
-        (Trigger(1, 1), Applied),
-        (Trigger(2, 1), Applied),
-        (Trigger(3, 1), Applied),
-        (Reset(2), Applied),
-        (Trigger(1, 2), Applied),
-        (Ended(0, "build", true), late),
-        (Ended(1, "build", true), late),
-        (Ended(3, "build", false), Applied),
-        (Ended(3, "build", false), late),
-        (Dequeue(2), Discarded(NoItem)),
-        (Dequeue(3), Applied),
-        (Ended(2, "build", true), late),
-        (Trigger(3, 1), Applied),
-        (Ended(4, "build", true), Applied),
-    ];
-    for (act, wanted) in table {
-        take(&rt, alloc, &mut items, &jobs, act, wanted)?;
-    }
-    left(
+    check(
         &rt,
-        alloc,
-        &items,
-        "item 3 1 set 5 build waiting\nreport 2 1 set 3 failure\nreport 1 2 set 4 success\n",
+        rt.alloc(),
+        ManagerKind::Independent,
+        0,
+        "build",
+        "
+        trigger 1 1: Applied
+        trigger 2 1: Applied
+        trigger 3 1: Applied
+        reset 2: Applied
+        trigger 1 2: Applied
+        ended 0 build success: Discarded(NotCurrent)
+        ended 1 build success: Discarded(NotCurrent)
+        ended 3 build failure: Applied
+        ended 3 build failure: Discarded(NotCurrent)
+        dequeue 2: Discarded(NoItem)
+        dequeue 3: Applied
+        ended 2 build success: Discarded(NotCurrent)
+        trigger 3 1: Applied
+        ended 4 build success: Applied
+        left
+        item 3 1 set 5 build waiting
+        report 2 1 set 3 failure
+        report 1 2 set 4 success
+        ",
     )
 }
 
-fn change(conn: u32, number: i64) -> Key {
-    Key::Change {
-        conn: ConnId(conn),
-        number,
-    }
+// Sees that two keys are ordered as their places.
+fn compare(rt: &impl Abort, key: &Key, other: &Key, wanted: Ordering) {
+    assert_eq!(rt; key.cmp(other), wanted);
+    assert_eq!(rt; key.partial_cmp(other), Some(wanted));
+    assert_eq!(rt; *key == *other, wanted == Ordering::Equal);
 }
 
-fn ref_of(alloc: Global, conn: u32, texts: [&str; 3]) -> Result<Key, Fail> {
-    let [project, refname, newrev] = texts;
-    Ok(Key::Ref {
-        conn: ConnId(conn),
-        project: Text::copy(alloc, project)?,
-        refname: Text::copy(alloc, refname)?,
-        newrev: Text::copy(alloc, newrev)?,
-    })
+// Sees that the keys of these lines rise.
+fn rise(rt: &impl Abort, alloc: Global, lines: &str) -> Result<(), Fail> {
+    for (place, line) in lines.lines().enumerate() {
+        let key = key_of(alloc, line)?;
+        for (other_place, other) in lines.lines().enumerate() {
+            compare(rt, &key, &key_of(alloc, other)?, place.cmp(&other_place));
+        }
+    }
+    Ok(())
 }
 
 #[test]
 fn keys_are_ordered_field_by_field(rt: HostRuntime) -> Result<(), Fail> {
-    let alloc = rt.alloc();
-    let rising = [
-        change(0, -1),
-        change(0, 7),
-        change(1, 2),
-        ref_of(alloc, 0, ["a", "refs/heads/main", "1"])?,
-        ref_of(alloc, 0, ["a", "refs/heads/main", "2"])?,
-        ref_of(alloc, 0, ["a", "refs/tags/1", "0"])?,
-        ref_of(alloc, 0, ["b", "refs/heads/main", "1"])?,
-        ref_of(alloc, 1, ["a", "refs/heads/main", "1"])?,
-    ];
-    for (place, key) in rising.iter().enumerate() {
-        for (other_place, other) in rising.iter().enumerate() {
-            assert_eq!(rt;
-                key.cmp(other),
-                place.cmp(&other_place),
-                "{place} {other_place}"
-            );
-            assert_eq!(rt; key.partial_cmp(other), Some(place.cmp(&other_place)));
-            assert_eq!(rt; *key == *other, place.cmp(&other_place) == Ordering::Equal);
-        }
-    }
-    Ok(())
+    let rising = "\
+        change 0 -1
+        change 0 7
+        change 1 2
+        ref 0 a refs/heads/main 1
+        ref 0 a refs/heads/main 2
+        ref 0 a refs/tags/1 0
+        ref 0 b refs/heads/main 1
+        ref 1 a refs/heads/main 1";
+    rise(&rt, rt.alloc(), rising)
 }

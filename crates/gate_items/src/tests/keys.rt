@@ -1,56 +1,59 @@
 //! Keys, compared and copied.
-use super::{Key, change};
-use gate_record::{ConnId, Text};
+use super::script::key_of;
 use std::alloc::Global;
+use std::process::Abort;
 use std::test::Fail;
 
-fn ref_of(alloc: Global, project: &str, refname: &str, newrev: &str) -> Result<Key, Fail> {
-    Ok(Key::Ref {
-        conn: ConnId(0),
-        project: Text::copy(alloc, project)?,
-        refname: Text::copy(alloc, refname)?,
-        newrev: Text::copy(alloc, newrev)?,
-    })
+// Compares a key with that of each line, `KEY: true` where they are the same and `KEY: false` where they aren't.
+fn compare(rt: &impl Abort, alloc: Global, key: &str, lines: &str) -> Result<(), Fail> {
+    for line in lines.lines() {
+        let (other, same) = line.trim().split_once(": ").ok_or("a key and a word")?;
+        let found = are_same(alloc, key, other)?;
+        assert_eq!(rt; found.as_str(), same, "{line}");
+    }
+    Ok(())
+}
+
+// Whether two keys are the same, by either; they have to agree.
+fn are_same(alloc: Global, key: &str, other: &str) -> Result<String, Fail> {
+    let key = key_of(alloc, key)?;
+    let other = key_of(alloc, other)?;
+    let same = key.is_same(&other);
+    if other.is_same(&key) != same {
+        return Err(Fail::from("they agree"));
+    }
+    Ok(format!(in alloc; "{same}")?)
 }
 
 #[test]
 fn changes_are_compared_field_by_field(rt: HostRuntime) -> Result<(), Fail> {
-    let key = change(0, 7);
-    for (conn, number, same) in [
-        (0, 7, true),
-        (0, 8, false),
-        (1, 7, false),
-        (0, -7, false),
-        (7, 0, false),
-    ] {
-        assert_eq!(rt; key.is_same(&change(conn, number)), same, "{conn} {number}");
-    }
-    assert!(rt; !key.is_same(&ref_of(rt.alloc(), "demo", "refs/heads/master", "0123")?));
-    Ok(())
+    let others = "\
+        change 0 7: true
+        change 0 8: false
+        change 1 7: false
+        change 0 -7: false
+        change 7 0: false
+        ref 0 demo refs/heads/master 0123: false";
+    compare(&rt, rt.alloc(), "change 0 7", others)
 }
 
 #[test]
 fn refs_are_compared_field_by_field(rt: HostRuntime) -> Result<(), Fail> {
-    let key = ref_of(rt.alloc(), "demo", "refs/heads/master", "0123")?;
-    for (project, refname, newrev, same) in [
-        ("demo", "refs/heads/master", "0123", true),
-        ("Demo", "refs/heads/master", "0123", false),
-        ("demo", "refs/heads/maste", "0123", false),
-        ("demo", "refs/heads/master", "4567", false),
-        ("demo", "0123", "refs/heads/master", false),
-    ] {
-        let other = ref_of(rt.alloc(), project, refname, newrev)?;
-        assert_eq!(rt; key.is_same(&other), same, "{project} {refname} {newrev}");
-        assert_eq!(rt; other.is_same(&key), same, "{project} {refname} {newrev}");
-    }
-    assert!(rt; !key.is_same(&change(0, 7)));
-    Ok(())
+    let others = "\
+        ref 0 demo refs/heads/master 0123: true
+        ref 0 Demo refs/heads/master 0123: false
+        ref 0 demo refs/heads/maste 0123: false
+        ref 0 demo refs/heads/master 4567: false
+        ref 0 demo 0123 refs/heads/master: false
+        change 0 7: false";
+    compare(&rt, rt.alloc(), "ref 0 demo refs/heads/master 0123", others)
 }
 
 #[test]
 fn a_copy_is_the_same(rt: HostRuntime) -> Result<(), Fail> {
-    let key = ref_of(rt.alloc(), "demo", "refs/heads/master", "0123")?;
-    assert!(rt; key.copy(rt.alloc())?.is_same(&key));
-    assert!(rt; change(3, -1).copy(rt.alloc())?.is_same(&change(3, -1)));
+    for line in ["ref 0 demo refs/heads/master 0123", "change 3 -1"] {
+        let key = key_of(rt.alloc(), line)?;
+        assert!(rt; key.copy(rt.alloc())?.is_same(&key), "{line}");
+    }
     Ok(())
 }

@@ -1,109 +1,122 @@
 //! What a dependent pipeline finds after items left, were replaced and were renewed.
-use super::Act::*;
-use super::Discard::*;
-use super::Outcome::*;
-use super::{Act, Discard, Items, ManagerKind, left, take};
+use super::{Items, ManagerKind, check, play};
 use std::alloc::Global;
 use std::process::Abort;
 use std::test::Fail;
 
-// The action is applied.
-fn applied(rt: &impl Abort, alloc: Global, items: &mut Items, act: Act) -> Result<(), Fail> {
-    take(rt, alloc, items, &["build"], act, Applied)
-}
-
-// The action is discarded.
-fn discarded(
-    rt: &impl Abort,
-    alloc: Global,
-    items: &mut Items,
-    act: Act,
-    why: Discard,
-) -> Result<(), Fail> {
-    take(rt, alloc, items, &["build"], act, Discarded(why))
-}
-
-// Changes 1 to 5, of which 2 was taken out and 3 has a newer patch set, which was reset.
-fn five(rt: &impl Abort, alloc: Global) -> Result<Items, Fail> {
-    let mut items = Items::new(alloc, ManagerKind::Dependent, 0);
-    for number in 1..6 {
-        applied(rt, alloc, &mut items, Trigger(number, 1))?;
-    }
-    applied(rt, alloc, &mut items, Dequeue(2))?;
-    applied(rt, alloc, &mut items, Trigger(3, 2))?;
-    applied(rt, alloc, &mut items, Reset(3))?;
-    Ok(items)
+// Plays a script where changes 1 to 5 came, of which 2 was taken out and 3 has a newer patch set, which was reset.
+fn after_five(rt: &impl Abort, alloc: Global, script: &str) -> Result<(), Fail> {
+    let five = "
+        trigger 1 1: Applied
+        trigger 2 1: Applied
+        trigger 3 1: Applied
+        trigger 4 1: Applied
+        trigger 5 1: Applied
+        dequeue 2: Applied
+        trigger 3 2: Applied
+        reset 3: Applied";
+    let whole = format!(in alloc; "{five}{script}")?;
+    check(
+        rt,
+        alloc,
+        ManagerKind::Dependent,
+        0,
+        "build",
+        whole.as_str(),
+    )
 }
 
 #[test]
 fn keys_after_a_removal_and_a_newer_patch_set(rt: HostRuntime) -> Result<(), Fail> {
-    let alloc = rt.alloc();
-    let mut items = five(&rt, alloc)?;
-    discarded(&rt, alloc, &mut items, Dequeue(2), NoItem)?;
-    discarded(&rt, alloc, &mut items, Reset(2), NoItem)?;
-    discarded(&rt, alloc, &mut items, Trigger(3, 2), Known)?;
-    discarded(&rt, alloc, &mut items, Trigger(3, 1), Older)?;
-    discarded(&rt, alloc, &mut items, Trigger(4, 1), Known)?;
-    left(
+    after_five(
         &rt,
-        alloc,
-        &items,
-        "item 1 1 set 0 build waiting\nitem 4 1 set 8 build waiting\nitem 5 1 set 9 build waiting\nitem 3 2 set 11 build waiting\n",
+        rt.alloc(),
+        "
+        dequeue 2: Discarded(NoItem)
+        reset 2: Discarded(NoItem)
+        trigger 3 2: Discarded(Known)
+        trigger 3 1: Discarded(Older)
+        trigger 4 1: Discarded(Known)
+        left
+        item 1 1 set 0 build waiting
+        item 4 1 set 8 build waiting
+        item 5 1 set 9 build waiting
+        item 3 2 set 11 build waiting
+        ",
     )
 }
 
 #[test]
 fn keys_after_the_head_has_left(rt: HostRuntime) -> Result<(), Fail> {
-    let alloc = rt.alloc();
-    let mut items = five(&rt, alloc)?;
-    applied(&rt, alloc, &mut items, Ended(0, "build", true))?;
-    discarded(&rt, alloc, &mut items, Dequeue(1), NoItem)?;
-    applied(&rt, alloc, &mut items, Trigger(1, 1))?;
-    applied(&rt, alloc, &mut items, Reset(5))?;
-    left(
+    after_five(
         &rt,
-        alloc,
-        &items,
-        "item 4 1 set 8 build waiting\nitem 5 1 set 13 build waiting\nitem 3 2 set 14 build waiting\nitem 1 1 set 15 build waiting\nreport 1 1 set 0 success\n",
+        rt.alloc(),
+        "
+        ended 0 build success: Applied
+        dequeue 1: Discarded(NoItem)
+        trigger 1 1: Applied
+        reset 5: Applied
+        left
+        item 4 1 set 8 build waiting
+        item 5 1 set 13 build waiting
+        item 3 2 set 14 build waiting
+        item 1 1 set 15 build waiting
+        report 1 1 set 0 success
+        ",
     )
 }
 
 #[test]
 fn results_after_renewals(rt: HostRuntime) -> Result<(), Fail> {
-    let alloc = rt.alloc();
-    let mut items = five(&rt, alloc)?;
-    discarded(&rt, alloc, &mut items, Ended(4, "build", true), NotCurrent)?;
-    discarded(&rt, alloc, &mut items, Ended(10, "build", true), NotCurrent)?;
-    applied(&rt, alloc, &mut items, Ended(9, "build", true))?;
-    applied(&rt, alloc, &mut items, Ended(11, "build", false))?;
-    applied(&rt, alloc, &mut items, Dequeue(1))?;
-    discarded(&rt, alloc, &mut items, Ended(9, "build", true), NotCurrent)?;
-    applied(&rt, alloc, &mut items, Ended(13, "build", true))?;
-    applied(&rt, alloc, &mut items, Ended(12, "build", false))?;
-    left(
+    after_five(
         &rt,
-        alloc,
-        &items,
-        "item 5 1 set 15 build waiting\nitem 3 2 set 16 build waiting\nreport 4 1 set 12 failure\n",
+        rt.alloc(),
+        "
+        ended 4 build success: Discarded(NotCurrent)
+        ended 10 build success: Discarded(NotCurrent)
+        ended 9 build success: Applied
+        ended 11 build failure: Applied
+        dequeue 1: Applied
+        ended 9 build success: Discarded(NotCurrent)
+        ended 13 build success: Applied
+        ended 12 build failure: Applied
+        left
+        item 5 1 set 15 build waiting
+        item 3 2 set 16 build waiting
+        report 4 1 set 12 failure
+        ",
     )
 }
 
 #[test]
 fn complete_items_wait_for_the_head(rt: HostRuntime) -> Result<(), Fail> {
-    let alloc = rt.alloc();
-    let mut items = five(&rt, alloc)?;
-    applied(&rt, alloc, &mut items, Ended(8, "build", true))?;
-    applied(&rt, alloc, &mut items, Ended(9, "build", true))?;
-    applied(&rt, alloc, &mut items, Dequeue(3))?;
-    applied(&rt, alloc, &mut items, Ended(0, "build", true))?;
-    applied(&rt, alloc, &mut items, Trigger(5, 1))?;
-    discarded(&rt, alloc, &mut items, Dequeue(4), NoItem)?;
-    left(
+    after_five(
         &rt,
-        alloc,
-        &items,
-        "item 5 1 set 12 build waiting\nreport 1 1 set 0 success\nreport 4 1 set 8 success\nreport 5 1 set 9 success\n",
+        rt.alloc(),
+        "
+        ended 8 build success: Applied
+        ended 9 build success: Applied
+        dequeue 3: Applied
+        ended 0 build success: Applied
+        trigger 5 1: Applied
+        dequeue 4: Discarded(NoItem)
+        left
+        item 5 1 set 12 build waiting
+        report 1 1 set 0 success
+        report 4 1 set 8 success
+        report 5 1 set 9 success
+        ",
     )
+}
+
+// Triggers patch set 1 of changes 1 to 40, each with this outcome.
+fn forty(rt: &impl Abort, alloc: Global, items: &mut Items, outcome: &str) -> Result<(), Fail> {
+    let mut script = String::new(alloc);
+    for number in 1..41 {
+        let line = format!(in alloc; "trigger {number} 1: {outcome}\n")?;
+        script.push_str(line.as_str())?;
+    }
+    play(rt, alloc, items, "build", script.as_str())
 }
 
 // Changes 1 to 40 have sets 0 to 39, and from change 10 on then 40 to 70.
@@ -111,20 +124,16 @@ fn complete_items_wait_for_the_head(rt: HostRuntime) -> Result<(), Fail> {
 fn each_set_and_each_key_of_forty(rt: HostRuntime) -> Result<(), Fail> {
     let alloc = rt.alloc();
     let mut items = Items::new(alloc, ManagerKind::Dependent, 0);
-    for number in 1..41 {
-        applied(&rt, alloc, &mut items, Trigger(number, 1))?;
-    }
-    applied(&rt, alloc, &mut items, Reset(10))?;
+    forty(&rt, alloc, &mut items, "Applied")?;
+    play(&rt, alloc, &mut items, "build", "reset 10: Applied")?;
     for set in 0..80 {
-        assert_eq!(rt;
-            items.current(set),
-            set < 9 || set >= 40 && set < 71,
-            "{set}"
-        );
+        let current = set < 9 || set >= 40 && set < 71;
+        assert_eq!(rt; items.current(set), current, "{set}");
     }
-    for number in 1..41 {
-        discarded(&rt, alloc, &mut items, Trigger(number, 1), Known)?;
-    }
-    discarded(&rt, alloc, &mut items, Dequeue(0), NoItem)?;
-    discarded(&rt, alloc, &mut items, Dequeue(41), NoItem)
+    forty(&rt, alloc, &mut items, "Discarded(Known)")?;
+    let strangers = "
+        dequeue 0: Discarded(NoItem)
+        dequeue 41: Discarded(NoItem)
+        ";
+    play(&rt, alloc, &mut items, "build", strangers)
 }

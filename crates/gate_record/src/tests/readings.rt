@@ -1,115 +1,131 @@
 //! What records are read as, by their form.
-use super::{has_votes, read_event, text_of, why};
-use crate::{Reading, Record, Why, read_record};
+use super::{check, play, shown};
+use crate::Record;
 use std::alloc::{AllocError, Global};
 use std::test::Fail;
 
 #[test]
 fn tells_why_there_is_no_event(rt: HostRuntime) -> Result<(), Fail> {
-    let cases = [
-        (b"".as_slice(), Some(Why::NotJson)),
-        (b"{\"type\"".as_slice(), Some(Why::NotJson)),
-        (b"{\"type\":".as_slice(), Some(Why::NotJson)),
-        (b"{\"type\":\"\xff\"}".as_slice(), Some(Why::NotJson)),
-        (b"{\"type\":\"a\"} {}".as_slice(), Some(Why::NotJson)),
-        (
-            b"{\"type\":\"a\",\"x\":1e400}".as_slice(),
-            Some(Why::NotJson),
-        ),
-        (
-            b"{\"type\":\"a\",\"x\":[{\"y\":-1e400}]}".as_slice(),
-            Some(Why::NotJson),
-        ),
-        (b"[1e400]".as_slice(), Some(Why::NotJson)),
-        (b"[1]".as_slice(), Some(Why::NotObject)),
-        (b"[{\"type\":\"a\"}]".as_slice(), Some(Why::NotObject)),
-        (b"null".as_slice(), Some(Why::NotObject)),
-        (b"\"type\"".as_slice(), Some(Why::NotObject)),
-        (b"{}".as_slice(), Some(Why::NoType)),
-        (b"{\"type\":3}".as_slice(), Some(Why::NoType)),
-        (b"{\"type\":null}".as_slice(), Some(Why::NoType)),
-        (b"{\"Type\":\"a\"}".as_slice(), Some(Why::NoType)),
-        (b" {\"type\":\"\"} ".as_slice(), None),
-        (b"{\"type\":\"a\",\"x\":1e308}".as_slice(), None),
-    ];
-    for (line, wanted) in cases {
-        assert_eq!(rt; why(&rt, rt.alloc(), line)?, wanted);
-    }
-    match read_record(rt.alloc(), &Record::Oversize.copy(rt.alloc())?)? {
-        Reading::Event(_) => panic!(rt; "the record is no event"),
-        Reading::Nothing(why) => assert_eq!(rt; why, Why::Oversize),
-    }
+    let script = r#"
+        read {"type"
+        nothing NotJson
+
+        read {"type":
+        nothing NotJson
+
+        read {"type":"a"} {}
+        nothing NotJson
+
+        read {"type":"a","x":1e400}
+        nothing NotJson
+
+        read {"type":"a","x":[{"y":-1e400}]}
+        nothing NotJson
+
+        read [1e400]
+        nothing NotJson
+
+        read [1]
+        nothing NotObject
+
+        read [{"type":"a"}]
+        nothing NotObject
+
+        read null
+        nothing NotObject
+
+        read "type"
+        nothing NotObject
+
+        read {}
+        nothing NoType
+
+        read {"type":3}
+        nothing NoType
+
+        read {"type":null}
+        nothing NoType
+
+        read {"Type":"a"}
+        nothing NoType
+
+        read {"type":"a","x":1e308}
+        kind "a"
+    "#;
+    play(&rt, rt.alloc(), script)
+}
+
+#[test]
+fn reads_what_no_script_has(rt: HostRuntime) -> Result<(), Fail> {
+    check(&rt, rt.alloc(), b"", "nothing NotJson\n")?;
+    check(&rt, rt.alloc(), b"{\"type\":\"\xff\"}", "nothing NotJson\n")?;
+    check(&rt, rt.alloc(), b" {\"type\":\"\"} ", "kind \"\"\n")?;
+    let oversize = Record::Oversize.copy(rt.alloc())?;
+    let found = shown::record_text(rt.alloc(), &oversize)?;
+    assert_eq!(rt; found.as_str(), "nothing Oversize\n");
     Ok(())
 }
 
 #[test]
 fn every_field_may_be_missing(rt: HostRuntime) -> Result<(), Fail> {
-    for line in [
-        r#"{"type":"ref-updated"}"#,
-        r#"{"type":"ref-updated","change":{},"patchSet":{},"refUpdate":{},"submitter":{},"approvals":[]}"#,
-        r#"{"type":"ref-updated","change":1,"patchSet":[2],"refUpdate":"a","submitter":null,"approvals":{}}"#,
-        r#"{"type":"ref-updated","change":{"branch":1,"number":"x","project":[]},"patchSet":{"number":{}},"refUpdate":{"project":null,"refName":2,"newRev":false},"comment":["a"],"submitter":{"username":3,"email":[]},"approvals":[[],1]}"#,
-    ] {
-        let event = read_event(&rt, rt.alloc(), line)?;
-        assert_eq!(rt; event.kind.as_str(), "ref-updated");
-        for field in [&event.project, &event.branch, &event.refname, &event.newrev] {
-            assert_eq!(rt; text_of(field), None, "in {line}");
-        }
-        for field in [&event.comment, &event.username, &event.email] {
-            assert_eq!(rt; text_of(field), None, "in {line}");
-        }
-        assert_eq!(rt; event.change, None, "in {line}");
-        assert_eq!(rt; event.patchset, None, "in {line}");
-        assert!(rt; has_votes(&event, &[]), "in {line}");
-    }
-    Ok(())
+    let script = r#"
+        read {"type":"ref-updated"}
+        kind "ref-updated"
+
+        read {"type":"ref-updated","change":{},"patchSet":{},"refUpdate":{},"submitter":{},"approvals":[]}
+        kind "ref-updated"
+
+        read {"type":"ref-updated","change":1,"patchSet":[2],"refUpdate":"a","submitter":null,"approvals":{}}
+        kind "ref-updated"
+
+        read {"type":"ref-updated","change":{"branch":1,"number":"x","project":[]},"patchSet":{"number":{}},"refUpdate":{"project":null,"refName":2,"newRev":false},"comment":["a"],"submitter":{"username":3,"email":[]},"approvals":[[],1]}
+        kind "ref-updated"
+    "#;
+    play(&rt, rt.alloc(), script)
 }
 
 #[test]
 fn finds_the_project(rt: HostRuntime) -> Result<(), Fail> {
-    let cases = [
-        (
-            r#"{"type":"a","change":{"project":"b"},"refUpdate":{"project":"c"}}"#,
-            Some("b"),
-        ),
-        (
-            r#"{"type":"a","change":{"project":1},"refUpdate":{"project":"c"}}"#,
-            Some("c"),
-        ),
-        (
-            r#"{"type":"a","change":"b","refUpdate":{"project":"c"}}"#,
-            Some("c"),
-        ),
-        (
-            r#"{"type":"a","change":{"project":""},"refUpdate":{"project":"c"}}"#,
-            Some(""),
-        ),
-        (r#"{"type":"a","project":"b","projectName":"c"}"#, None),
-    ];
-    for (line, project) in cases {
-        let event = read_event(&rt, rt.alloc(), line)?;
-        assert_eq!(rt; text_of(&event.project), project, "in {line}");
-    }
-    Ok(())
+    let script = r#"
+        read {"type":"a","change":{"project":"b"},"refUpdate":{"project":"c"}}
+        kind "a"
+        project "b"
+
+        read {"type":"a","change":{"project":1},"refUpdate":{"project":"c"}}
+        kind "a"
+        project "c"
+
+        read {"type":"a","change":"b","refUpdate":{"project":"c"}}
+        kind "a"
+        project "c"
+
+        read {"type":"a","change":{"project":""},"refUpdate":{"project":"c"}}
+        kind "a"
+        project ""
+
+        read {"type":"a","project":"b","projectName":"c"}
+        kind "a"
+    "#;
+    play(&rt, rt.alloc(), script)
 }
 
 #[test]
 fn the_last_of_a_repeated_key_stands(rt: HostRuntime) -> Result<(), Fail> {
-    let line =
-        r#"{"type":3,"change":{"project":"a","branch":"a"},"type":"b","comment":"a","comment":"b","change":{"branch":"a","branch":"b"}}"#;
-    let event = read_event(&rt, rt.alloc(), line)?;
-    assert_eq!(rt; event.kind.as_str(), "b");
-    assert_eq!(rt; text_of(&event.project), None);
-    assert_eq!(rt; text_of(&event.branch), Some("b"));
-    assert_eq!(rt; text_of(&event.comment), Some("b"));
-    let line = b"{\"type\":\"a\",\"type\":3}";
-    assert_eq!(rt; why(&rt, rt.alloc(), line)?, Some(Why::NoType));
-    Ok(())
+    let script = r#"
+        read {"type":3,"change":{"project":"a","branch":"a"},"type":"b","comment":"a","comment":"b","change":{"branch":"a","branch":"b"}}
+        kind "b"
+        branch "b"
+        comment "b"
+
+        read {"type":"a","type":3}
+        nothing NoType
+    "#;
+    play(&rt, rt.alloc(), script)
 }
 
 // An object that holds so many lists, one in the other.
 fn nested(alloc: Global, lists: usize) -> Result<String, AllocError> {
-    let mut line = String::from_str(alloc, "{\"type\":\"a\",\"x\":")?;
+    let mut line = String::from_str(alloc, r#"{"type":"a","x":"#)?;
     for _ in 0..lists {
         line.push('[')?;
     }
@@ -122,9 +138,8 @@ fn nested(alloc: Global, lists: usize) -> Result<String, AllocError> {
 
 #[test]
 fn reads_127_levels(rt: HostRuntime) -> Result<(), Fail> {
-    for (lists, wanted) in [(126, None), (127, Some(Why::NotJson))] {
-        let line = nested(rt.alloc(), lists)?;
-        assert_eq!(rt; why(&rt, rt.alloc(), line.as_bytes())?, wanted);
-    }
-    Ok(())
+    let deepest = nested(rt.alloc(), 126)?;
+    check(&rt, rt.alloc(), deepest.as_bytes(), "kind \"a\"\n")?;
+    let deeper = nested(rt.alloc(), 127)?;
+    check(&rt, rt.alloc(), deeper.as_bytes(), "nothing NotJson\n")
 }

@@ -50,15 +50,37 @@ fn last(splitter: LineSplit, mut records: Vec<Record>) -> Result<Vec<Record>, Fa
     Ok(records)
 }
 
-fn line(record: &Record) -> Option<&[u8]> {
-    match record {
-        Record::Line(bytes) => Some(bytes.as_slice()),
-        Record::Oversize => None,
+// A stream of a table, in brackets: `/` stands for LF, `<` for CR and `_` for a space.
+fn stream_of(alloc: Global, text: &str) -> Result<String, Fail> {
+    let text = text
+        .strip_prefix('[')
+        .and_then(|rest| rest.strip_suffix(']'));
+    let mut stream = String::new(alloc);
+    for letter in text.ok_or("brackets")?.chars() {
+        stream.push(match letter {
+            '/' => '\n',
+            '<' => '\r',
+            '_' => ' ',
+            _ => letter,
+        })?;
     }
+    Ok(stream)
+}
+
+// The records of a table, each in brackets, one behind the other, or `none`.
+fn lines_of(alloc: Global, text: &str) -> Result<Vec<String>, Fail> {
+    let mut lines = Vec::new(alloc);
+    if text == "none" {
+        return Ok(lines);
+    }
+    for part in text.split_inclusive(']') {
+        lines.push(stream_of(alloc, part)?)?;
+    }
+    Ok(lines)
 }
 
 // A stream has these lines, however it is cut.
-fn has_lines(rt: &impl Abort, alloc: Global, stream: &str, wanted: &[&str]) -> Result<(), Fail> {
+fn has_lines(rt: &impl Abort, alloc: Global, stream: &str, wanted: &[String]) -> Result<(), Fail> {
     for size in [1, 2, 3, 100] {
         are_lines(rt, &in_pieces(alloc, stream.as_bytes(), size)?, wanted);
     }
@@ -66,31 +88,47 @@ fn has_lines(rt: &impl Abort, alloc: Global, stream: &str, wanted: &[&str]) -> R
     Ok(())
 }
 
-fn are_lines(rt: &impl Abort, records: &[Record], wanted: &[&str]) {
+fn are_lines(rt: &impl Abort, records: &[Record], wanted: &[String]) {
     assert_eq!(rt; records.len(), wanted.len());
     for (record, wanted) in records.iter().zip(wanted) {
-        assert!(rt; line(record) == Some(wanted.as_bytes()));
+        assert!(rt; is_line(record, wanted.as_str()));
     }
+}
+
+fn is_line(record: &Record, wanted: &str) -> bool {
+    match record {
+        Record::Line(bytes) => bytes.as_slice() == wanted.as_bytes(),
+        Record::Oversize => false,
+    }
+}
+
+// Sees that the stream of a line has the records that stand behind the arrow.
+fn check_line(rt: &impl Abort, alloc: Global, line: &str) -> Result<(), Fail> {
+    let (stream, wanted) = line.trim().split_once(" -> ").ok_or("an arrow")?;
+    let stream = stream_of(alloc, stream)?;
+    let wanted = lines_of(alloc, wanted)?;
+    has_lines(rt, alloc, stream.as_str(), wanted.as_slice())
 }
 
 #[test]
 fn cuts_lines(rt: HostRuntime) -> Result<(), Fail> {
-    has_lines(&rt, rt.alloc(), "", &[])?;
-    has_lines(&rt, rt.alloc(), "\n", &[])?;
-    has_lines(&rt, rt.alloc(), "\r\n", &[])?;
-    has_lines(&rt, rt.alloc(), "\r", &["\r"])?;
-    has_lines(&rt, rt.alloc(), "\r\r\n", &["\r"])?;
-    has_lines(&rt, rt.alloc(), "a", &["a"])?;
-    has_lines(&rt, rt.alloc(), "a\n", &["a"])?;
-    has_lines(&rt, rt.alloc(), "a\r\nb\r\n", &["a", "b"])?;
-    has_lines(&rt, rt.alloc(), "a\r\n\nb\r", &["a", "b\r"])?;
-    has_lines(&rt, rt.alloc(), "\n\n\na\rb\n\n", &["a\rb"])?;
-    has_lines(
-        &rt,
-        rt.alloc(),
-        " \nlong enough\n\n\r\rc",
-        &[" ", "long enough", "\r\rc"],
-    )
+    let table = "
+        [] -> none
+        [/] -> none
+        [</] -> none
+        [<] -> [<]
+        [<</] -> [<]
+        [a] -> [a]
+        [a/] -> [a]
+        [a</b</] -> [a][b]
+        [a<//b<] -> [a][b<]
+        [///a<b//] -> [a<b]
+        [_/long_enough//<<c] -> [_][long_enough][<<c]
+    ";
+    for line in table.trim().lines() {
+        check_line(&rt, rt.alloc(), line)?;
+    }
+    Ok(())
 }
 
 // `a` and an empty line, then as many bytes as a line may have, then one more, and the end.
@@ -137,14 +175,8 @@ fn long_lines_in_pieces(rt: HostRuntime) -> Result<(), Fail> {
     Ok(())
 }
 
-// Of so many bytes in one piece, and then these one by one, the records have these lengths, where they are lines.
-fn has_lengths(
-    rt: &impl Abort,
-    alloc: Global,
-    count: usize,
-    tail: &str,
-    wanted: &[Option<usize>],
-) -> Result<(), Fail> {
+// The lengths of the records where so many bytes come in one piece, and then these one by one.
+fn lengths(alloc: Global, count: usize, tail: &str) -> Result<String, Fail> {
     let mut front = Vec::new(alloc);
     push_long(&mut front, count)?;
     let mut splitter = LineSplit::new(alloc);
@@ -153,24 +185,47 @@ fn has_lengths(
     for piece in tail.as_bytes().chunks(1) {
         add(&mut splitter, piece, &mut records)?;
     }
-    let records = last(splitter, records)?;
-    assert_eq!(rt; records.len(), wanted.len());
-    for (record, wanted) in records.iter().zip(wanted) {
-        assert_eq!(rt; line(record).map(|bytes| bytes.len()), *wanted);
+    lengths_of(alloc, last(splitter, records)?.as_slice())
+}
+
+fn lengths_of(alloc: Global, records: &[Record]) -> Result<String, Fail> {
+    let mut text = String::new(alloc);
+    for record in records {
+        let length = match record {
+            Record::Line(bytes) => format!(in alloc; "[{}]", bytes.len())?,
+            Record::Oversize => String::from_str(alloc, "[oversize]")?,
+        };
+        text.push_str(length.as_str())?;
     }
+    Ok(text)
+}
+
+// Sees that the bytes of a line, `COUNT [TAIL]`, have the lengths that stand behind the arrow.
+fn check_lengths(rt: &impl Abort, alloc: Global, line: &str) -> Result<(), Fail> {
+    let (given, wanted) = line.trim().split_once(" -> ").ok_or("an arrow")?;
+    let (count, tail) = given.split_once(' ').ok_or("a tail")?;
+    let tail = stream_of(alloc, tail)?;
+    let found = lengths(alloc, count.parse::<usize>()?, tail.as_str())?;
+    assert_eq!(rt; found.as_str(), wanted, "{line}");
     Ok(())
 }
 
 #[test]
 fn the_limit_is_kept(rt: HostRuntime) -> Result<(), Fail> {
-    has_lengths(&rt, rt.alloc(), 1_048_576, "", &[Some(1_048_576)])?;
-    has_lengths(&rt, rt.alloc(), 1_048_576, "\r\n", &[Some(1_048_576)])?;
-    has_lengths(&rt, rt.alloc(), 1_048_575, "\r\r\n", &[Some(1_048_576)])?;
-    has_lengths(&rt, rt.alloc(), 1_048_575, "\r", &[Some(1_048_576)])?;
-    has_lengths(&rt, rt.alloc(), 1_048_576, "\r", &[None])?;
-    has_lengths(&rt, rt.alloc(), 1_048_576, "y", &[None])?;
-    has_lengths(&rt, rt.alloc(), 1_048_576, "y\r\n", &[None])?;
-    has_lengths(&rt, rt.alloc(), 1_048_576, "\ry\n", &[None])?;
-    has_lengths(&rt, rt.alloc(), 1_048_576, "\r\r\n", &[None])?;
-    has_lengths(&rt, rt.alloc(), 3_000_000, "\r\n\r\nb", &[None, Some(1)])
+    let table = "
+        1048576 [] -> [1048576]
+        1048576 [</] -> [1048576]
+        1048575 [<</] -> [1048576]
+        1048575 [<] -> [1048576]
+        1048576 [<] -> [oversize]
+        1048576 [y] -> [oversize]
+        1048576 [y</] -> [oversize]
+        1048576 [<y/] -> [oversize]
+        1048576 [<</] -> [oversize]
+        3000000 [</</b] -> [oversize][1]
+    ";
+    for line in table.trim().lines() {
+        check_lengths(&rt, rt.alloc(), line)?;
+    }
+    Ok(())
 }
