@@ -30,6 +30,7 @@ class Judging:
         # The symbol of each function that a check has named.
         self.named = {}
         self.refused, self.failed = 0, 0
+        self.is_controlled, self.asking = None, threading.Lock()
 
     def tell(self, name, verdict, why):
         with printing:
@@ -87,6 +88,8 @@ class Judging:
         bodies = [*self.sources.controls, *batch]
         said = self.check(bodies)
         why_not = self.why_not(bodies, said)
+        if why_not and not self.holds_control():
+            return []
         if why_not and len(batch) == 1:
             alone += batch
             return []
@@ -95,6 +98,15 @@ class Judging:
             half = len(batch) // 2
             return self.round(batch[:half], alone) + self.round(batch[half:], alone)
         return [it for it in batch if self.is_for_later(it, said, alone)]
+
+    def holds_control(self):
+        """Whether the crate is proved with its control, as it is to be; it is tried once a round shows nothing."""
+        with self.asking:
+            if self.is_controlled is None:
+                self.is_controlled = self.check(self.sources.controls).is_proved
+                if not self.is_controlled:
+                    self.tell(self.sources.controls[0].name, "FAILED", "the crate isn't proved with it, so no round shows anything")
+            return self.is_controlled
 
     def check(self, bodies, over_kept=True):
         """Checks the crate with these bodies, over a copy of what the check of the crate itself kept, so that none of them
@@ -115,14 +127,16 @@ class Judging:
 
     def symbols(self, function):
         """Returns the names under which a check speaks of a function and its closures; none where that isn't clear."""
-        module = "::".join([self.name, *function.module, ""])
+        module, name = "::".join([self.name, *function.module]), function.name
         if function.in_trait:
-            # what is written of an impl's name is between the module and the function
-            parts = [(it, it.removeprefix(module).split("::")) for it in self.named if it.startswith(module)]
-            found = [it for it, left in parts if len(left) == 2 and left[1] == function.name and function.block.fits(left[0])]
+            # a trait's method stands below its impl's module, and what is written of the impl is a word between the two
+            parts = [(it, it.removeprefix(f"{module}::").split("::")) for it in self.named if it.startswith(f"{module}::")]
+            found = [it for it, left in parts if len(left) == 2 and left[1] == name and function.block.fits(left[0])]
+        elif function.block:
+            # another method stands below its type's module, wherever the impl is
+            found = [it for it in self.named if it.split("::")[-2:] == [function.owner, name]]
         else:
-            owner = f"{function.owner}::" if function.block else ""
-            found = [it for it in [f"{module}{owner}{function.name}"] if it in self.named]
+            found = [it for it in self.named if it == f"{module}::{name}"]
         return found + [it for it in self.named if it.startswith(f"{found[0]}::")] if len(found) == 1 else []
 
     def own(self, body):
