@@ -68,10 +68,6 @@ class Said:
         is_sure = not any("could not tell" in it.words for it in self.functions.values())
         self.is_judged = is_whole and is_sure and not rtlib.STALE.search(text)
 
-    def unproved(self, names):
-        found = {it: self.functions[it] for it in names if it in self.functions}
-        return {name: verdict for name, verdict in found.items() if not verdict.is_proved}
-
     def first_error(self):
         found = re.search(r"(?m)^.*\berror\b.*$|^rattle: .*$", self.text)
         return found[0].strip()[:200] if found else "the check printed no verdict"

@@ -1,4 +1,5 @@
 """The wrong bodies of a crate, judged in rounds."""
+import os
 import shutil
 import sys
 import tempfile
@@ -17,6 +18,11 @@ slots = threading.BoundedSemaphore(rt.processors())
 MOST = 12
 
 
+def is_of(name, symbols):
+    """Whether a check's name is that of one of these functions, or of a closure in it."""
+    return any(name == it or name.startswith(f"{it}::") for it in symbols)
+
+
 def folder_of(symbol):
     """Returns the folder of the function's own proof files."""
     return f"proofs/{'/'.join(symbol.split('::')[1:])}/"
@@ -27,8 +33,8 @@ class Judging:
 
     def __init__(self, crate):
         self.crate, self.name, self.sources = crate, crate.name, Sources(crate)
-        # The symbol of each function that a check has named.
-        self.named = {}
+        # The crate's functions, by their names in a check.
+        self.named = []
         self.refused, self.failed = 0, 0
         self.is_controlled, self.asking = None, threading.Lock()
 
@@ -44,6 +50,9 @@ class Judging:
 
     def judge(self):
         with tempfile.TemporaryDirectory(prefix="wrong-bodies-") as self.room, ThreadPoolExecutor() as self.pool:
+            # what rt check kept, if it did, saves the first check most of its time
+            if os.path.isdir(f"{self.crate.folder}/out/incremental"):
+                shutil.copytree(f"{self.crate.folder}/out/incremental", f"{self.room}/kept")
             self.judge_all()
 
     def judge_all(self):
@@ -52,10 +61,12 @@ class Judging:
         controls = self.sources.controls
         if not controls or not all(it.is_inside for it in controls):
             return self.tell("control", "FAILED", "there is no control-NAME.edit that changes the inside of one function")
-        if not self.check([]).is_proved:
+        said = self.check([])
+        if not said.is_proved:
             return self.tell("control", "FAILED", "the crate itself isn't proved")
-        waiting = [it for it in self.sources.bodies if it.is_inside]
-        alone = [it for it in self.sources.bodies if not it.is_inside]
+        self.named = [*said.functions]
+        waiting = [it for it in self.sources.bodies if it.is_inside and self.symbol(it.functions[0])]
+        alone = [it for it in self.sources.bodies if it not in waiting]
         while waiting:
             batches = []
             while waiting:
@@ -73,13 +84,13 @@ class Judging:
         batch, left, avoided, symbols = [], [], set(), set()
         functions = {f for it in self.sources.controls for f in it.functions}
         for it in waiting:
-            own = {*self.symbols(it.functions[0])}
-            if len(batch) == MOST or it.functions[0] in functions or own & avoided or symbols & it.avoids:
+            own = self.symbol(it.functions[0])
+            if len(batch) == MOST or it.functions[0] in functions or own in avoided or symbols & it.avoids:
                 left.append(it)
             else:
                 batch.append(it)
                 functions.add(it.functions[0])
-                symbols |= own
+                symbols.add(own)
                 avoided |= it.avoids
         return batch, left
 
@@ -105,7 +116,8 @@ class Judging:
             if self.is_controlled is None:
                 self.is_controlled = self.check(self.sources.controls).is_proved
                 if not self.is_controlled:
-                    self.tell(self.sources.controls[0].name, "FAILED", "the crate isn't proved with it, so no round shows anything")
+                    why = "the crate isn't proved with it, so no round shows anything"
+                    self.tell(self.sources.controls[0].name, "FAILED", why)
             return self.is_controlled
 
     def check(self, bodies, over_kept=True):
@@ -121,12 +133,11 @@ class Judging:
                 kept = shutil.copytree(kept, f"{copy}/kept")
             said = check(self.crate, texts, kept if over_kept else None)
             took = time.monotonic() - start
-        self.named.update(dict.fromkeys(said.functions))
         self.note(f"{took:.0f} s for {', '.join(it.name for it in bodies) or 'the crate itself'}")
         return said
 
-    def symbols(self, function):
-        """Returns the names under which a check speaks of a function and its closures; none where that isn't clear."""
+    def symbol(self, function):
+        """Returns the name under which a check speaks of a function, or None where that isn't clear."""
         module, name = "::".join([self.name, *function.module]), function.name
         if function.in_trait:
             # a trait's method stands below its impl's module, and what is written of the impl is a word between the two
@@ -137,39 +148,43 @@ class Judging:
             found = [it for it in self.named if it.split("::")[-2:] == [function.owner, name]]
         else:
             found = [it for it in self.named if it == f"{module}::{name}"]
-        return found + [it for it in self.named if it.startswith(f"{found[0]}::")] if len(found) == 1 else []
+        return found[0] if len(found) == 1 else None
 
     def own(self, body):
-        """Returns the symbols of what the body changes; all, where it changes what belongs to no function."""
-        found = [self.symbols(it) for it in body.functions]
-        return [it for names in found for it in names] if found and all(found) else [*self.named]
+        """Returns the names of what the body changes; of all, where it changes what belongs to no function."""
+        found = [self.symbol(it) for it in body.functions]
+        return found if found and None not in found else self.named
 
     def why_not(self, bodies, said):
         """Returns why a round doesn't count: what failed of a function that isn't changed, or of the control, or nothing."""
-        changed = {it for body in bodies for f in body.functions for it in self.symbols(f)}
-        controls = [it for body in self.sources.controls for it in self.symbols(body.functions[0])]
+        changed = [it for body in bodies for it in self.own(body)]
         if not said.is_judged:
             return said.first_error()
         for name, it in said.functions.items():
-            if not (it.is_proved or name in changed or it.falls_through_callees()):
+            if not (it.is_proved or it.falls_through_callees() or is_of(name, changed)):
                 return f"{name}: {it.words[:120]}"
-        if not controls or not all(it in said.functions and said.functions[it].is_proved for it in controls):
-            return "the control isn't proved"
+        for name in (it for body in self.sources.controls for it in self.own(body)):
+            if name not in said.functions or not said.functions[name].is_proved:
+                return f"the control {name} isn't proved"
         folders = tuple(map(folder_of, changed))
         elsewhere = [f"{file}:{line}{text}" for file, line, text in said.errors if not file.startswith(folders)]
         return next(iter([*said.others, *elsewhere]), None)
 
+    def fell(self, body, said):
+        """Returns what was said of each function that the body changes, and of the closures in it, that isn't proved."""
+        own = self.own(body)
+        return {name: it for name, it in said.functions.items() if not it.is_proved and is_of(name, own)}
+
     def is_for_later(self, body, said, alone):
         """Tells the verdict on a wrong body where the round shows it; else says whether it is for a later round, or alone."""
-        own = self.own(body)
-        fell = said.unproved(own)
+        fell = self.fell(body, said)
         body.tries += 1
         if any(map(body.failed, fell.values())):
             self.tell_refused(body, fell)
             return False
         if fell and body.tries < 4:
             if all(it.falls_through_callees() for it in fell.values()):
-                body.avoids |= {root for name in fell for root in said.roots(name)} - {*own}
+                body.avoids |= {root for name in fell for root in said.roots(name)} - {*self.own(body)}
                 return True
             if self.drop_stale(body, said):
                 return True
@@ -190,7 +205,7 @@ class Judging:
         while said.is_judged and not said.is_proved and body.tries < 8 and self.drop_stale(body, said):
             body.tries += 1
             said = self.check([body])
-        fell = said.unproved(self.own(body))
+        fell = self.fell(body, said)
         goals = [(name, goal) for name, it in fell.items() for goal in it.goals]
         words = next((it.words for it in fell.values() if not it.falls_through_callees()), None)
         if any(map(body.failed, fell.values())):
