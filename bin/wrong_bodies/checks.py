@@ -58,7 +58,7 @@ class Said:
                 goals.append(goal.groups())
             elif verdict and verdict[1] == "fn":
                 self.functions[verdict[2]], goals = Verdict(verdict[3], goals), []
-            elif verdict and not verdict[3].startswith("proved"):
+            elif verdict and not verdict[3].startswith("proved") and "it waits for the proof of" not in line:
                 self.others.append(line)
             elif error:
                 self.errors.append((error[1], int(error[2]), error[3]))
