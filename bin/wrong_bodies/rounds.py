@@ -188,7 +188,10 @@ class Judging:
                 return True
             if self.drop_stale(body, said):
                 return True
-        alone.append(body)
+        if any(it.goals for it in fell.values()):
+            self.tell_weak(body, fell)
+        else:
+            alone.append(body)
         return False
 
     def drop_stale(self, body, said):
@@ -200,13 +203,18 @@ class Judging:
         by = [(name, goal) for name, verdict in fell.items() for goal in body.failed(verdict)]
         self.tell(body.name, "refused", f"by {by[0][0]}: " + ", ".join(f"`{goal}`" for _, goal in by[:2]))
 
+    def tell_weak(self, body, fell):
+        name, (about, goal, how) = next((name, goal) for name, it in fell.items() for goal in it.goals)
+        about = "the search gave up at a limit" if "gave up" in how else about.removeprefix("it is not proved that ")
+        about = "a kept answer no longer fits" if goal in body.stale else about
+        self.tell(body.name, "weak", f"{name}: {about} (`{goal}`)")
+
     def judge_alone(self, body):
         said = self.check([body])
         while said.is_judged and not said.is_proved and body.tries < 8 and self.drop_stale(body, said):
             body.tries += 1
             said = self.check([body])
         fell = self.fell(body, said)
-        goals = [(name, goal) for name, it in fell.items() for goal in it.goals]
         words = next((it.words for it in fell.values() if not it.falls_through_callees()), None)
         if any(map(body.failed, fell.values())):
             self.tell_refused(body, fell)
@@ -216,11 +224,8 @@ class Judging:
             self.tell(body.name, "FAILED", "the crate is still proved with it")
         elif said.is_proved:
             self.tell(body.name, "FAILED", "the crate is proved with it over what was kept, and not from nothing")
-        elif goals:
-            name, (about, goal, how) = goals[0]
-            about = "the search gave up at a limit" if "gave up" in how else about.removeprefix("it is not proved that ")
-            about = "a kept answer no longer fits" if goal in body.stale else about
-            self.tell(body.name, "weak", f"{name}: {about} (`{goal}`)")
+        elif any(it.goals for it in fell.values()):
+            self.tell_weak(body, fell)
         elif said.errors or not words:
             self.tell(body.name, "FAILED", f"no goal of its own failed: {said.first_error()}")
         else:
