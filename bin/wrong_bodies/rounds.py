@@ -65,7 +65,7 @@ class Judging:
         if not said.is_proved:
             return self.tell("control", "FAILED", "the crate itself isn't proved")
         self.named = [*said.functions]
-        waiting = [it for it in self.sources.bodies if it.is_inside and self.symbol(it.functions[0])]
+        waiting = [it for it in self.sources.bodies if self.is_for_rounds(it)]
         alone = [it for it in self.sources.bodies if it not in waiting]
         while waiting:
             batches = []
@@ -79,10 +79,14 @@ class Judging:
         if not self.check([]).is_proved:
             self.tell("control", "FAILED", "the crate itself isn't proved over what was kept, so the rounds show nothing")
 
+    def is_for_rounds(self, body):
+        """Whether it changes the inside of one function, which a check names and no control changes."""
+        controlled = [f for it in self.sources.controls for f in it.functions]
+        return body.is_inside and body.functions[0] not in controlled and self.symbol(body.functions[0]) is not None
+
     def batch(self, waiting):
         """Chooses wrong bodies of different functions, none of which is one through which another fell."""
-        batch, left, avoided, symbols = [], [], set(), set()
-        functions = {f for it in self.sources.controls for f in it.functions}
+        batch, left, avoided, symbols, functions = [], [], set(), set(), set()
         for it in waiting:
             own = self.symbol(it.functions[0])
             if len(batch) == MOST or it.functions[0] in functions or own in avoided or symbols & it.avoids:
