@@ -23,8 +23,6 @@ mod rules;
 mod sources;
 mod stanzas;
 mod tenants;
-#[cfg(test)]
-mod tests;
 mod text;
 
 pub use config::{Config, PipelineSpec, TenantSpec};

@@ -1,6 +1,6 @@
 -- What holds means that what was processed is what was asked, and that the queue items are what came of it.
-use Rattle.std.proofs.Common.{◌≡◌, ◌∙◌, refl, sym, ap, subst, ℕ, List, [], ◌∷◌, ◌++◌, false, map, Option, Some, None, append_assoc}
-use Rattle.std.specs.Prelude.{is_some, option_map, slice_get}
+use Rattle.std.proofs.Common.{◌≡◌, ◌∙◌, refl, sym, ap, subst, ◌<◌, ℕ, List, [], ◌∷◌, ◌++◌, arith, false, length, map, true, zero, suc, Option, Some, None, append_assoc}
+use Rattle.std.specs.Prelude.{is_some, option_and_then, option_map, slice_get}
 use Rattle.std.specs.List.{filter, filter_map}
 use Rattle.std.proofs.lemmas.List.{map-append}
 use Rattle.gate_record.specs.declared.ids.ManagerKind.{ManagerKind}
@@ -8,6 +8,7 @@ use Rattle.gate_record.specs.declared.ids.Stamp.{Stamp}
 use Rattle.gate_record.specs.declared.transit.PipelineItem.{PipelineItem}
 use Rattle.gate_record.specs.declared.transit.PipelineItem.TheVariants as pipeline
 use Rattle.gate_config.specs.declared.config.Config.{Config}
+use Rattle.gate_config.specs.Lookups.{pipelines_of, tenants_of}
 use Rattle.gate_items.specs.declared.action.Action.{Action}
 use Rattle.gate_items.specs.declared.action.Action.TheVariants as action
 use Rattle.gate_items.specs.declared.action.Discard.TheVariants.{NotCurrent}
@@ -163,8 +164,28 @@ module _ (config : Config) (h : History) (state : State) (holds : Holds config h
   kept : (items : ItemsState) → items_at t p state ≡ Some items → (items ≡ after (no_items config t p) (actions t p h)) × (outcomes t p h ≡ run (no_items config t p) (actions t p h))
   kept items e = kept_tenant (slice_get state.tenants t) refl items e
 
+-- ---- each pipeline of the configuration is there
+
+seated : {X : Type 0} (xs : List X) (i : ℕ) → i < length xs → is_some (slice_get xs i) ≡ true
+seated [] i less = absurd (omega (arith, less))
+seated (x ∷ xs) zero less = refl
+seated (x ∷ xs) (suc i) less = seated xs i (omega (arith, less))
+
+some_of : {X Y : Type 0} (f : X → Y) (o : Option X) → is_some o ≡ true → is_some (option_map f o) ≡ true
+some_of f None there = there
+some_of f (Some x) there = refl
+
+module _ (config : Config) (h : History) (state : State) (holds : Holds config h state) (t p : ℕ) (tenant : t < length (tenants_of config)) (inside : p < length (pipelines_of config t)) where
+  there_in : (o : Option TenantState) → slice_get state.tenants t ≡ o → is_some o ≡ true → is_some (option_map (λ (pipe : Pipeline). pipe.worker.items) (option_and_then (λ (ten : TenantState). slice_get ten.pipelines p) o)) ≡ true
+  there_in None e there = absurd (cc)
+  there_in (Some ten) e there = some_of (λ (pipe : Pipeline). pipe.worker.items) (slice_get ten.pipelines p) (seated ten.pipelines p (omega (arith, inside, (holds.tenants t ten e).count)))
+
+  is_there : is_some (items_at t p state) ≡ true
+  is_there = there_in (slice_get state.tenants t) refl (seated state.tenants t (omega (arith, tenant, holds.count)))
+
 pub keeps : OutcomesAreSaid → (config : Config) (h : History) (state : State) → Holds config h state → Keeps config h state
 keeps says config h state holds = record {
+  there = λ t p tenant inside. is_there config h state holds t p tenant inside;
   items = λ t p items e. (kept config h state holds t p items e).0;
   jobs = λ t p i j items item job e at seat.
       let all = kept config h state holds t p items e in

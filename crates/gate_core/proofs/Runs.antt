@@ -99,6 +99,13 @@ pub all_answered : (config : Config) (answers : List Answer) (state : State) (re
 all_answered config answers state rest all total none runs =
     runs.told ∙ ap (map (λ (event : Step × Answer). event.1)) (sym (append-nil runs.past) ∙ ap (λ (steps : List Step). runs.past ++ run_from config state steps) (sym none) ∙ runs.goes)
 
+answered_each : (config : Config) (state : State) (steps : List Step) → length (answers_to config state steps) ≡ length steps
+answered_each config state [] = refl
+answered_each config state (s ∷ steps) = ap suc (answered_each config (step_of config state s).0 steps)
+
+pub all_counted : (config : Config) (answers : List Answer) (state : State) (rest all : List Step) (total : ℕ) → rest ≡ [] → Runs config answers state rest all total → length answers ≡ length all
+all_counted config answers state rest all total none runs = ap length (all_answered config answers state rest all total none runs) ∙ answered_each config (first config) all
+
 -- ---- what is promised of every history
 
 zip_answers : (config : Config) (state : State) (steps : List Step) → zip steps (answers_to config state steps) ≡ run_from config state steps

@@ -1,10 +1,10 @@
 -- What the core promises of every history of a run.
-use Rattle.std.specs.Prelude.{◌≡◌, ◌<◌, ◌==◌, ℕ, List, [], ◌∷◌, ◌++◌, Bool, true, length, Option, Some, slice_get, if◌then◌else◌}
+use Rattle.std.specs.Prelude.{◌≡◌, ◌<◌, ◌==◌, ℕ, List, [], ◌∷◌, ◌++◌, Bool, true, length, Option, Some, is_some, slice_get, if◌then◌else◌}
 use Rattle.std.specs.List.{filter_map}
 use Rattle.std.specs.Option.{option_to_list}
 use Rattle.gate_record.specs.declared.ids.Stamp.{Stamp}
 use Rattle.gate_config.specs.declared.config.Config.{Config}
-use Rattle.gate_config.specs.Lookups.{connections_of}
+use Rattle.gate_config.specs.Lookups.{connections_of, pipelines_of, tenants_of}
 use Rattle.gate_items.specs.declared.action.Action.{Action}
 use Rattle.gate_items.specs.declared.item.QueueItem.{QueueItem}
 use Rattle.gate_items.specs.History.{after, start}
@@ -82,6 +82,8 @@ pub record Processes (config : Config) (history : History) : Type 0 where
 
 -- What each pipeline keeps is what the actions left that it has processed, one after another.
 pub record Keeps (config : Config) (history : History) (state : State) : Type 0 where
+  -- each pipeline of the configuration keeps something
+  pub there : (t p : ℕ) → t < length (tenants_of config) → p < length (pipelines_of config t) → is_some (items_at t p state) ≡ true
   pub items : (t p : ℕ) (items : ItemsState) → items_at t p state ≡ Some items → items ≡ after (no_items config t p) (actions t p history)
   -- a job of an item has the outcome of the one applied result with the item's build set and that job, or none
   pub jobs : (t p i j : ℕ) (items : ItemsState) (item : QueueItem) (job : List ℕ × Option Bool) → items_at t p state ≡ Some items →

@@ -25,8 +25,9 @@ ghost use Rattle.gate_core.specs.Worlds.{state_of, config_of};
 
 /// Takes steps in order, from the world in which nothing was offered yet. `Memory` where it is refused at any step.
 pub fn run<'c>(alloc: Global, config: &'c Config, steps: &[Step]) -> Result<Transcript<'c>, Memory>
-    // The answers are those of the steps one after another, and the world is what they leave.
+    // The answers are those of the steps one after another, one for each, and the world is what they leave.
     ensures answers { IfOk result (λ t. t.answers ≡ answers_to config.entry.now (first config.entry.now) steps.now) }
+    ensures each { IfOk result (λ t. length t.answers ≡ length steps.now) }
     ensures left { IfOk result (λ t. state_of t.world ≡ left_by config.entry.now (first config.entry.now) steps.now) }
     ensures config { IfOk result (λ t. config_of t.world ≡ config.entry.now) }
 
@@ -53,6 +54,7 @@ pub fn play<'c>(
     steps: Queue<Step>,
 ) -> Result<Transcript<'c>, Memory>
     ensures answers { IfOk result (λ t. t.answers ≡ answers_to config.entry.now (first config.entry.now) steps) }
+    ensures each { IfOk result (λ t. length t.answers ≡ length steps) }
     ensures left { IfOk result (λ t. state_of t.world ≡ left_by config.entry.now (first config.entry.now) steps) }
     ensures config { IfOk result (λ t. config_of t.world ≡ config.entry.now) }
     ensures delivers { IfOk result (λ t. Delivers config.entry.now (zip steps t.answers)) }

@@ -3,7 +3,5 @@
 
 mod forward;
 mod places;
-#[cfg(test)]
-mod tests;
 
 pub use forward::Forward;

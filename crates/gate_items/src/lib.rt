@@ -15,8 +15,6 @@ mod listed;
 mod outcome;
 mod queue_items;
 mod report;
-#[cfg(test)]
-mod tests;
 mod trigger;
 
 pub use action::{Action, Discard, JobResult, Manage, Outcome};

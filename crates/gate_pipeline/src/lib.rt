@@ -4,8 +4,6 @@
 mod laws;
 mod pass;
 mod pipeline;
-#[cfg(test)]
-mod tests;
 mod trigger;
 mod which;
 

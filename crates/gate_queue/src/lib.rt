@@ -12,8 +12,6 @@ mod queue;
 mod seats;
 mod settle;
 mod tagged;
-#[cfg(test)]
-mod tests;
 
 pub use fault::{Full, OpenFault, Unsettled};
 pub use opening::open;

@@ -16,8 +16,6 @@ mod reading;
 mod record;
 mod sequence;
 mod shared;
-#[cfg(test)]
-mod tests;
 mod text;
 mod transit;
 

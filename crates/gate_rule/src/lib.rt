@@ -4,8 +4,6 @@
 mod matcher;
 mod pattern;
 mod rule;
-#[cfg(test)]
-mod tests;
 
 pub use matcher::Matcher;
 pub use pattern::{Pattern, PatternFault};

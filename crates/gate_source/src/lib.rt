@@ -12,8 +12,6 @@ mod lines;
 mod source;
 mod split;
 mod stop;
-#[cfg(test)]
-mod tests;
 
 pub use laws::{the_cutting_does_not_matter, the_lines_that_ended_are_given};
 pub use source::{ClosedSource, MOST_RECORDS, OfferFault, Source};

@@ -6,8 +6,6 @@ mod hand;
 mod laws;
 mod marks;
 mod matching;
-#[cfg(test)]
-mod tests;
 
 pub use dispatch::Dispatch;
 pub use laws::{

@@ -4,7 +4,7 @@ use Rattle.gate_core.specs.declared.answer.Answer.{Answer}
 use Rattle.gate_core.specs.States.{State}
 use Rattle.gate_core.specs.Steps.{answers_to, first, left_by, step_of}
 use Rattle.gate_core.specs.Worlds.{state_of}
-use Rattle.gate_core.proofs.Runs.{Runs, begins, finds_number, has_number, one_more, all_answered, all_reached, run_delivers, run_keeps, run_processes, run_rightly, run_told}
+use Rattle.gate_core.proofs.Runs.{Runs, begins, finds_number, has_number, one_more, all_answered, all_counted, all_reached, run_delivers, run_keeps, run_processes, run_rightly, run_told}
 use Rattle.gate_core.proofs.transcript.play.Goals as goal
 
 pub loop-step-init : goal.loop-step-init
@@ -64,3 +64,6 @@ returns-clause-processes c = run_processes c.every_run_delivers.ensures c.args.c
 
 pub returns-clause-keeps : goal.returns-clause-keeps
 returns-clause-keeps c = run_keeps c.every_run_delivers.ensures c.args.config.now c.args.steps c.loop-step.answers (state_of c.loop-step.world) (answered c) (reached c)
+
+pub returns-clause-each : goal.returns-clause-each
+returns-clause-each c = all_counted c.args.config.now c.loop-step.answers (state_of c.loop-step.world) c.loop-step.steps c.args.steps c.len-total.result c.in_default.ensures.0 c.loop-step.invariant.runs

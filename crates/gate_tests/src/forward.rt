@@ -1,0 +1,158 @@
+//! Scripts over four tenants, and over sixteen.
+mod steps;
+
+use crate::lines::step_of;
+use gate_config::read_config;
+use gate_forward::Forward;
+use gate_record::ConnId;
+use std::alloc::Global;
+use std::process::Abort;
+use std::test::Fail;
+
+// Four tenants: two list the project under connection 1, one lists another there, one lists connection 0 alone.
+const FOUR: &str =
+    r#"{"tenants":[{"name":"a","source":{"gerrit":{"untrusted-projects":["demo"]}}},{"name":"b","source":{"gerrit":{"untrusted-projects":["other"]}}},{"name":"c","source":{"eclipse":{"untrusted-projects":["demo"]}}},{"name":"d","source":{"eclipse":null,"gerrit":{"config-projects":["demo","other"]}}}],"config":{}}"#;
+
+const GERRIT: ConnId = ConnId(1);
+
+// Plays a script over a configuration and one of its connections: takes each step, and compares what it comes to with what
+// stands behind the arrow.
+fn play(
+    rt: &impl Abort,
+    alloc: Global,
+    document: &str,
+    conn: ConnId,
+    script: &str,
+) -> Result<(), Fail> {
+    let config = read_config(alloc, document.as_bytes())?;
+    let mut forward = Forward::new(&config, conn);
+    play_over(rt, alloc, &mut forward, script)
+}
+
+fn play_over(
+    rt: &impl Abort,
+    alloc: Global,
+    forward: &mut Forward<'_>,
+    script: &str,
+) -> Result<(), Fail> {
+    for line in script.trim().lines() {
+        let (step, wanted) = step_of(line);
+        let found = steps::take(alloc, forward, step)?;
+        assert_eq!(rt; found.as_str(), wanted, "{line}");
+    }
+    Ok(())
+}
+
+#[test]
+fn an_event_goes_to_each_tenant_that_lists_its_project(rt: HostRuntime) -> Result<(), Fail> {
+    let script = r#"
+        load 0 {"type":"patchset-created","change":{"project":"demo","number":7}}
+        send -> 0: event 0 of 1 on Some(7)
+        send -> 3: event 0 of 1 on Some(7)
+        empty -> true
+        ended -> false
+        load 1 {"type":"ref-updated","change":{"project":"other","number":7}}
+        send -> 1: event 1 of 1 on Some(7)
+        send -> 3: event 1 of 1 on Some(7)
+        empty -> true
+        ended -> false
+        load 2 {"type":"ref-updated","change":{"project":"demo2","number":7}}
+        empty -> true
+        ended -> false
+        load 3 {"type":"ref-updated"}
+        empty -> true
+        ended -> false
+        load 4 {"change":{"project":"demo"}}
+        empty -> true
+        ended -> false
+        load 5 not JSON
+        empty -> true
+        ended -> false
+        load 18446744073709551615 {"type":"patchset-created","change":{"project":"demo","number":7}}
+        send -> 0: event 18446744073709551615 of 1 on Some(7)
+        send -> 3: event 18446744073709551615 of 1 on Some(7)
+        empty -> true
+        ended -> false
+    "#;
+    play(&rt, rt.alloc(), FOUR, GERRIT, script)
+}
+
+#[test]
+fn the_end_mark_goes_to_each_tenant_that_lists_the_connection(rt: HostRuntime) -> Result<(), Fail> {
+    let script = "
+        end
+        ended -> false
+        send -> 0: end of 1
+        ended -> false
+        send -> 1: end of 1
+        ended -> false
+        send -> 3: end of 1
+        ended -> true
+    ";
+    play(&rt, rt.alloc(), FOUR, GERRIT, script)
+}
+
+#[test]
+fn a_connection_that_no_tenant_lists_ends_at_once(rt: HostRuntime) -> Result<(), Fail> {
+    let script = "
+        end
+        ended -> true
+    ";
+    play(&rt, rt.alloc(), FOUR, ConnId(2), script)
+}
+
+#[test]
+fn an_item_that_was_not_sent_is_the_first_again(rt: HostRuntime) -> Result<(), Fail> {
+    let script = r#"
+        load 9 {"type":"patchset-created","change":{"project":"demo","number":7}}
+        back -> 0: event 9 of 1 on Some(7)
+        empty -> false
+        back -> 0: event 9 of 1 on Some(7)
+        empty -> false
+        send -> 0: event 9 of 1 on Some(7)
+        back -> 3: event 9 of 1 on Some(7)
+        empty -> false
+        back -> 3: event 9 of 1 on Some(7)
+        empty -> false
+        send -> 3: event 9 of 1 on Some(7)
+        empty -> true
+    "#;
+    play(&rt, rt.alloc(), FOUR, GERRIT, script)
+}
+
+// A configuration of sixteen tenants that list the project.
+fn sixteen(alloc: Global) -> Result<String, Fail> {
+    let source = r#""source":{"eclipse":null,"gerrit":{"untrusted-projects":["demo"]}}"#;
+    let mut tenants = format!(in alloc; r#"{{"name":"t0",{source}}}"#)?;
+    for number in 1..16 {
+        let tenant = format!(in alloc; r#",{{"name":"t{number}",{source}}}"#)?;
+        tenants.push_str(tenant.as_str())?;
+    }
+    Ok(format!(in alloc; r#"{{"tenants":[{tenants}],"config":{{}}}}"#)?)
+}
+
+#[test]
+fn sixteen_tenants_get_an_event(rt: HostRuntime) -> Result<(), Fail> {
+    let document = sixteen(rt.alloc())?;
+    let script = r#"
+        load 0 {"type":"patchset-created","change":{"project":"demo","number":7}}
+        send -> 0: event 0 of 1 on Some(7)
+        send -> 1: event 0 of 1 on Some(7)
+        send -> 2: event 0 of 1 on Some(7)
+        send -> 3: event 0 of 1 on Some(7)
+        send -> 4: event 0 of 1 on Some(7)
+        send -> 5: event 0 of 1 on Some(7)
+        send -> 6: event 0 of 1 on Some(7)
+        send -> 7: event 0 of 1 on Some(7)
+        send -> 8: event 0 of 1 on Some(7)
+        send -> 9: event 0 of 1 on Some(7)
+        send -> 10: event 0 of 1 on Some(7)
+        send -> 11: event 0 of 1 on Some(7)
+        send -> 12: event 0 of 1 on Some(7)
+        send -> 13: event 0 of 1 on Some(7)
+        send -> 14: event 0 of 1 on Some(7)
+        send -> 15: event 0 of 1 on Some(7)
+        empty -> true
+    "#;
+    play(&rt, rt.alloc(), document.as_str(), GERRIT, script)
+}

@@ -1,0 +1,140 @@
+//! What a dependent pipeline finds after items left, were replaced and were renewed.
+use super::{check, play};
+use gate_items::{Items, ManagerKind};
+use std::alloc::Global;
+use std::process::Abort;
+use std::test::Fail;
+
+// Plays a script where changes 1 to 5 came, of which 2 was taken out and 3 has a newer patch set, which was reset.
+fn after_five(rt: &impl Abort, alloc: Global, script: &str) -> Result<(), Fail> {
+    let five = "
+        trigger 1 1: Applied
+        trigger 2 1: Applied
+        trigger 3 1: Applied
+        trigger 4 1: Applied
+        trigger 5 1: Applied
+        dequeue 2: Applied
+        trigger 3 2: Applied
+        reset 3: Applied";
+    let whole = format!(in alloc; "{five}{script}")?;
+    check(
+        rt,
+        alloc,
+        ManagerKind::Dependent,
+        0,
+        "build",
+        whole.as_str(),
+    )
+}
+
+#[test]
+fn keys_after_a_removal_and_a_newer_patch_set(rt: HostRuntime) -> Result<(), Fail> {
+    after_five(
+        &rt,
+        rt.alloc(),
+        "
+        dequeue 2: Discarded(NoItem)
+        reset 2: Discarded(NoItem)
+        trigger 3 2: Discarded(Known)
+        trigger 3 1: Discarded(Older)
+        trigger 4 1: Discarded(Known)
+        left
+        item 1 1 set 0 build waiting
+        item 4 1 set 8 build waiting
+        item 5 1 set 9 build waiting
+        item 3 2 set 11 build waiting
+        ",
+    )
+}
+
+#[test]
+fn keys_after_the_head_has_left(rt: HostRuntime) -> Result<(), Fail> {
+    after_five(
+        &rt,
+        rt.alloc(),
+        "
+        ended 0 build success: Applied
+        dequeue 1: Discarded(NoItem)
+        trigger 1 1: Applied
+        reset 5: Applied
+        left
+        item 4 1 set 8 build waiting
+        item 5 1 set 13 build waiting
+        item 3 2 set 14 build waiting
+        item 1 1 set 15 build waiting
+        report 1 1 set 0 success
+        ",
+    )
+}
+
+#[test]
+fn results_after_renewals(rt: HostRuntime) -> Result<(), Fail> {
+    after_five(
+        &rt,
+        rt.alloc(),
+        "
+        ended 4 build success: Discarded(NotCurrent)
+        ended 10 build success: Discarded(NotCurrent)
+        ended 9 build success: Applied
+        ended 11 build failure: Applied
+        dequeue 1: Applied
+        ended 9 build success: Discarded(NotCurrent)
+        ended 13 build success: Applied
+        ended 12 build failure: Applied
+        left
+        item 5 1 set 15 build waiting
+        item 3 2 set 16 build waiting
+        report 4 1 set 12 failure
+        ",
+    )
+}
+
+#[test]
+fn complete_items_wait_for_the_head(rt: HostRuntime) -> Result<(), Fail> {
+    after_five(
+        &rt,
+        rt.alloc(),
+        "
+        ended 8 build success: Applied
+        ended 9 build success: Applied
+        dequeue 3: Applied
+        ended 0 build success: Applied
+        trigger 5 1: Applied
+        dequeue 4: Discarded(NoItem)
+        left
+        item 5 1 set 12 build waiting
+        report 1 1 set 0 success
+        report 4 1 set 8 success
+        report 5 1 set 9 success
+        ",
+    )
+}
+
+// Triggers patch set 1 of changes 1 to 40, each with this outcome.
+fn forty(rt: &impl Abort, alloc: Global, items: &mut Items, outcome: &str) -> Result<(), Fail> {
+    let mut script = String::new(alloc);
+    for number in 1..41 {
+        let line = format!(in alloc; "trigger {number} 1: {outcome}\n")?;
+        script.push_str(line.as_str())?;
+    }
+    play(rt, alloc, items, "build", script.as_str())
+}
+
+// Changes 1 to 40 have sets 0 to 39, and from change 10 on then 40 to 70.
+#[test]
+fn each_set_and_each_key_of_forty(rt: HostRuntime) -> Result<(), Fail> {
+    let alloc = rt.alloc();
+    let mut items = Items::new(alloc, ManagerKind::Dependent, 0);
+    forty(&rt, alloc, &mut items, "Applied")?;
+    play(&rt, alloc, &mut items, "build", "reset 10: Applied")?;
+    for set in 0..80 {
+        let current = set < 9 || set >= 40 && set < 71;
+        assert_eq!(rt; items.current(set), current, "{set}");
+    }
+    forty(&rt, alloc, &mut items, "Discarded(Known)")?;
+    let strangers = "
+        dequeue 0: Discarded(NoItem)
+        dequeue 41: Discarded(NoItem)
+        ";
+    play(&rt, alloc, &mut items, "build", strangers)
+}

@@ -1,0 +1,79 @@
+//! What is a number, and what isn't.
+use super::check;
+use crate::lines::halves;
+use gate_record::{number_of_text, read_number};
+use serde_json::Value;
+use std::alloc::Global;
+use std::process::Abort;
+use std::test::Fail;
+
+// Sees which number a JSON value is, by itself and as the number of a change.
+fn is_number(rt: &impl Abort, alloc: Global, json: &str, wanted: &str) -> Result<(), Fail> {
+    let value = Value::from_str(alloc, json)?;
+    let found = format!(in alloc; "{:?}", read_number(&value))?;
+    assert_eq!(rt; found.as_str(), wanted, "at {json}");
+    is_change(rt, alloc, json, wanted)
+}
+
+fn is_change(rt: &impl Abort, alloc: Global, json: &str, wanted: &str) -> Result<(), Fail> {
+    let line = format!(in alloc; r#"{{"type":"a","change":{{"number":{json}}}}}"#)?;
+    let number = wanted
+        .strip_prefix("Some(")
+        .and_then(|rest| rest.strip_suffix(")"));
+    let wanted = match number {
+        Some(number) => format!(in alloc; "kind \"a\"\nchange {number}\n")?,
+        None => String::from_str(alloc, "kind \"a\"\n")?,
+    };
+    check(rt, alloc, line.as_bytes(), wanted.as_str())
+}
+
+#[test]
+fn reads_numbers(rt: HostRuntime) -> Result<(), Fail> {
+    let table = r#"
+        7 -> Some(7)
+        0 -> Some(0)
+        -7 -> Some(-7)
+        9223372036854775807 -> Some(9223372036854775807)
+        9223372036854775808 -> None
+        -9223372036854775808 -> Some(-9223372036854775808)
+        -9223372036854775809 -> None
+        -0 -> None
+        7.0 -> None
+        2.0 -> None
+        1e2 -> None
+        true -> None
+        null -> None
+        [] -> None
+        [7] -> None
+        {} -> None
+        "7" -> Some(7)
+        "+7" -> Some(7)
+        "-7" -> Some(-7)
+        "007" -> Some(7)
+        "-0" -> Some(0)
+        "9223372036854775807" -> Some(9223372036854775807)
+        "9223372036854775808" -> None
+        "-9223372036854775808" -> Some(-9223372036854775808)
+        "-9223372036854775809" -> None
+        "2.0" -> None
+        "2 " -> None
+        " 2" -> None
+        "" -> None
+        "+" -> None
+        "-" -> None
+        "+-2" -> None
+        "٣" -> None
+    "#;
+    for line in table.trim().lines() {
+        let (json, wanted) = halves(line)?;
+        is_number(&rt, rt.alloc(), json, wanted)?;
+    }
+    Ok(())
+}
+
+#[test]
+fn reads_numbers_of_texts(rt: HostRuntime) {
+    assert_eq!(rt; number_of_text("+7"), Some(7));
+    assert_eq!(rt; number_of_text("-007"), Some(-7));
+    assert_eq!(rt; number_of_text("7 "), None);
+}
