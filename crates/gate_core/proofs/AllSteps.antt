@@ -76,6 +76,7 @@ quiet config h state s a q holds =
     record {
       count = holds.count;
       conn_count = holds.conn_count;
+      each_gets = holds.each_gets;
       conns = λ c. conn_same config h (h ++ (s, a) ∷ []) c (slice_get state.connections c) (conns c) (holds.conns c);
       tenants = λ t ten at. tenant_same config h (h ++ (s, a) ∷ []) state.connections state.connections t ten (pipes t)
           (λ c rest kept. kept ∙ ap (forwarded config t c) (put_same c h (h ++ (s, a) ∷ []) (conns c))) (holds.tenants t ten at);

@@ -8,6 +8,7 @@ use Rattle.std.proofs.lemmas.Option.{slice_get-get_or}
 use Rattle.gate_config.specs.declared.config.Config.{Config}
 use Rattle.gate_config.specs.Lookups.{connections_of, pipelines_of, tenants_of}
 use Rattle.gate_forward.specs.Forwarding.{forwarded}
+use Rattle.gate_forward.specs.Histories.{EachTenantGetsItsOwn, items_to}
 use Rattle.gate_tenant.specs.Histories.{begins, beginning}
 use Rattle.gate_core.specs.declared.pipeline.Pipeline.{Pipeline}
 use Rattle.gate_core.specs.Pipelines.{fresh_pipeline}
@@ -15,7 +16,6 @@ use Rattle.gate_core.specs.States.{ConnectionState}
 use Rattle.gate_core.specs.Steps.{first, new_connection, new_tenant}
 use Rattle.gate_core.specs.Worlds.{AcceptedAtMost}
 use Rattle.gate_core.proofs.Fits.{fits_new}
-use Rattle.gate_core.proofs.Sendings.{items_to}
 use Rattle.gate_core.proofs.Streams.{ConnHolds, Holds, PipeHolds, TenantHolds, count_of, hand_of, queue_of}
 use Rattle.gate_core.proofs.Working.{the_same}
 
@@ -68,12 +68,17 @@ module _ (config : Config) where
     ways = λ c. nothing_put t c (slice_get conns c) (all_same new_connection (connections_of config) c);
   }
 
-  pub first_holds : Holds config [] (first config)
+  first_conns : (c : ℕ) → ConnHolds config [] c (slice_get (first config).connections c)
   unfolding conns
-  first_holds = record {
+  first_conns c = new_conn c (slice_get conns c) (all_same new_connection (connections_of config) c) (conn_there c)
+
+  pub first_holds : EachTenantGetsItsOwn → Holds config [] (first config)
+  unfolding conns
+  first_holds gets = record {
+    each_gets = gets;
     count = length-map-range_with_len (new_tenant config) 0 (length (tenants_of config));
     conn_count = length-map (connections_of config) (λ _. new_connection);
-    conns = λ c. new_conn c (slice_get conns c) (all_same new_connection (connections_of config) c) (conn_there c);
+    conns = first_conns;
     tenants = λ t ten at.
         subst (TenantHolds config [] conns t) (ap (new_tenant config) (sym (omega arith)) ∙ sym (found_in_range (new_tenant config) 0 (length (tenants_of config)) t ten at)) (new_tenant_holds t);
     others = λ t p none. (refl, refl);
@@ -82,5 +87,5 @@ module _ (config : Config) where
 -- nothing is accepted in the beginning
 pub first_counts : (config : Config) → AcceptedAtMost 0 (first config)
 first_counts config c conn at =
-    let none : conn.accepted ≡ 0 = ap count_of (sym at) ∙ ((first_holds config).conns c).count in
+    let none : conn.accepted ≡ 0 = ap count_of (sym at) ∙ (first_conns config c).count in
     omega (arith, none)

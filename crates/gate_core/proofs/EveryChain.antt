@@ -1,6 +1,7 @@
 -- What holds of every chain of attempts.
 use Rattle.std.proofs.Common.{◌≡◌, sym, subst, List, [], ◌∷◌, ◌++◌, Ok, Err, append-nil, append_assoc}
 use Rattle.gate_config.specs.declared.config.Config.{Config}
+use Rattle.gate_forward.specs.Histories.{EachTenantGetsItsOwn}
 use Rattle.gate_items.specs.History.{CancelledChangesNothing}
 use Rattle.gate_items.specs.Outcomes.{OutcomesAreSaid}
 use Rattle.gate_tenant.specs.Histories.{EachGetsItsOwn, NothingIsLost}
@@ -37,8 +38,8 @@ module _ (config : Config) where
       subst (λ (x : History). Holds config x (left_behind next attempts)) (append_assoc h ((s, answer) ∷ []) (answered_history attempts))
       (holds_along (h ++ (s, answer) ∷ []) next attempts chain.1 (answered_holds h state s answer next chain.0 holds))
 
-  holds_all : (attempts : List Attempt) → IsChain config (first config) attempts → Holds config (answered_history attempts) (left_behind (first config) attempts)
-  holds_all attempts chain = holds_along [] (first config) attempts chain (first_holds config)
+  holds_all : EachTenantGetsItsOwn → (attempts : List Attempt) → IsChain config (first config) attempts → Holds config (answered_history attempts) (left_behind (first config) attempts)
+  holds_all gets attempts chain = holds_along [] (first config) attempts chain (first_holds config gets)
 
   right_along : (h : History) (state : State) (attempts : List Attempt) → IsChain config state attempts → Holds config h state → AnswersRightly config h (answered_history attempts)
   right_along h state [] chain holds = tt
@@ -48,12 +49,12 @@ module _ (config : Config) where
     right_along (h ++ (s, answer) ∷ []) next attempts chain.1 (answered_holds h state s answer next chain.0 holds),
   )
 
-pub every_chain : EachGetsItsOwn → NothingIsLost → OutcomesAreSaid → CancelledChangesNothing → EveryChainDelivers
-every_chain own lossless says late = record {
-  delivers = λ config attempts chain. delivers own lossless config (answered_history attempts) (left_behind (first config) attempts) (holds_all config attempts chain);
-  rightly = λ config attempts chain. right_along config [] (first config) attempts chain (first_holds config);
-  report = λ config attempts chain. reported config (answered_history attempts) (left_behind (first config) attempts) (holds_all config attempts chain);
-  processes = λ config attempts chain. processes own lossless late config (answered_history attempts) (left_behind (first config) attempts) (holds_all config attempts chain);
-  keeps = λ config attempts chain. keeps says config (answered_history attempts) (left_behind (first config) attempts) (holds_all config attempts chain);
+pub every_chain : EachTenantGetsItsOwn → EachGetsItsOwn → NothingIsLost → OutcomesAreSaid → CancelledChangesNothing → EveryChainDelivers
+every_chain gets own lossless says late = record {
+  delivers = λ config attempts chain. delivers own lossless config (answered_history attempts) (left_behind (first config) attempts) (holds_all config gets attempts chain);
+  rightly = λ config attempts chain. right_along config [] (first config) attempts chain (first_holds config gets);
+  report = λ config attempts chain. reported config (answered_history attempts) (left_behind (first config) attempts) (holds_all config gets attempts chain);
+  processes = λ config attempts chain. processes own lossless late config (answered_history attempts) (left_behind (first config) attempts) (holds_all config gets attempts chain);
+  keeps = λ config attempts chain. keeps says config (answered_history attempts) (left_behind (first config) attempts) (holds_all config gets attempts chain);
   held = λ config state attempts chain t p pipe waits at held. next_is_held config state attempts chain t p pipe waits at held;
 }

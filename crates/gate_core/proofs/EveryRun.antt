@@ -1,6 +1,7 @@
 -- What holds of every list of steps.
 use Rattle.std.proofs.Common.{sym, subst, List, [], ◌∷◌, ◌++◌, append-nil, append_assoc}
 use Rattle.gate_config.specs.declared.config.Config.{Config}
+use Rattle.gate_forward.specs.Histories.{EachTenantGetsItsOwn}
 use Rattle.gate_items.specs.History.{CancelledChangesNothing}
 use Rattle.gate_items.specs.Outcomes.{OutcomesAreSaid}
 use Rattle.gate_tenant.specs.Histories.{EachGetsItsOwn, NothingIsLost}
@@ -29,15 +30,15 @@ answers_rightly config [] h state holds = tt
 answers_rightly config (s ∷ steps) h state holds =
     (right_answer config h state s holds, answers_rightly config steps (h ++ (s, (step_of config state s).1) ∷ []) (step_of config state s).0 (holds_on config h state s holds))
 
-pub every_run : EachGetsItsOwn → NothingIsLost → OutcomesAreSaid → CancelledChangesNothing → EveryRunDelivers
-every_run own lossless says late = record {
+pub every_run : EachTenantGetsItsOwn → EachGetsItsOwn → NothingIsLost → OutcomesAreSaid → CancelledChangesNothing → EveryRunDelivers
+every_run gets own lossless says late = record {
   delivers = λ config steps.
-      delivers own lossless config (run_from config (first config) steps) (left_by config (first config) steps) (holds_all config steps [] (first config) (first_holds config));
-  rightly = λ config steps. answers_rightly config steps [] (first config) (first_holds config);
+      delivers own lossless config (run_from config (first config) steps) (left_by config (first config) steps) (holds_all config steps [] (first config) (first_holds config gets));
+  rightly = λ config steps. answers_rightly config steps [] (first config) (first_holds config gets);
   report = λ config steps.
-      reported config (run_from config (first config) steps) (left_by config (first config) steps) (holds_all config steps [] (first config) (first_holds config));
+      reported config (run_from config (first config) steps) (left_by config (first config) steps) (holds_all config steps [] (first config) (first_holds config gets));
   processes = λ config steps.
-      processes own lossless late config (run_from config (first config) steps) (left_by config (first config) steps) (holds_all config steps [] (first config) (first_holds config));
+      processes own lossless late config (run_from config (first config) steps) (left_by config (first config) steps) (holds_all config steps [] (first config) (first_holds config gets));
   keeps = λ config steps.
-      keeps says config (run_from config (first config) steps) (left_by config (first config) steps) (holds_all config steps [] (first config) (first_holds config));
+      keeps says config (run_from config (first config) steps) (left_by config (first config) steps) (holds_all config steps [] (first config) (first_holds config gets));
 }

@@ -29,16 +29,13 @@ use Rattle.gate_core.specs.declared.pipeline.Pipeline.{Pipeline}
 use Rattle.gate_core.specs.History.{managing, outcome_of, resulting, triggering}
 use Rattle.gate_core.specs.Pipelines.{fresh_pipeline, took}
 use Rattle.gate_core.specs.Promises.{no_items}
+use Rattle.gate_core.specs.Ways.{is_end}
 use Rattle.gate_core.proofs.Maps.{filter_map_push}
 use Rattle.gate_core.proofs.Pushes.{or_false, or_true}
 
 abbrev pub stamp_in : PipelineItem → Option Stamp
 stamp_in (pipeline.Event s) = Some s.stamp
 stamp_in pipeline.End = None
-
-abbrev pub is_end : PipelineItem → Bool
-is_end (pipeline.Event s) = false
-is_end pipeline.End = true
 
 -- what a trigger event asks for
 abbrev pub asking : Config → ℕ → ℕ → PipelineItem → Option (Option Stamp × Action)

@@ -20,17 +20,18 @@ use Rattle.gate_config.specs.declared.config.Config.{Config}
 use Rattle.gate_config.specs.Lookups.{lists, tenants_of}
 use Rattle.gate_config.specs.Selection.{is_listed}
 use Rattle.gate_forward.specs.Forwarding.{conn_id, for_tenant, forwarded, forwarded_entry, forwarded_reading, sends, stamped}
+use Rattle.gate_forward.specs.Histories.{EachTenantGetsItsOwn, items_to}
 use Rattle.gate_core.specs.declared.answer.Answer.TheVariants.{Accepted, Moved}
 use Rattle.gate_core.specs.declared.step.Step.TheVariants as step
 use Rattle.gate_core.specs.History.{History, accepted, closed, is_put, is_taking}
 use Rattle.gate_core.specs.States.{ConnectionState, State}
-use Rattle.gate_core.specs.Ways.{entries_of, numbered}
+use Rattle.gate_core.specs.Ways.{conn_of_item, entries_of, mark, numbered}
 use Rattle.gate_core.proofs.Arrivals.{same_as_itself}
 use Rattle.gate_core.proofs.Maps.{cons_option_is, enumerate_from-append, filter_map_push}
 use Rattle.gate_core.proofs.Pushes.{accepted_push, closed_push, count_push, or_false}
-use Rattle.gate_core.proofs.Sendings.{differs, items_to, sent_to}
+use Rattle.gate_core.proofs.Sendings.{differs, sent_to}
 use Rattle.gate_core.proofs.Spots.{AfterSet, after_set, another, it}
-use Rattle.gate_core.proofs.Streams.{AreOf, ConnHolds, ConnSame, Holds, PipeSame, conn_of_item, conn_same, conn_untouched, hand_of, mark, pipe_untouched, put_by, put_same, queue_of, tenant_same}
+use Rattle.gate_core.proofs.Streams.{AreOf, ConnHolds, ConnSame, Holds, PipeSame, conn_same, conn_untouched, hand_of, pipe_untouched, put_by, put_same, queue_of, tenant_same}
 
 -- what a connection has for tenant t, and what is forwarded of all that was put
 abbrev Kept : Config → ℕ → ℕ → History → Option ConnectionState → List TenantItem → Type 0
@@ -61,6 +62,7 @@ module _ (config : Config) (h h' : History) (state : State) (c0 : ℕ) (k k' : C
   connection_goes new ways holds = record {
     count = holds.count;
     conn_count = length-set state.connections c0 k' ∙ holds.conn_count;
+    each_gets = holds.each_gets;
     conns = λ c. conn_goes c (after_set state.connections c0 c k k' at) new (holds.conns c);
     tenants = λ t ten there.
         let inside : t < length state.tenants = slice_get_within state.tenants t ten there in
@@ -214,9 +216,9 @@ module _ (config : Config) (h : History) (state : State) (d : ConnId) (k : Conne
   taken_closes : closed d.0 h3 ≡ closed d.0 h
   taken_closes = closed_push d.0 h (step.Take d, Moved) ∙ or_false (closed d.0 h)
 
-  kept_taken : (t : ℕ) → t < length (tenants_of config) → (rest : List TenantItem) → Kept config t d.0 h (Some k) rest → Kept config t d.0 h3 (Some k3) rest
-  kept_taken t inside rest kept =
-      ap (λ xs. rest ++ (xs ++ forwarded config t d.0 queue)) (sent_to config t d.0 e inside)
+  kept_taken : EachTenantGetsItsOwn → (t : ℕ) → t < length (tenants_of config) → (rest : List TenantItem) → Kept config t d.0 h (Some k) rest → Kept config t d.0 h3 (Some k3) rest
+  kept_taken gets t inside rest kept =
+      ap (λ xs. rest ++ (xs ++ forwarded config t d.0 queue)) (sent_to gets config t d.0 e inside)
       ∙ ap (λ xs. rest ++ xs) (sym (cons_option_is (forwarded_entry config t d.0 e) (forwarded config t d.0 queue)))
       ∙ sym (λ i. rest ++ (items_to t (empty i) ++ forwarded config t d.0 (front i)))
       ∙ kept
@@ -242,4 +244,4 @@ module _ (config : Config) (h : History) (state : State) (d : ConnId) (k : Conne
         there = λ _. refl;
         own = own_all config d.0 e (range_with_len 0 (length (tenants_of config)));
       })
-      kept_taken holds
+      (kept_taken holds.each_gets) holds

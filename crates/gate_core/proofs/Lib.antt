@@ -3,6 +3,7 @@ pub mod Arrivals
 pub mod Beginnings
 pub mod Counting
 pub mod Elements
+pub mod Delivering
 pub mod EveryChain
 pub mod EveryRun
 pub mod Examples

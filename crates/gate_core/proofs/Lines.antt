@@ -2,6 +2,7 @@
 use Rattle.std.proofs.Common.{◌≡◌, ℕ, ◌+◌, ◌<◌, ◌≤◌, List, [], ◌∷◌, ◌++◌, length, Some, arith}
 use Rattle.std.specs.Prelude.{slice_get}
 use Rattle.gate_config.specs.declared.config.Config.{Config}
+use Rattle.gate_forward.specs.Histories.{EachTenantGetsItsOwn}
 use Rattle.gate_core.specs.declared.answer.Answer.{Answer}
 use Rattle.gate_core.specs.declared.script.Scripted.{Scripted}
 use Rattle.gate_core.specs.declared.script.Scripted.TheVariants as line
@@ -21,10 +22,10 @@ few_steps [] = omega arith
 few_steps (line.Step step ∷ script) = let few : length (steps_in script) ≤ length script = few_steps script in omega (arith, few)
 few_steps (line.Show t p ∷ script) = let few : length (steps_in script) ≤ length script = few_steps script in omega (arith, few)
 
-pub starts : (config : Config) (script : List Scripted) (total : ℕ) → total ≡ length script → IsRunning config (first config) (steps_in script) (steps_in script) total
-starts config script total count =
+pub starts : EachTenantGetsItsOwn → (config : Config) (script : List Scripted) (total : ℕ) → total ≡ length script → IsRunning config (first config) (steps_in script) (steps_in script) total
+starts gets config script total count =
     let few : length (steps_in script) ≤ length script = few_steps script in
-    record { answers = []; runs = begins config (steps_in script) total (omega (arith, few, count)) }
+    record { answers = []; runs = begins gets config (steps_in script) total (omega (arith, few, count)) }
 
 pub steps_on : (config : Config) (state next : State) (s : Step) (answer : Answer) (left rest all : List Step) (total : ℕ) →
     left ≡ s ∷ rest → (next, answer) ≡ step_of config state s → IsRunning config state left all total → IsRunning config next rest all total

@@ -1,31 +1,19 @@
 -- What holds means that what was processed is what was wanted.
-use Rattle.std.proofs.Common.{◌≡◌, ◌∙◌, refl, sym, ap, ℕ, zero, suc, ◌+◌, ◌<◌, ◌≤◌, ◌==◌, List, [], ◌∷◌, ◌++◌, Bool, true, false, length, map, drop, get_or, Option, Some, None, cond, if◌then◌else◌, arith, append-nil, append_assoc, zero-add}
-use Rattle.std.specs.Prelude.{◌&&◌, ◌||◌, nat_lt, not, option_and_then, slice_get, is_some, unwrap_or, option_map}
+use Rattle.std.proofs.Common.{◌≡◌, ◌∙◌, refl, sym, ap, ℕ, ◌<◌, ◌≤◌, List, [], ◌∷◌, ◌++◌, Bool, true, false, length, Option, Some, None, arith, append_assoc}
+use Rattle.std.specs.Prelude.{nat_lt, option_and_then, slice_get, is_some}
 use Rattle.std.proofs.lemmas.List.Elements.{filter_map-append}
-use Rattle.std.specs.List.{cons_option, enumerate_from, filter, filter_map, list_all, list_any, range_with_len}
+use Rattle.std.specs.List.{filter, filter_map}
 use Rattle.std.specs.Option.{option_to_list}
 use Rattle.std.proofs.lemmas.Bool.{ltb-true, ltb-false}
-use Rattle.std.proofs.lemmas.List.Elements.{filter-append}
 use Rattle.std.proofs.lemmas.Option.{slice_get_past, slice_get_within}
-use Rattle.gate_record.specs.declared.ids.ConnId.{ConnId}
 use Rattle.gate_record.specs.declared.record.Record.{Record}
-use Rattle.gate_record.specs.declared.reading.Reading.{Reading}
-use Rattle.gate_record.specs.declared.reading.Reading.TheVariants as reading
-use Rattle.gate_record.specs.declared.transit.ConnEntry.{ConnEntry}
-use Rattle.gate_record.specs.declared.transit.ConnEntry.TheVariants as entry
-use Rattle.gate_record.specs.declared.event.Event.{Event}
-use Rattle.gate_record.specs.declared.transit.Stamped.{Stamped}
-use Rattle.gate_record.specs.declared.transit.TenantItem.{TenantItem}
-use Rattle.gate_record.specs.declared.transit.TenantItem.TheVariants as tenant
 use Rattle.gate_record.specs.declared.transit.PipelineItem.{PipelineItem}
 use Rattle.gate_record.specs.declared.transit.PipelineItem.TheVariants as pipeline
-use Rattle.gate_record.specs.Reading.{reading_of}
 use Rattle.gate_config.specs.declared.config.Config.{Config}
-use Rattle.gate_config.specs.Lookups.{connections_of, has_project, lists, pipelines_of, projects_of}
-use Rattle.gate_config.specs.Selection.{is_listed, selects_event}
-use Rattle.gate_config.specs.declared.project_set.ProjectSet.{ProjectSet}
-use Rattle.gate_forward.specs.Forwarding.{forwarded, forwarded_entry, forwarded_reading, stamped, conn_id}
-use Rattle.gate_tenant.specs.Dispatching.{chosen, chosen_item, holds_ends, is_end_of}
+use Rattle.gate_config.specs.Lookups.{connections_of, pipelines_of}
+use Rattle.gate_forward.specs.Forwarding.{forwarded}
+use Rattle.gate_forward.specs.Histories.{items_to}
+use Rattle.gate_tenant.specs.Dispatching.{chosen}
 use Rattle.gate_tenant.specs.Histories.{EachGetsItsOwn, NothingIsLost, item_for, items_for}
 use Rattle.gate_pipeline.specs.Histories.{stamp_of}
 use Rattle.gate_pipeline.specs.States.{Processed}
@@ -33,54 +21,11 @@ use Rattle.gate_core.specs.declared.pipeline.Pipeline.{Pipeline}
 use Rattle.gate_core.specs.History.{History, accepted, closed, done, finished, number_from, numbers_from, wanted}
 use Rattle.gate_core.specs.Promises.{Delivers, IsPrefixOf}
 use Rattle.gate_core.specs.States.{TenantState, State}
-use Rattle.gate_core.specs.Ways.{entries_of, number_of_item, numbered}
-use Rattle.gate_core.proofs.Arrivals.{brought, by_items, wanted_arrive}
-use Rattle.gate_core.proofs.Maps.{filter_map-filter_map, filter_map_none, filter_map_same}
-use Rattle.gate_core.proofs.Sendings.{items_to}
-use Rattle.gate_core.proofs.Fits.{is_end, stamp_in, waiting_items}
-use Rattle.gate_core.proofs.Streams.{Holds, PipeHolds, TenantHolds, count_of, hand_of, is_from, mark, pipe_of, put_by, queue_of}
-
--- ---- an end mark that was taken is the last of all
-
-pub head_same : {X : Type 0} (x y : X) (xs ys : List X) → x ∷ xs ≡ y ∷ ys → x ≡ y
-head_same x y xs ys e = ap (λ l. get_or l 0 x) e
-
-pub tail_same : {X : Type 0} (x y : X) (xs ys : List X) → x ∷ xs ≡ y ∷ ys → xs ≡ ys
-tail_same x y xs ys e = ap (drop 1) e
-
-nil_right : {X : Type 0} (xs ys : List X) → xs ++ ys ≡ [] → ys ≡ []
-nil_right [] ys e = e
-nil_right (x ∷ xs) ys e = absurd (cc)
-
-nil_left : {X : Type 0} (xs ys : List X) → xs ++ ys ≡ [] → xs ≡ []
-nil_left [] ys e = refl
-nil_left (x ∷ xs) ys e = absurd (cc)
-
-or_left : (a b : Bool) → (a || b) ≡ false → a ≡ false
-or_left false b e = refl
-or_left true b e = absurd (cc)
-
-or_right : (a b : Bool) → (a || b) ≡ false → b ≡ false
-or_right false b e = e
-or_right true b e = absurd (cc)
-
-or_rest : (a b : Bool) → a ≡ false → (a || b) ≡ true → b ≡ true
-or_rest false b e f = f
-or_rest true b e f = absurd (cc)
-
--- the marks behind events: none, or one
-abbrev pub one_mark : {X : Type 0} → X → Bool → List X
-one_mark m there = if there then m ∷ [] else []
-
-module _ {X : Type 0} (test : X → Bool) (m : X) where
-  last_of_all : (events : List X) (there : Bool) (taken rest : List X) → list_any test events ≡ false → events ++ one_mark m there ≡ taken ++ rest → list_any test taken ≡ true → (there ≡ true) × (rest ≡ [])
-  last_of_all events there [] rest none e some = absurd (cc)
-  last_of_all [] false (x ∷ taken) rest none e some = absurd (cc)
-  last_of_all [] true (x ∷ taken) rest none e some = (refl, nil_right taken rest (sym (tail_same m x [] (taken ++ rest) e)))
-  last_of_all (y ∷ events) there (x ∷ taken) rest none e some =
-      let same : y ≡ x = head_same y x (events ++ one_mark m there) (taken ++ rest) e in
-      last_of_all events there taken rest (or_right (test y) (list_any test events) none) (tail_same y x (events ++ one_mark m there) (taken ++ rest) e)
-      (or_rest (test x) (list_any test taken) (ap test (sym same) ∙ or_left (test y) (list_any test events) none) some)
+use Rattle.gate_core.specs.Ways.{Way, is_from, number_of_item}
+use Rattle.gate_core.proofs.Delivering.{none_wanted, prefix as taken_in_order, whole as taken_whole}
+use Rattle.gate_core.proofs.Maps.{filter_map-filter_map, filter_map_same}
+use Rattle.gate_core.proofs.Fits.{stamp_in, waiting_items}
+use Rattle.gate_core.proofs.Streams.{Holds, PipeHolds, TenantHolds, count_of, hand_of, pipe_of, queue_of}
 
 -- ---- numbers
 
@@ -91,116 +36,9 @@ numbers_taken c items = filter_map-filter_map (number_from c) stamp_in items ∙
     by_item (pipeline.Event s) = refl
     by_item pipeline.End = refl
 
-module _ (config : Config) (t p c : ℕ) where
-  not_of_c : (s : Stamped) (b : Bool) → (s.stamp.conn.0 == c) ≡ false → option_and_then (number_of_item c) (cond b (Some (pipeline.Event s)) None) ≡ None
-  not_of_c s true e = ap (λ b. cond b (Some s.stamp.number) None) e
-  not_of_c s false e = refl
-
-  -- an item of another connection brings no number of this one
-  brought_other : (item : TenantItem) → is_from c item ≡ false → brought config t p c item ≡ None
-  brought_other (tenant.Event s) e = not_of_c s (selects_event config t p s.stamp.conn.0 s.event) e
-  brought_other (tenant.End d) e = refl
-
-  brought_by : (item : TenantItem) (b : Bool) (xs ys : List TenantItem) → is_from c item ≡ b → filter_map (brought config t p c) xs ≡ filter_map (brought config t p c) ys →
-      filter_map (brought config t p c) (item ∷ xs) ≡ filter_map (brought config t p c) (cond b (item ∷ ys) ys)
-  brought_by item true xs ys e same = ap (cons_option (brought config t p c item)) same
-  brought_by item false xs ys e same = ap (λ o. cons_option o (filter_map (brought config t p c) xs)) (brought_other item e) ∙ same
-
-  only_from : (items : List TenantItem) → filter_map (brought config t p c) items ≡ filter_map (brought config t p c) (filter (is_from c) items)
-  only_from [] = refl
-  only_from (item ∷ items) = brought_by item (is_from c item) items (filter (is_from c) items) refl (only_from items)
-
-  -- what is wanted is what all that was put brings
-  wanted_by : (records : List Record) (b : Bool) → wanted config t p c records ≡ filter_map (brought config t p c) (forwarded config t c (entries_of records ++ mark b))
-  wanted_by records false =
-      sym (wanted_arrive.open_stream config t p c records) ∙ by_items config t p c (forwarded config t c (entries_of records))
-      ∙ ap (λ es. filter_map (brought config t p c) (forwarded config t c es)) (sym (append-nil (entries_of records)))
-  wanted_by records true = sym (wanted_arrive.ended_stream config t p c records) ∙ by_items config t p c (forwarded config t c (entries_of records ++ entry.End ∷ []))
-
--- ---- a tenant that doesn't list the connection
-
-unlisted_by : (projects : Option ProjectSet) (test : ProjectSet → Bool) → is_some projects ≡ false → unwrap_or (option_map test projects) false ≡ false
-unlisted_by None test e = refl
-unlisted_by (Some names) test e = absurd (cc)
-
-unlisted : (config : Config) (t c : ℕ) (project : Option (List ℕ)) → lists config t c ≡ false → is_listed config t c project ≡ false
-unlisted config t c None e = refl
-unlisted config t c (Some name) e = unlisted_by (projects_of config t c) (λ projects. has_project projects name) e
-
-nothing_read : (config : Config) (t c n : ℕ) (r : Reading) → lists config t c ≡ false → forwarded_reading config t c n r ≡ None
-nothing_read config t c n (reading.Event event) e = ap (λ b. cond b (Some (tenant.Event (stamped c n event))) None) (unlisted config t c event.project e)
-nothing_read config t c n (reading.Nothing why) e = refl
-
-nothing_forwarded : (config : Config) (t c : ℕ) (x : ConnEntry) → lists config t c ≡ false → forwarded_entry config t c x ≡ None
-nothing_forwarded config t c (entry.Numbered n r) e = nothing_read config t c n (reading_of r) e
-nothing_forwarded config t c entry.End e = ap (λ b. cond b (Some (tenant.End (conn_id c))) None) e
-
--- ---- end marks on the way from a connection
-
-abbrev is_mark : TenantItem → Bool
-is_mark (tenant.Event s) = false
-is_mark (tenant.End d) = true
-
-read_no_mark : (c n : ℕ) (event : Event) (b : Bool) (rest : List TenantItem) → list_any is_mark rest ≡ false → list_any is_mark (cons_option (cond b (Some (tenant.Event (stamped c n event))) None) rest) ≡ false
-read_no_mark c n event true rest e = e
-read_no_mark c n event false rest e = e
-
-reading_no_mark : (config : Config) (t c n : ℕ) (r : Reading) (rest : List TenantItem) → list_any is_mark rest ≡ false → list_any is_mark (cons_option (forwarded_reading config t c n r) rest) ≡ false
-reading_no_mark config t c n (reading.Event event) rest e = read_no_mark c n event (is_listed config t c event.project) rest e
-reading_no_mark config t c n (reading.Nothing why) rest e = e
-
--- records forward events alone
-records_no_mark : (config : Config) (t c n : ℕ) (records : List Record) → list_any is_mark (forwarded config t c (map numbered (enumerate_from n records))) ≡ false
-records_no_mark config t c n [] = refl
-records_no_mark config t c n (r ∷ records) = reading_no_mark config t c n (reading_of r) _ (records_no_mark config t c (n + 1) records)
-
-chosen_no_end : (s : Stamped) (b : Bool) (rest : List PipelineItem) → list_any is_end rest ≡ false → list_any is_end (cons_option (cond b (Some (pipeline.Event s)) None) rest) ≡ false
-chosen_no_end s true rest e = e
-chosen_no_end s false rest e = e
-
--- a pipeline gets events of items, and no end mark
-items_no_end : (config : Config) (t p : ℕ) (items : List TenantItem) → list_any is_end (filter_map (chosen_item config t p) items) ≡ false
-items_no_end config t p [] = refl
-items_no_end config t p (tenant.Event s ∷ items) = chosen_no_end s (selects_event config t p s.stamp.conn.0 s.event) (filter_map (chosen_item config t p) items) (items_no_end config t p items)
-items_no_end config t p (tenant.End d ∷ items) = items_no_end config t p items
-
-mark_by : (c : ℕ) (d : ConnId) (b : Bool) (rest : List TenantItem) (there : list_any (is_end_of c) rest ≡ true → list_any is_mark (filter (is_from c) rest) ≡ true) → (d.0 == c) ≡ b →
-    (b || list_any (is_end_of c) rest) ≡ true → list_any is_mark (cond b (tenant.End d ∷ filter (is_from c) rest) (filter (is_from c) rest)) ≡ true
-mark_by c d true rest there e some = refl
-mark_by c d false rest there e some = there some
-
-event_by : (s : Stamped) (b : Bool) (rest : List TenantItem) → list_any is_mark rest ≡ true → list_any is_mark (cond b (tenant.Event s ∷ rest) rest) ≡ true
-event_by s true rest e = e
-event_by s false rest e = e
-
--- the end mark of a connection is among what is of it
-mark_among : (c : ℕ) (items : List TenantItem) → list_any (is_end_of c) items ≡ true → list_any is_mark (filter (is_from c) items) ≡ true
-mark_among c [] e = absurd (cc)
-mark_among c (tenant.Event s ∷ items) e = event_by s (s.stamp.conn.0 == c) (filter (is_from c) items) (mark_among c items e)
-mark_among c (tenant.End d ∷ items) e = mark_by c d (d.0 == c) items (mark_among c items) refl e
-
-both_parts : (a b : Bool) → (a && b) ≡ true → (a ≡ true) × (b ≡ true)
-both_parts true b e = (refl, e)
-both_parts false b e = absurd (cc)
-
-all_in_range : (f : ℕ → Bool) (a n i : ℕ) → i < n → list_all f (range_with_len a n) ≡ true → f (a + i) ≡ true
-all_in_range f a zero i inside e = absurd (omega (arith, inside))
-all_in_range f a (suc n) zero inside e = ap f (omega arith) ∙ (both_parts (f a) (list_all f (range_with_len (a + 1) n)) e).0
-all_in_range f a (suc n) (suc i) inside e =
-    let at : a + suc i ≡ (a + 1) + i = omega arith in
-    ap f at ∙ all_in_range f (a + 1) n i (omega (arith, inside)) (both_parts (f a) (list_all f (range_with_len (a + 1) n)) e).1
-
-listed_has : (a b : Bool) → a ≡ true → (not a || b) ≡ true → b ≡ true
-listed_has true b e f = f
-listed_has false b e f = absurd (cc)
-
 no_records : (records : List Record) → 0 ≡ length records → records ≡ []
 no_records [] e = refl
 no_records (r ∷ records) e = absurd (omega (arith, e))
-
-mark_forwarded : (config : Config) (t c : ℕ) (b : Bool) → lists config t c ≡ true → forwarded config t c (mark b) ≡ one_mark (tenant.End (conn_id c)) b
-mark_forwarded config t c true e = ap (λ x. cons_option (cond x (Some (tenant.End (conn_id c))) None) []) e
-mark_forwarded config t c false e = refl
 
 -- ---- a pipeline that is there
 
@@ -212,20 +50,8 @@ module _ (own : EachGetsItsOwn) (lossless : NothingIsLost) (config : Config) (h 
   abbrev worked : PipeHolds config h t p there.past.given pipe
   worked = there.pipes p pipe seat
 
-  abbrev numbers : List PipelineItem → List ℕ
-  numbers items = filter_map (number_of_item c) items
-
-  abbrev brings : List TenantItem → List ℕ
-  brings items = filter_map (brought config t p c) items
-
   abbrev in_hand : List PipelineItem
   in_hand = items_for p there.past.state.items
-
-  abbrev not_matched : List TenantItem
-  not_matched = there.past.state.gathered ++ ten.queue
-
-  abbrev on_the_way : List TenantItem
-  on_the_way = items_to t (hand_of (slice_get state.connections c)) ++ forwarded config t c (queue_of (slice_get state.connections c))
 
   pub all_chosen : worked.taken ++ (waiting_items pipe ++ in_hand) ≡ chosen config t p there.past.done
   all_chosen =
@@ -237,83 +63,42 @@ module _ (own : EachGetsItsOwn) (lossless : NothingIsLost) (config : Config) (h 
       ∙ sym (filter_map-append (item_for p) there.past.given (option_to_list there.past.out ++ there.past.state.items))
       ∙ own config t p there.past (omega (arith, inside, count)) there.happens
 
-  processed_numbers : numbers_from c (done t p h) ≡ numbers worked.taken
-  processed_numbers = ap (numbers_from c) (sym worked.does ∙ sym worked.stamps) ∙ numbers_taken c worked.taken
-
-  matched_brings : brings there.past.done ≡ numbers worked.taken ++ numbers (waiting_items pipe ++ in_hand)
-  matched_brings = sym (by_items config t p c there.past.done) ∙ ap numbers (sym all_chosen) ∙ filter_map-append (number_of_item c) worked.taken (waiting_items pipe ++ in_hand)
-
-  all_taken : there.past.taken ++ ten.queue ≡ there.past.done ++ not_matched
+  all_taken : there.past.taken ++ ten.queue ≡ there.past.done ++ (there.past.state.gathered ++ ten.queue)
   all_taken = ap (λ xs. xs ++ ten.queue) (sym (lossless config t there.past there.happens)) ∙ append_assoc there.past.done there.past.state.gathered ten.queue
 
-  abbrev behind : List ℕ
-  behind = numbers (waiting_items pipe ++ in_hand) ++ (brings not_matched ++ brings on_the_way)
+  way : Way config t p c (accepted c h) (closed c h) worked.taken
+  way = record {
+    matched = there.past.done;
+    unmatched = there.past.state.gathered ++ ten.queue;
+    unsent = items_to t (hand_of (slice_get state.connections c)) ++ forwarded config t c (queue_of (slice_get state.connections c));
+    untaken = waiting_items pipe ++ in_hand;
+    chooses = all_chosen;
+    forwards =
+        ap (λ items. filter (is_from c) items ++ (items_to t (hand_of (slice_get state.connections c)) ++ forwarded config t c (queue_of (slice_get state.connections c)))) (sym all_taken)
+        ∙ there.ways c;
+  }
 
-  whole_way : wanted config t p c (accepted c h) ≡ numbers worked.taken ++ behind
-  whole_way =
-      wanted_by config t p c (accepted c h) (closed c h)
-      ∙ ap brings (sym (there.ways c))
-      ∙ filter_map-append (brought config t p c) (filter (is_from c) (there.past.taken ++ ten.queue)) on_the_way
-      ∙ ap (λ xs. xs ++ brings on_the_way)
-      (sym (only_from config t p c (there.past.taken ++ ten.queue)) ∙ ap brings all_taken ∙ filter_map-append (brought config t p c) there.past.done not_matched
-      ∙ ap (λ xs. xs ++ brings not_matched) matched_brings)
-      ∙ append_assoc (numbers worked.taken ++ numbers (waiting_items pipe ++ in_hand)) (brings not_matched) (brings on_the_way)
-      ∙ append_assoc (numbers worked.taken) (numbers (waiting_items pipe ++ in_hand)) (brings not_matched ++ brings on_the_way)
+  processed_numbers : numbers_from c (done t p h) ≡ filter_map (number_of_item c) worked.taken
+  processed_numbers = ap (numbers_from c) (sym worked.does ∙ sym worked.stamps) ∙ numbers_taken c worked.taken
 
   prefix : IsPrefixOf (numbers_from c (done t p h)) (wanted config t p c (accepted c h))
-  prefix = (behind, ap (λ xs. xs ++ behind) processed_numbers ∙ sym whole_way)
-
-  -- where nothing is wanted, nothing was processed
-  none_wanted : wanted config t p c (accepted c h) ≡ [] → numbers_from c (done t p h) ≡ wanted config t p c (accepted c h)
-  none_wanted none = processed_numbers ∙ nil_left (numbers worked.taken) behind (sym whole_way ∙ none) ∙ sym none
+  prefix =
+      let front = taken_in_order config t p c (accepted c h) (closed c h) worked.taken way in
+      (front.0, ap (λ xs. xs ++ front.0) processed_numbers ∙ front.1)
 
   module _ (fin : finished t p h ≡ true) where
-    ends : (holds_ends config t there.past.done ≡ true) × (waiting_items pipe ++ in_hand ≡ [])
-    ends = last_of_all is_end pipeline.End (filter_map (chosen_item config t p) there.past.done) (holds_ends config t there.past.done) worked.taken (waiting_items pipe ++ in_hand)
-        (items_no_end config t p there.past.done) (sym all_chosen) (worked.marked ∙ worked.finishes ∙ fin)
-
-    abbrev has_mark : ℕ → Bool
-    has_mark d = not (lists config t d) || list_any (is_end_of d) there.past.done
-
-    -- the connection's end mark was matched, so nothing of it is left
-    nothing_left : c < length (connections_of config) → lists config t c ≡ true → filter (is_from c) not_matched ++ on_the_way ≡ []
-    nothing_left inside listed =
-        let marked : list_any (is_end_of c) there.past.done ≡ true =
-        listed_has (lists config t c) (list_any (is_end_of c) there.past.done) listed
-        (ap has_mark (sym (zero-add c)) ∙ all_in_range has_mark 0 (length (connections_of config)) c inside ends.0) in
-        let way : forwarded config t c (entries_of (accepted c h)) ++ one_mark (tenant.End (conn_id c)) (closed c h) ≡ filter (is_from c) there.past.done ++ (filter (is_from c) not_matched ++ on_the_way) =
-        ap (λ xs. forwarded config t c (entries_of (accepted c h)) ++ xs) (sym (mark_forwarded config t c (closed c h) listed))
-        ∙ sym (filter_map-append (forwarded_entry config t c) (entries_of (accepted c h)) (mark (closed c h)))
-        ∙ sym (there.ways c)
-        ∙ ap (λ xs. xs ++ on_the_way) (ap (filter (is_from c)) all_taken ∙ filter-append (is_from c) there.past.done not_matched)
-        ∙ append_assoc (filter (is_from c) there.past.done) (filter (is_from c) not_matched) on_the_way in
-        (last_of_all is_mark (tenant.End (conn_id c)) (forwarded config t c (entries_of (accepted c h))) (closed c h) (filter (is_from c) there.past.done) (filter (is_from c) not_matched ++ on_the_way)
-        (records_no_mark config t c 0 (accepted c h)) way (mark_among c there.past.done marked)).1
-
-    whole_listed : c < length (connections_of config) → lists config t c ≡ true → numbers_from c (done t p h) ≡ wanted config t p c (accepted c h)
-    whole_listed inside listed =
-        let left = nothing_left inside listed in
-        processed_numbers ∙ sym (append-nil (numbers worked.taken))
-        ∙ ap (λ xs. numbers worked.taken ++ (xs ++ [])) (sym (ap numbers ends.1))
-        ∙ ap (λ xs. numbers worked.taken ++ (numbers (waiting_items pipe ++ in_hand) ++ (xs ++ [])))
-        (sym (only_from config t p c not_matched ∙ ap brings (nil_left (filter (is_from c) not_matched) on_the_way left)))
-        ∙ ap (λ xs. numbers worked.taken ++ (numbers (waiting_items pipe ++ in_hand) ++ (brings not_matched ++ xs))) (sym (ap brings (nil_right (filter (is_from c) not_matched) on_the_way left)))
-        ∙ sym whole_way
-
-    whole_in_range : c < length (connections_of config) → (b : Bool) → lists config t c ≡ b → numbers_from c (done t p h) ≡ wanted config t p c (accepted c h)
-    whole_in_range inside true e = whole_listed inside e
-    whole_in_range inside false e =
-        none_wanted (wanted_by config t p c (accepted c h) (closed c h)
-        ∙ ap brings (filter_map_none (forwarded_entry config t c) (λ x. nothing_forwarded config t c x e) (put_by c h)))
-
     out_of_range : length (connections_of config) ≤ c → accepted c h ≡ []
     out_of_range past =
         let count : length state.connections ≡ length (connections_of config) = holds.conn_count in
         no_records (accepted c h) (ap count_of (sym (slice_get_past state.connections c (omega (arith, past, count)))) ∙ (holds.conns c).count)
 
     whole_by : (b : Bool) → nat_lt c (length (connections_of config)) ≡ b → numbers_from c (done t p h) ≡ wanted config t p c (accepted c h)
-    whole_by true e = whole_in_range (ltb-true c (length (connections_of config)) e) (lists config t c) refl
-    whole_by false e = none_wanted (ap (wanted config t p c) (out_of_range (ltb-false c (length (connections_of config)) e)))
+    whole_by true e =
+        processed_numbers
+        ∙ taken_whole config t p c (accepted c h) (closed c h) worked.taken way (worked.marked ∙ worked.finishes ∙ fin) (ltb-true c (length (connections_of config)) e)
+    whole_by false e =
+        processed_numbers
+        ∙ none_wanted config t p c (accepted c h) (closed c h) worked.taken way (ap (wanted config t p c) (out_of_range (ltb-false c (length (connections_of config)) e)))
 
     pub whole : numbers_from c (done t p h) ≡ wanted config t p c (accepted c h)
     whole = whole_by (nat_lt c (length (connections_of config))) refl

@@ -25,10 +25,12 @@ use Rattle.gate_core.specs.History.{History, actions, asked_by, done, manage_pos
 use Rattle.gate_core.specs.Late.{LateIsDiscarded, actions_in}
 use Rattle.gate_core.specs.Promises.{IsPrefixOf, Keeps, Processes, no_items}
 use Rattle.gate_core.specs.States.{State, TenantState, items_at}
+use Rattle.gate_core.specs.Ways.{is_from}
 use Rattle.gate_core.proofs.Fits.{after_push, asking, stamp_in, waiting_ended, waiting_items, waiting_managed}
 use Rattle.gate_core.proofs.Genuine.{AllOf, IsAsked, ItemIs, TriggerIs, all_at, all_from, all_front, asked_are, chosen_are, forwarded_are}
-use Rattle.gate_core.proofs.Outcomes.{all_chosen, head_same, tail_same}
-use Rattle.gate_core.proofs.Streams.{Holds, PipeHolds, TenantHolds, is_from, pipe_of}
+use Rattle.gate_core.proofs.Delivering.{head_same, tail_same}
+use Rattle.gate_core.proofs.Outcomes.{all_chosen}
+use Rattle.gate_core.proofs.Streams.{Holds, PipeHolds, TenantHolds, pipe_of}
 use Rattle.gate_core.proofs.Working.{the_same}
 
 -- ---- outcomes, one after another
@@ -172,8 +174,8 @@ seated (x ∷ xs) zero less = refl
 seated (x ∷ xs) (suc i) less = seated xs i (omega (arith, less))
 
 some_of : {X Y : Type 0} (f : X → Y) (o : Option X) → is_some o ≡ true → is_some (option_map f o) ≡ true
-some_of f None there = there
-some_of f (Some x) there = refl
+some_of f None e = e
+some_of f (Some x) e = refl
 
 module _ (config : Config) (h : History) (state : State) (holds : Holds config h state) (t p : ℕ) (tenant : t < length (tenants_of config)) (inside : p < length (pipelines_of config t)) where
   there_in : (o : Option TenantState) → slice_get state.tenants t ≡ o → is_some o ≡ true → is_some (option_map (λ (pipe : Pipeline). pipe.worker.items) (option_and_then (λ (ten : TenantState). slice_get ten.pipelines p) o)) ≡ true

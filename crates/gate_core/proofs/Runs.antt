@@ -3,6 +3,7 @@ use Rattle.std.proofs.Common.{◌≡◌, ◌∙◌, sym, ap, subst, refl, ℕ, s
 use Rattle.std.specs.Prelude.{slice_get}
 use Rattle.std.specs.List.{cons_option, filter_map, zip}
 use Rattle.gate_config.specs.declared.config.Config.{Config}
+use Rattle.gate_forward.specs.Histories.{EachTenantGetsItsOwn}
 use Rattle.gate_core.specs.declared.answer.Answer.{Answer}
 use Rattle.gate_core.specs.declared.step.Step.{Step}
 use Rattle.gate_core.specs.declared.step.Step.TheVariants as step
@@ -25,10 +26,10 @@ pub record Runs (config : Config) (answers : List Answer) (state : State) (rest 
   pub holds : Holds config past state
   pub few : length past + length rest ≤ total
 
-pub begins : (config : Config) (steps : List Step) (total : ℕ) → length steps ≤ total → Runs config [] (first config) steps steps total
-begins config steps total few =
+pub begins : EachTenantGetsItsOwn → (config : Config) (steps : List Step) (total : ℕ) → length steps ≤ total → Runs config [] (first config) steps steps total
+begins gets config steps total few =
     let none : 0 + length steps ≤ total = omega (arith, few) in
-    record { past = []; told = refl; goes = refl; reached = refl; holds = first_holds config; few = none }
+    record { past = []; told = refl; goes = refl; reached = refl; holds = first_holds config gets; few = none }
 
 answers_push : (h : History) (s : Step) (a : Answer) → map (λ (event : Step × Answer). event.1) (h ++ (s, a) ∷ []) ≡ map (λ (event : Step × Answer). event.1) h ++ a ∷ []
 answers_push [] s a = refl

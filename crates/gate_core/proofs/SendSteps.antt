@@ -9,14 +9,16 @@ use Rattle.gate_record.specs.declared.ids.TenantId.{TenantId}
 use Rattle.gate_record.specs.declared.transit.TenantItem.{TenantItem}
 use Rattle.gate_config.specs.declared.config.Config.{Config}
 use Rattle.gate_forward.specs.Forwarding.{forwarded}
+use Rattle.gate_forward.specs.Histories.{items_to}
 use Rattle.gate_core.specs.declared.answer.Answer.TheVariants.{Moved}
 use Rattle.gate_core.specs.declared.step.Step.TheVariants as step
 use Rattle.gate_core.specs.History.{History, finished, turned}
 use Rattle.gate_core.specs.States.{ConnectionState, TenantState, State}
+use Rattle.gate_core.specs.Ways.{conn_of_item, is_from}
 use Rattle.gate_core.proofs.Arrivals.{same_as_itself}
-use Rattle.gate_core.proofs.Sendings.{differs, items_to}
+use Rattle.gate_core.proofs.Sendings.{differs}
 use Rattle.gate_core.proofs.Spots.{AfterSet, after_set, another, it}
-use Rattle.gate_core.proofs.Streams.{AreOf, ConnHolds, ConnSame, Holds, PipeSame, TenantHolds, conn_of_item, conn_same, conn_untouched, hand_of, is_from, pipe_of, pipe_same, pipe_untouched, put_by, put_same, queue_of}
+use Rattle.gate_core.proofs.Streams.{AreOf, ConnHolds, ConnSame, Holds, PipeSame, TenantHolds, conn_same, conn_untouched, hand_of, pipe_of, pipe_same, pipe_untouched, put_by, put_same, queue_of}
 use Rattle.gate_core.proofs.Working.{the_same}
 
 -- the first item for a tenant
@@ -143,6 +145,7 @@ module _ (config : Config) (h : History) (state : State) (d : ConnId) (k : Conne
   sent_holds holds = record {
     count = length-set state.tenants first.0.0 ten' ∙ holds.count;
     conn_count = length-set state.connections d.0 k' ∙ holds.conn_count;
+    each_gets = holds.each_gets;
     conns = λ c. conn_goes c (after_set state.connections d.0 c k k' at) holds;
     tenants = λ t found there. tenant_goes t found (after_set state.tenants first.0.0 t ten ten' whose) there holds;
     others = λ t p none. none_goes t p (after_set state.tenants first.0.0 t ten ten' whose) none holds;

@@ -13,6 +13,7 @@ use Rattle.gate_record.specs.declared.transit.PipelineItem.{PipelineItem}
 use Rattle.gate_config.specs.declared.config.Config.{Config}
 use Rattle.gate_config.specs.Lookups.{connections_of, pipelines_of, tenants_of}
 use Rattle.gate_forward.specs.Forwarding.{forwarded}
+use Rattle.gate_forward.specs.Histories.{EachTenantGetsItsOwn, items_to}
 use Rattle.gate_tenant.specs.Histories.{History as Past, Happens}
 use Rattle.gate_core.specs.declared.pipeline.Pipeline.{Pipeline}
 use Rattle.gate_core.specs.declared.answer.Answer.{Answer}
@@ -20,10 +21,9 @@ use Rattle.gate_core.specs.declared.step.Step.{Step}
 use Rattle.gate_core.specs.declared.step.Step.TheVariants as step
 use Rattle.gate_core.specs.History.{History, accepted, finished, closed, manage_posts, posted_manage, posted_result, result_posts, turned, is_put, is_taking, is_turn, is_close, is_take, is_offer, is_moved, is_accepted, offered_to, processed}
 use Rattle.gate_core.specs.States.{ConnectionState, TenantState, State}
-use Rattle.gate_core.specs.Ways.{entries_of}
+use Rattle.gate_core.specs.Ways.{conn_of_item, entries_of, is_from, mark}
 use Rattle.gate_core.proofs.Fits.{PipeFits, fits_same}
 use Rattle.gate_core.proofs.Pushes.{accepted_push, closed_push, cond_none, count_push, ended_push, finished_push, managed_push, or_false, turned_push}
-use Rattle.gate_core.proofs.Sendings.{items_to}
 
 -- ---- connections
 
@@ -43,14 +43,6 @@ abbrev pub closed_of : Option ConnectionState → Bool
 closed_of None = false
 closed_of (Some conn) = conn.closed
 
--- the connection of an item
-abbrev pub conn_of_item : TenantItem → ℕ
-conn_of_item (tenant.Event s) = s.stamp.conn.0
-conn_of_item (tenant.End d) = d.0
-
-abbrev pub is_from : ℕ → TenantItem → Bool
-is_from c item = conn_of_item item == c
-
 -- all items are of this connection
 abbrev pub AreOf : ℕ → List (TenantId × TenantItem) → Type 0
 AreOf c [] = Unit {0}
@@ -65,10 +57,6 @@ pub record ConnHolds (config : Config) (h : History) (c : ℕ) (o : Option Conne
   pub own : AreOf c (hand_of o)
 
 -- all that was put into a connection's queue
-abbrev pub mark : Bool → List ConnEntry
-mark true = entry.End ∷ []
-mark false = []
-
 abbrev pub put_by : ℕ → History → List ConnEntry
 put_by c h = entries_of (accepted c h) ++ mark (closed c h)
 
@@ -96,6 +84,8 @@ pub record TenantHolds (config : Config) (h : History) (conns : List ConnectionS
   pub ways : (c : ℕ) → filter (is_from c) (past.taken ++ ten.queue) ++ (items_to t (hand_of (slice_get conns c)) ++ forwarded config t c (queue_of (slice_get conns c))) ≡ forwarded config t c (put_by c h)
 
 pub record Holds (config : Config) (h : History) (state : State) : Type 0 where
+  -- a law of forwarders, by which each tenant gets its own of an entry that is taken
+  pub each_gets : EachTenantGetsItsOwn
   pub count : length state.tenants ≡ length (tenants_of config)
   pub conn_count : length state.connections ≡ length (connections_of config)
   pub conns : (c : ℕ) → ConnHolds config h c (slice_get state.connections c)

@@ -9,6 +9,7 @@ use Rattle.gate_record.specs.declared.transit.TenantItem.{TenantItem}
 use Rattle.gate_record.specs.declared.transit.PipelineItem.{PipelineItem}
 use Rattle.gate_config.specs.declared.config.Config.{Config}
 use Rattle.gate_forward.specs.Forwarding.{forwarded}
+use Rattle.gate_forward.specs.Histories.{items_to}
 use Rattle.gate_tenant.specs.Histories.{gathers, gives, item_for, items_for, matches, moves}
 use Rattle.gate_tenant.specs.States.{State as DispatchState, has_ended, matched, room_of}
 use Rattle.gate_core.specs.declared.answer.Answer.{Answer}
@@ -17,12 +18,13 @@ use Rattle.gate_core.specs.declared.step.Step.{Step}
 use Rattle.gate_core.specs.History.{History, finished, turned}
 use Rattle.gate_core.specs.States.{TenantState, State}
 use Rattle.gate_core.specs.Steps.{with_item}
+use Rattle.gate_core.specs.Ways.{is_from}
 use Rattle.gate_core.proofs.Arrivals.{same_as_itself}
 use Rattle.gate_core.proofs.Fits.{fits_given, fits_still}
 use Rattle.gate_core.proofs.Maps.{filter_map_push, filter_map_still}
-use Rattle.gate_core.proofs.Sendings.{differs, items_to}
+use Rattle.gate_core.proofs.Sendings.{differs}
 use Rattle.gate_core.proofs.Spots.{AfterSet, after_set, another, it}
-use Rattle.gate_core.proofs.Streams.{ConnSame, Holds, PipeHolds, PipeSame, TenantHolds, conn_same, hand_of, is_from, pipe_of, pipe_same, put_same, queue_of, tenant_same}
+use Rattle.gate_core.proofs.Streams.{ConnSame, Holds, PipeHolds, PipeSame, TenantHolds, conn_same, hand_of, pipe_of, pipe_same, put_same, queue_of, tenant_same}
 
 pub the_same : {X : Type 0} (x y : X) → Some x ≡ Some y → x ≡ y
 the_same x y e = ap (λ (o : Option _). unwrap_or o x) e
@@ -52,6 +54,7 @@ module _ (config : Config) (h h' : History) (state : State) (t0 : ℕ) (ten ten'
   tenant_goes_on new none holds = record {
     count = length-set state.tenants t0 ten' ∙ holds.count;
     conn_count = holds.conn_count;
+    each_gets = holds.each_gets;
     conns = λ c. conn_same config h h' c (slice_get state.connections c) (conns c) (holds.conns c);
     tenants = λ t found there. tenant_goes t found (after_set state.tenants t0 t ten ten' at) there new holds;
     others = λ t p none'. none_goes t p (after_set state.tenants t0 t ten ten' at) none' none holds;

@@ -1,15 +1,20 @@
--- The way of a connection's records to a pipeline, as a whole: what is forwarded, then chosen, is what is wanted.
-use Rattle.std.specs.Prelude.{◌≡◌, ℕ, List, [], ◌∷◌, ◌++◌, Option, None, map, take}
-use Rattle.std.specs.List.{enumerate_from, filter_map}
+-- The way of a connection's records to a pipeline, as a whole: what is forwarded, then chosen, is what is wanted; and in its
+-- parts, wherever they are.
+use Rattle.std.specs.Prelude.{◌≡◌, ◌<◌, ◌==◌, ℕ, List, [], ◌∷◌, ◌++◌, Bool, true, false, Option, None, length, map, take}
+use Rattle.std.specs.List.{enumerate_from, filter, filter_map, list_any}
 use Rattle.gate_record.specs.declared.record.Record.{Record}
 use Rattle.gate_record.specs.declared.transit.ConnEntry.{ConnEntry}
 use Rattle.gate_record.specs.declared.transit.ConnEntry.TheVariants as entry
+use Rattle.gate_record.specs.declared.transit.TenantItem.{TenantItem}
+use Rattle.gate_record.specs.declared.transit.TenantItem.TheVariants as tenant
 use Rattle.gate_record.specs.declared.transit.PipelineItem.{PipelineItem}
 use Rattle.gate_record.specs.declared.transit.PipelineItem.TheVariants as item
 use Rattle.gate_config.specs.declared.config.Config.{Config}
+use Rattle.gate_config.specs.Lookups.{connections_of}
 use Rattle.gate_forward.specs.Forwarding.{forwarded}
 use Rattle.gate_tenant.specs.Dispatching.{chosen}
 use Rattle.gate_core.specs.History.{number_from, wanted}
+use Rattle.gate_core.specs.Promises.{IsPrefixOf}
 
 abbrev pub numbered : ℕ × Record → ConnEntry
 numbered record' = entry.Numbered record'.0 record'.1
@@ -33,3 +38,40 @@ pub record WantedArrive : Type 0 where
   pub open_stream : (config : Config) (t p c : ℕ) (records : List Record) → arrives config t p c (entries_of records) ≡ wanted config t p c records
   pub ended_stream : (config : Config) (t p c : ℕ) (records : List Record) → arrives config t p c (entries_of records ++ entry.End ∷ []) ≡ wanted config t p c records
   pub each_prefix : (config : Config) (t p c : ℕ) (records : List Record) (k : ℕ) → arrives config t p c (take k (entries_of records)) ≡ wanted config t p c (take k records)
+
+-- ---- the parts of a way
+
+-- the end mark of a connection, if it was put behind its entries
+abbrev pub mark : Bool → List ConnEntry
+mark true = entry.End ∷ []
+mark false = []
+
+-- the connection of an item
+abbrev pub conn_of_item : TenantItem → ℕ
+conn_of_item (tenant.Event s) = s.stamp.conn.0
+conn_of_item (tenant.End d) = d.0
+
+abbrev pub is_from : ℕ → TenantItem → Bool
+is_from c item = conn_of_item item == c
+
+abbrev pub is_end : PipelineItem → Bool
+is_end (item.Event s) = false
+is_end item.End = true
+
+-- The way of connection c's records to pipeline p of tenant t, behind which the end mark was put if it is closed. What the
+-- pipeline has taken, followed by what it still gets, is what is chosen of what the tenant has matched. Of what it matched and
+-- of what it got besides, the part of this connection, followed by what wasn't sent yet, is what is forwarded to it.
+pub record Way (config : Config) (t p c : ℕ) (records : List Record) (closed : Bool) (taken : List PipelineItem) : Type 0 where
+  pub matched : List TenantItem
+  pub unmatched : List TenantItem
+  pub unsent : List TenantItem
+  pub untaken : List PipelineItem
+  pub chooses : taken ++ untaken ≡ chosen config t p matched
+  pub forwards : filter (is_from c) (matched ++ unmatched) ++ unsent ≡ forwarded config t c (entries_of records ++ mark closed)
+
+-- On each way the numbers of what was taken are a prefix of those that are wanted, and all of them once the end mark was taken.
+pub record EachWayDelivers : Type 0 where
+  pub in_order : (config : Config) (t p c : ℕ) (records : List Record) (closed : Bool) (taken : List PipelineItem) → Way config t p c records closed taken →
+      IsPrefixOf (filter_map (number_of_item c) taken) (wanted config t p c records)
+  pub whole : (config : Config) (t p c : ℕ) (records : List Record) (closed : Bool) (taken : List PipelineItem) → c < length (connections_of config) → Way config t p c records closed taken →
+      list_any is_end taken ≡ true → filter_map (number_of_item c) taken ≡ wanted config t p c records

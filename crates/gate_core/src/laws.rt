@@ -1,7 +1,8 @@
 ghost use Rattle.gate_core.specs.Chains.{EveryChainDelivers};
 ghost use Rattle.gate_core.specs.Promises.{EveryRunDelivers};
-ghost use Rattle.gate_core.specs.Ways.{WantedArrive};
+ghost use Rattle.gate_core.specs.Ways.{EachWayDelivers, WantedArrive};
 
+use gate_forward::each_tenant_gets_its_own;
 use gate_items::{cancelled_build_sets_change_nothing, each_outcome_is_that_of_one_result};
 use gate_tenant::{each_pipeline_gets_its_own, nothing_that_was_gathered_is_lost};
 
@@ -13,15 +14,25 @@ pub fn what_is_wanted_arrives()
     ensures { WantedArrive }
 {}
 
+/// The way of a connection's records to a pipeline, wherever its parts are: where what the pipeline has taken and still gets is
+/// what is chosen of what its tenant matched, and where of what the tenant got the connection's part, followed by what wasn't
+/// sent, is what is forwarded of the records, the numbers of what was taken are a prefix of the wanted ones, and all of them
+/// once the end mark was taken.
+#[tactic(auto, using(crate::proofs::Delivering::each_way_delivers))]
+pub fn each_way_delivers()
+    ensures { EachWayDelivers }
+{}
+
 /// With any number of connections, tenants and pipelines: for every configuration and every list of steps, the trigger
 /// events that a pipeline has processed are, connection by connection, a prefix of the accepted records that its rules
 /// select, each once and in order, and all of them once its end mark is met; offers and closes are answered by what came
 /// before them; and the queue items of a pipeline are what came of the actions that it has processed: of trigger events,
 /// each by its accepted record, and of the management events and results that were posted, in order. No result of a
-/// cancelled build set changes an item. It rests on the laws of the tenants' dispatch and of queue items.
+/// cancelled build set changes an item. It rests on the laws of forwarders, of the tenants' dispatch and of queue items.
 pub fn every_run_delivers()
     ensures { EveryRunDelivers }
 {
+    each_tenant_gets_its_own();
     each_pipeline_gets_its_own();
     nothing_that_was_gathered_is_lost();
     each_outcome_is_that_of_one_result();
@@ -35,6 +46,7 @@ pub fn every_run_delivers()
 pub fn every_chain_delivers()
     ensures { EveryChainDelivers }
 {
+    each_tenant_gets_its_own();
     each_pipeline_gets_its_own();
     nothing_that_was_gathered_is_lost();
     each_outcome_is_that_of_one_result();

@@ -22,7 +22,9 @@ mod transcript;
 mod world;
 
 pub use answer::Answer;
-pub use laws::{every_chain_delivers, every_run_delivers, what_is_wanted_arrives};
+pub use laws::{
+    each_way_delivers, every_chain_delivers, every_run_delivers, what_is_wanted_arrives,
+};
 pub use output::report_text;
 pub use replaying::{ReplayFault, replay};
 pub use report::{ConnectionReport, EndCause, PipelineReport, RunReport};

@@ -9,6 +9,7 @@ use crate::showing::push_shown;
 use crate::step::Step;
 use crate::world::World;
 use gate_config::Config;
+use gate_forward::each_tenant_gets_its_own;
 use gate_record::{Memory, PipelineId, Queue, TenantId};
 use std::alloc::Global;
 
@@ -23,6 +24,8 @@ pub(crate) fn play_script<'c>(
     ensures lines { IfOk result (λ world. string_bytes out.new ≡ string_bytes out.old ++ script_lines config.entry.now (first config.entry.now) script) }
     ensures left { IfOk result (λ world. state_of world ≡ left_by config.entry.now (first config.entry.now) (steps_in script)) }
 {
+    // What a forwarder sends is a law of its definitions, by which the steps taken so far are numbered.
+    each_tenant_gets_its_own();
     let mut script = script;
     // The proof counts by it: fewer than 2^64 records are accepted, since there are no more lines.
     let _total = script.len();

@@ -9,6 +9,7 @@ use crate::laws::every_run_delivers;
 use crate::step::Step;
 use crate::world::World;
 use gate_config::Config;
+use gate_forward::each_tenant_gets_its_own;
 use gate_record::{Memory, Queue, Sequence};
 use std::alloc::Global;
 
@@ -63,8 +64,9 @@ pub fn play<'c>(
     ensures processes { IfOk result (λ t. Processes config.entry.now (zip steps t.answers)) }
     ensures keeps { IfOk result (λ t. Keeps config.entry.now (zip steps t.answers) (state_of t.world)) }
 {
-    // What is promised of every history is a law of the definitions.
+    // What is promised of every history, and what a forwarder sends, are laws of the definitions.
     every_run_delivers();
+    each_tenant_gets_its_own();
     let mut steps = steps;
     // The proof counts by it: fewer than 2^64 records are accepted, since there are no more steps.
     let _total = steps.len();

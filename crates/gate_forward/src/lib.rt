@@ -2,6 +2,8 @@
 #![tactic(auto)]
 
 mod forward;
+mod laws;
 mod places;
 
 pub use forward::Forward;
+pub use laws::each_tenant_gets_its_own;

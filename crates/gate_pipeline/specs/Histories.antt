@@ -1,17 +1,27 @@
 -- Histories of calls, and what is true of each of them.
-use Rattle.std.specs.Prelude.{◌≡◌, ℕ, List, [], ◌∷◌, ◌++◌, flat_map, map, Option}
-use Rattle.std.specs.List.{filter_map}
+use Rattle.std.specs.Prelude.{◌≡◌, ℕ, List, [], ◌∷◌, ◌++◌, Bool, true, false, flat_map, map, Option, Some, None}
+use Rattle.std.specs.List.{filter_map, list_any}
 use Rattle.std.specs.Option.{option_to_list}
 use Rattle.gate_record.specs.declared.ids.Stamp.{Stamp}
+use Rattle.gate_record.specs.declared.transit.PipelineItem.{PipelineItem}
+use Rattle.gate_record.specs.declared.transit.PipelineItem.TheVariants as item
 use Rattle.gate_config.specs.declared.config.Config.{Config}
 use Rattle.gate_items.specs.declared.action.Action.{Action}
+use Rattle.gate_items.specs.declared.action.Action.TheVariants as action
+use Rattle.gate_items.specs.declared.action.JobResult.{JobResult}
+use Rattle.gate_items.specs.declared.action.Manage.{Manage}
+use Rattle.gate_items.specs.declared.action.Outcome.{Outcome}
 use Rattle.gate_items.specs.History.{after, start}
+use Rattle.gate_items.specs.Outcomes.{run}
 use Rattle.gate_pipeline.specs.declared.pass.Taking.{Taking}
 use Rattle.gate_pipeline.specs.declared.pass.Taking.TheVariants.{Value, Nothing}
+use Rattle.gate_pipeline.specs.declared.which.Held.{Held}
+use Rattle.gate_pipeline.specs.declared.which.Held.TheVariants as held
 use Rattle.gate_pipeline.specs.declared.which.Taken.{Taken}
 use Rattle.gate_pipeline.specs.declared.which.Taken.TheVariants as taken
 use Rattle.gate_pipeline.specs.Passes.{first_pass, pass_after}
-use Rattle.gate_pipeline.specs.States.{Processed, State, first_state, found_empty, held_as, manager_of, taken_in, takes, to_process}
+use Rattle.gate_pipeline.specs.States.{MayBeRefused, Processed, State, asked, first_state, found_empty, held_as, is_taking, manager_of, next_of, taken_in, takes, to_process}
+use Rattle.gate_pipeline.specs.Triggers.{trigger_of}
 
 -- something was handed in, and was processed; or memory was refused, and it is held; or a queue was found empty
 pub data Call : Type 0 where
@@ -69,3 +79,124 @@ pub record AppliedOnce : Type 0 where
       (after_calls (first_state config t p) calls).items ≡ after (start (manager_of config t p) 0) (map action_of (processed_in (first_state config t p) calls))
   pub done : (config : Config) (t p : ℕ) (calls : List Call) →
       (after_calls (first_state config t p) calls).done ≡ filter_map stamp_of (processed_in (first_state config t p) calls)
+
+-- ---- what was taken from the queues
+
+-- the state; all that was taken so far from each of the queues; and all that was processed
+pub record History : Type 0 where
+  pub state : State
+  pub triggers : List PipelineItem
+  pub management : List Manage
+  pub results : List JobResult
+  pub processed : List Processed
+
+abbrev pub beginning : Config → ℕ → ℕ → History
+beginning config t p = record { state = first_state config t p; triggers = []; management = []; results = []; processed = [] }
+
+abbrev pub trigger_in : Taken → List PipelineItem
+trigger_in (taken.Trigger item) = item ∷ []
+trigger_in (taken.Manage manage) = []
+trigger_in (taken.Result result) = []
+trigger_in taken.Again = []
+
+abbrev pub manage_in : Taken → List Manage
+manage_in (taken.Manage manage) = manage ∷ []
+manage_in (taken.Trigger item) = []
+manage_in (taken.Result result) = []
+manage_in taken.Again = []
+
+abbrev pub result_in : Taken → List JobResult
+result_in (taken.Result result) = result ∷ []
+result_in (taken.Trigger item) = []
+result_in (taken.Manage manage) = []
+result_in taken.Again = []
+
+-- with what was handed in, which left this state and this was processed
+abbrev pub with_taken : Taken → State → List Processed → History → History
+with_taken given state processed h = record {
+  state = state;
+  triggers = h.triggers ++ trigger_in given;
+  management = h.management ++ manage_in given;
+  results = h.results ++ result_in given;
+  processed = processed;
+}
+
+-- Histories of calls by one configuration: what is handed in is what is asked for, and is processed, or is held where memory
+-- was refused.
+pub data Happens (config : Config) (t p : ℕ) : History → Type 0 where
+  begins : Happens config t p (beginning config t p)
+  took : {h : History} (given : Taken) → Happens config t p h → next_of h.state ≡ asked given →
+      Happens config t p (with_taken given (takes config h.state given).0 (h.processed ++ option_to_list (takes config h.state given).1) h)
+  refused : {h : History} (given : Taken) → Happens config t p h → next_of h.state ≡ asked given → MayBeRefused h.state.items.manager (to_process h.state.held given) →
+      Happens config t p (with_taken given (held_as (to_process h.state.held given) (taken_in given h.state)) h.processed h)
+  passed : {h : History} → Happens config t p h → is_taking (next_of h.state) ≡ true → Happens config t p (record h { state = found_empty h.state })
+
+-- ---- what becomes of it
+
+-- the stamp of an event
+abbrev pub stamp_in : PipelineItem → Option Stamp
+stamp_in (item.Event s) = Some s.stamp
+stamp_in item.End = None
+
+abbrev pub is_end : PipelineItem → Bool
+is_end (item.Event s) = false
+is_end item.End = true
+
+-- what a trigger event asks for, with its stamp
+abbrev pub asking : Config → ℕ → ℕ → PipelineItem → Option (Option Stamp × Action)
+asking config t p (item.Event s) = Some (Some s.stamp, trigger_of config t p s)
+asking config t p item.End = None
+
+-- what was processed, by its kind: a trigger with its stamp, a management event, a result
+abbrev pub triggering : Processed → Option (Option Stamp × Action)
+triggering (stamp, action.Trigger key patchset jobs, outcome) = Some (stamp, action.Trigger key patchset jobs)
+triggering (stamp, action.Manage manage, outcome) = None
+triggering (stamp, action.Result ended, outcome) = None
+
+abbrev pub managing : Action → Option Manage
+managing (action.Manage manage) = Some manage
+managing (action.Result ended) = None
+managing (action.Trigger key patchset jobs) = None
+
+abbrev pub resulting : Action → Option JobResult
+resulting (action.Result ended) = Some ended
+resulting (action.Manage manage) = None
+resulting (action.Trigger key patchset jobs) = None
+
+abbrev pub outcome_of : Processed → Action × Outcome
+outcome_of done = (done.1, done.2)
+
+-- what is held, as it stood in its queue
+abbrev pub held_items : Option Held → List PipelineItem
+held_items None = []
+held_items (Some (held.Event e)) = item.Event e ∷ []
+held_items (Some (held.Action a)) = []
+
+abbrev pub held_managed : Option Held → List Manage
+held_managed None = []
+held_managed (Some (held.Event e)) = []
+held_managed (Some (held.Action a)) = option_to_list (managing a)
+
+abbrev pub held_ended : Option Held → List JobResult
+held_ended None = []
+held_ended (Some (held.Event e)) = []
+held_ended (Some (held.Action a)) = option_to_list (resulting a)
+
+-- What was taken is processed, or is the one that is held.
+pub record AreProcessed (config : Config) (t p : ℕ) (h : History) : Type 0 where
+  -- the triggers before the one that is held: their stamps are done, and each was processed as what it asks for
+  pub front : List PipelineItem
+  pub triggers : h.triggers ≡ front ++ held_items h.state.held
+  pub stamps : filter_map stamp_in front ≡ h.state.done
+  pub asked_for : filter_map triggering h.processed ≡ filter_map (asking config t p) front
+  -- the end mark was taken where the pipeline is finished
+  pub ends : list_any is_end front ≡ h.state.finished
+  pub management : h.management ≡ filter_map managing (map action_of h.processed) ++ held_managed h.state.held
+  pub results : h.results ≡ filter_map resulting (map action_of h.processed) ++ held_ended h.state.held
+  -- what is done are the stamps of what was processed, and the items are what came of its actions, each with its outcome
+  pub done : h.state.done ≡ filter_map stamp_of h.processed
+  pub items : h.state.items ≡ after (start (manager_of config t p) 0) (map action_of h.processed)
+  pub outcomes : map outcome_of h.processed ≡ run (start (manager_of config t p) 0) (map action_of h.processed)
+
+abbrev pub TakenIsProcessed : Type 0
+TakenIsProcessed = (config : Config) (t p : ℕ) (h : History) → Happens config t p h → AreProcessed config t p h

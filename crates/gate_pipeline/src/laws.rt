@@ -1,4 +1,4 @@
-ghost use Rattle.gate_pipeline.specs.Histories.{AppliedOnce, PhasesFollow};
+ghost use Rattle.gate_pipeline.specs.Histories.{AppliedOnce, PhasesFollow, TakenIsProcessed};
 
 /// Where a pipeline's pass stands is a function of all its takings so far, empty ones included, whatever calls came: what
 /// was held for want of memory counts once, where it was taken.
@@ -12,4 +12,12 @@ pub fn phases_follow_takings()
 #[tactic(auto, using(crate::proofs::Calls::applied_once))]
 pub fn each_action_is_applied_once()
     ensures { AppliedOnce }
+{}
+
+/// What was taken from the queues of a pipeline is processed or held, whatever calls came that were asked for: of the triggers
+/// all but one that is held are done, each as the action that it asks for, and the management events and results likewise, in
+/// order; the pipeline is finished where its end mark was taken.
+#[tactic(auto, using(crate::proofs::Processing::taken_is_processed))]
+pub fn what_was_taken_is_processed()
+    ensures { TakenIsProcessed }
 {}

@@ -18,7 +18,7 @@ loop-line-init c = record {
       let config = c.args.config.now in
       let script = c.args.script in
       subst (λ (state : State). IsRunning config state (steps_in script) (steps_in script) c.len-total.result) (sym c.in_ok-world.ensures.first)
-      (starts config script c.len-total.result c.len-total.ensures);
+      (starts c.each_tenant_gets_its_own.ensures config script c.len-total.result c.len-total.ensures);
   same = c.in_ok-world.ensures.config;
   printed = ap (λ (state : State). string_bytes c.args.out.now ++ script_lines c.args.config.now state c.args.script) c.in_ok-world.ensures.first;
 }

@@ -15,7 +15,7 @@ loop-step-init c = record {
       let few : length c.args.steps ≤ c.len-total.result = omega (arith, count) in
       subst (λ (answers : List Answer). Runs config answers (state_of c.in_ok-world.world) c.args.steps c.args.steps c.len-total.result) (sym c.empty-answers.ensures)
       (subst (λ (state : State). Runs config [] state c.args.steps c.args.steps c.len-total.result) (sym c.in_ok-world.ensures.first)
-      (begins config c.args.steps c.len-total.result few));
+      (begins c.each_tenant_gets_its_own.ensures config c.args.steps c.len-total.result few));
   same = c.in_ok-world.ensures.config;
 }
 

@@ -1,0 +1,86 @@
+-- What tenants have of what was loaded, after any history of calls.
+use Rattle.std.proofs.Common.{◌≡◌, ◌∙◌, refl, sym, ap, ℕ, zero, suc, ◌+◌, ◌<◌, ◌==◌, List, [], ◌∷◌, ◌++◌, Bool, true, false, length, Option, Some, None, option_map, if◌then◌else◌, append-nil, append_assoc, arith, eqb-true}
+use Rattle.std.proofs.lemmas.Bool.{eq-eqb}
+use Rattle.std.proofs.lemmas.List.Elements.{filter_map-append}
+use Rattle.std.specs.List.{cons_option, filter_map, range_with_len}
+use Rattle.std.specs.Option.{option_to_list}
+use Rattle.gate_record.specs.declared.ids.TenantId.{TenantId}
+use Rattle.gate_record.specs.declared.transit.ConnEntry.{ConnEntry}
+use Rattle.gate_record.specs.declared.transit.ConnEntry.TheVariants as entry
+use Rattle.gate_record.specs.declared.transit.TenantItem.{TenantItem}
+use Rattle.gate_config.specs.declared.config.Config.{Config}
+use Rattle.gate_config.specs.Lookups.{tenants_of}
+use Rattle.gate_forward.specs.Forwarding.{for_tenant, forwarded, forwarded_entry, sends}
+use Rattle.gate_forward.specs.Histories.{EachTenantGetsItsOwn, Happens, History, begins, comes_back, ends, is_sent, item_to, items_to, loads, moves}
+
+differs : (a t : ℕ) → (a ≡ t → ⊥) → (a == t) ≡ false
+differs a t other = by (a == t) refl
+  where
+    by : (b : Bool) → (a == t) ≡ b → (a == t) ≡ false
+    by true e = absurd (other (eqb-true a t e))
+    by false e = e
+
+-- ---- what an entry sends to a tenant
+
+module _ (gets : ℕ → Option TenantItem) where
+  mine : (t u : ℕ) (o : Option TenantItem) (rest : List (TenantId × TenantItem)) → (u == t) ≡ true → items_to t (cons_option (option_map (for_tenant u) o) rest) ≡ option_to_list o ++ items_to t rest
+  mine t u None rest e = refl
+  mine t u (Some item) rest e = ap (λ b. cons_option (if b then Some item else None) (items_to t rest)) e
+
+  others : (t u : ℕ) (o : Option TenantItem) (rest : List (TenantId × TenantItem)) → (u == t) ≡ false → items_to t (cons_option (option_map (for_tenant u) o) rest) ≡ items_to t rest
+  others t u None rest e = refl
+  others t u (Some item) rest e = ap (λ b. cons_option (if b then Some item else None) (items_to t rest)) e
+
+  behind : (t a n : ℕ) → t < a → items_to t (filter_map (λ u. option_map (for_tenant u) (gets u)) (range_with_len a n)) ≡ []
+  behind t a zero h = refl
+  behind t a (suc n) h =
+      others t a (gets a) (filter_map (λ u. option_map (for_tenant u) (gets u)) (range_with_len (a + 1) n)) (differs a t (λ e. absurd (omega (arith, e, h))))
+      ∙ behind t (a + 1) n (omega (arith, h))
+
+  among : (t a k n : ℕ) → a + k ≡ t → k < n → items_to t (filter_map (λ u. option_map (for_tenant u) (gets u)) (range_with_len a n)) ≡ option_to_list (gets t)
+  among t a k zero e h = absurd (omega (arith, h))
+  among t a zero (suc n) e h =
+      let at : a ≡ t = omega (arith, e) in
+      mine t a (gets a) (filter_map (λ u. option_map (for_tenant u) (gets u)) (range_with_len (a + 1) n)) (eq-eqb a t at)
+      ∙ ap (λ xs. option_to_list (gets a) ++ xs) (behind t (a + 1) n (omega (arith, at)))
+      ∙ append-nil (option_to_list (gets a)) ∙ ap (λ u. option_to_list (gets u)) at
+  among t a (suc k) (suc n) e h =
+      others t a (gets a) (filter_map (λ u. option_map (for_tenant u) (gets u)) (range_with_len (a + 1) n)) (differs a t (λ same. absurd (omega (arith, same, e))))
+      ∙ among t (a + 1) k n (omega (arith, e)) (omega (arith, h))
+
+sent_to : (config : Config) (t c : ℕ) (e : ConnEntry) → t < length (tenants_of config) → items_to t (sends config c e) ≡ option_to_list (forwarded_entry config t c e)
+sent_to config t c e h = among (λ u. forwarded_entry config u c e) t 0 t (length (tenants_of config)) (omega arith) h
+
+-- ---- any history
+
+one_more : (o : Option TenantItem) → option_to_list o ≡ cons_option o []
+one_more None = refl
+one_more (Some item) = refl
+
+module _ (config : Config) (t c : ℕ) (few : t < length (tenants_of config)) where
+  abbrev Shares : History → Type 0
+  Shares h = items_to t (h.sent ++ (option_to_list h.out ++ h.hand.items)) ≡ forwarded config t c h.loaded
+
+  -- one more entry is loaded into the empty hand
+  more : (h : History) (e : ConnEntry) → Shares h → h.hand.items ≡ [] → h.out ≡ None →
+      items_to t (h.sent ++ (option_to_list h.out ++ sends config c e)) ≡ forwarded config t c (h.loaded ++ e ∷ [])
+  more h e was empty no_out =
+      ap (λ o. items_to t (h.sent ++ (option_to_list o ++ sends config c e))) no_out
+      ∙ filter_map-append (item_to t) h.sent (sends config c e)
+      ∙ ap (λ xs. items_to t h.sent ++ xs) (sent_to config t c e few ∙ one_more (forwarded_entry config t c e))
+      ∙ ap (λ xs. xs ++ cons_option (forwarded_entry config t c e) []) (sym (ap (items_to t) (ap (λ o. h.sent ++ (option_to_list o ++ h.hand.items)) no_out ∙ ap (λ items. h.sent ++ items) empty ∙ append-nil h.sent)) ∙ was)
+      ∙ sym (filter_map-append (forwarded_entry config t c) h.loaded (e ∷ []))
+
+  share : {h : History} → Happens config c h → Shares h
+  share begins = refl
+  share (loads {h} n line before empty no_out) = more h (entry.Numbered n line) (share before) empty no_out
+  share (ends {h} before empty no_out) = more h entry.End (share before) empty no_out
+  share (moves {h} {first} {items} before no_out is) =
+      ap (λ xs. items_to t (h.sent ++ xs)) (sym (ap (λ o. option_to_list o ++ h.hand.items) no_out ∙ is)) ∙ share before
+  share (is_sent {h} {item} before out) =
+      ap (items_to t) (append_assoc h.sent (item ∷ []) h.hand.items ∙ ap (λ o. h.sent ++ (option_to_list o ++ h.hand.items)) (sym out)) ∙ share before
+  share (comes_back {h} {item} before out) =
+      ap (λ o. items_to t (h.sent ++ (option_to_list o ++ h.hand.items))) (sym out) ∙ share before
+
+pub each_tenant_gets_its_own : EachTenantGetsItsOwn
+each_tenant_gets_its_own config t c h few happens = share config t c few happens
