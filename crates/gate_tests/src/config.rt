@@ -1,13 +1,11 @@
 pub(crate) mod asked;
-mod faults;
 mod jobs;
-mod pipelines;
 mod rules;
 mod tenants;
 
-use crate::lines::halves;
+use crate::lines::{comes_to, halves};
 use gate_config::{Config, read_config};
-use std::alloc::{AllocError, Global};
+use std::alloc::Global;
 use std::process::Abort;
 use std::test::Fail;
 
@@ -26,76 +24,30 @@ const TRIGGER: &str =
 pub(crate) const RULES: &str =
     r#"{"tenants":[{"name":"main","source":{"gerrit":null}}],"config":{"main":[{"pipeline":{"name":"check","manager":"independent","trigger":{"gerrit":@}}}]}}"#;
 
-// The place of those rules.
-const AT_RULES: &str = "config.main[0].pipeline.trigger.gerrit";
-
-// A document with this in its hole.
-pub(crate) fn filled(alloc: Global, document: &str, text: &str) -> Result<String, Fail> {
-    let (front, back) = document.split_once('@').ok_or("a hole")?;
-    Ok(format!(in alloc; "{front}{text}{back}")?)
-}
-
-// A list of that many times this item.
-fn list_of(alloc: Global, count: usize, item: &str) -> Result<String, AllocError> {
-    let mut list = String::from_str(alloc, "[")?;
-    for position in 0..count {
-        if position > 0 {
-            list.push_str(",")?;
-        }
-        list.push_str(item)?;
-    }
-    list.push_str("]")?;
-    Ok(list)
-}
-
-// Sees that a document is refused for each line of a table: what is in its hole, an arrow, the word of the fault and, behind
-// a space, what follows `front` in the place.
-fn refused(
-    rt: &impl Abort,
-    alloc: Global,
-    document: &str,
-    front: &str,
-    table: &str,
-) -> Result<(), Fail> {
-    for line in table.trim().lines() {
-        let (text, fault) = halves(line)?;
-        let whole = filled(alloc, document, text)?;
-        is_refused(rt, alloc, whole.as_str(), front, fault)?;
-    }
-    Ok(())
-}
-
-fn is_refused(
-    rt: &impl Abort,
-    alloc: Global,
-    document: &str,
-    front: &str,
-    fault: &str,
-) -> Result<(), Fail> {
-    let wanted = fault_text(alloc, front, fault)?;
-    let found = fault_of(alloc, document)?;
-    assert_eq!(rt; found.as_str(), wanted.as_str(), "at {document}");
-    Ok(())
-}
-
-// A fault of a table with the front of its place. What is not JSON has none.
-fn fault_text(alloc: Global, front: &str, fault: &str) -> Result<String, AllocError> {
-    if fault == "not-json" {
-        return String::from_str(alloc, fault);
-    }
-    let (word, place) = fault.split_once(' ').unwrap_or((fault, ""));
-    format!(in alloc; "{word} {front}{place}")
-}
-
-fn fault_of(alloc: Global, document: &str) -> Result<String, AllocError> {
-    match read_config(alloc, document.as_bytes()) {
-        Ok(_) => String::from_str(alloc, "none"),
-        Err(fault) => format!(in alloc; "{fault}"),
-    }
-}
-
-// Sees that the document with this in its hole says what a table says: questions (`asked`), and behind arrows answers.
+// Sees that documents say what a script says: blocks with an empty line between them, each a text for the hole of the
+// document, and in the lines behind it questions (`asked`), and behind arrows answers; a line by itself that begins with `#` says
+// what follows.
 pub(crate) fn says(
+    rt: &impl Abort,
+    alloc: Global,
+    document: &str,
+    script: &str,
+) -> Result<(), Fail> {
+    for block in script.split("\n\n") {
+        says_block(rt, alloc, document, block.trim())?;
+    }
+    Ok(())
+}
+
+fn says_block(rt: &impl Abort, alloc: Global, document: &str, block: &str) -> Result<(), Fail> {
+    match block.split_once('\n') {
+        Some((text, table)) => says_table(rt, alloc, document, text, table),
+        None if block.starts_with('#') => Ok(()),
+        None => Err(Fail::from("a question")),
+    }
+}
+
+fn says_table(
     rt: &impl Abort,
     alloc: Global,
     document: &str,
@@ -103,24 +55,46 @@ pub(crate) fn says(
     table: &str,
 ) -> Result<(), Fail> {
     let whole = filled(alloc, document, text)?;
-    let config = read_config(alloc, whole.as_bytes())?;
+    whole_says(rt, alloc, whole.as_str(), table)
+}
+
+fn whole_says(rt: &impl Abort, alloc: Global, document: &str, table: &str) -> Result<(), Fail> {
+    let config = read_config(alloc, document.as_bytes())?;
     answers(rt, alloc, &config, table)
 }
 
-fn answers(rt: &impl Abort, alloc: Global, config: &Config, table: &str) -> Result<(), Fail> {
-    for line in table.trim().lines() {
-        let (question, wanted) = halves(line)?;
-        let found = asked::answer(alloc, config, question)?;
-        assert_eq!(rt; found.as_str(), wanted, "{question}");
+// A document with this in its hole.
+fn filled(alloc: Global, document: &str, text: &str) -> Result<String, Fail> {
+    match document.split_once('@') {
+        Some((front, back)) => Ok(format!(in alloc; "{front}{text}{back}")?),
+        None => Err(Fail::from("a hole")),
     }
+}
+
+fn answers(rt: &impl Abort, alloc: Global, config: &Config, table: &str) -> Result<(), Fail> {
+    for line in table.lines() {
+        let (question, wanted) = halves(line);
+        answers_one(rt, alloc, config, question, wanted)?;
+    }
+    Ok(())
+}
+
+fn answers_one(
+    rt: &impl Abort,
+    alloc: Global,
+    config: &Config,
+    question: &str,
+    wanted: &str,
+) -> Result<(), Fail> {
+    let found = asked::answer(alloc, config, question)?;
+    comes_to(rt, question, found.as_str(), wanted);
     Ok(())
 }
 
 #[test]
 fn base_is_read(rt: HostRuntime) -> Result<(), Fail> {
-    let base =
-        r#"{"tenants":[{"name":"main","source":{"gerrit":{"untrusted-projects":["demo"]}}}],"config":{"main":[{"pipeline":{"name":"check","manager":"independent","trigger":{"gerrit":[{"event":"patchset-created"}]}}},{"project":{"name":"demo","check":{"jobs":["build"]}}}]}}"#;
-    let table = r#"
+    let base = r#"
+        {"tenants":[{"name":"main","source":{"gerrit":{"untrusted-projects":["demo"]}}}],"config":{"main":[{"pipeline":{"name":"check","manager":"independent","trigger":{"gerrit":[{"event":"patchset-created"}]}}},{"project":{"name":"demo","check":{"jobs":["build"]}}}]}}
         connections -> gerrit
         tenants -> main
         pipelines 0 -> check:Independent
@@ -134,53 +108,5 @@ fn base_is_read(rt: HostRuntime) -> Result<(), Fail> {
         meets {"type":"patchset-created"} -> true
         meets {"type":"ref-updated"} -> false
     "#;
-    says(&rt, rt.alloc(), "@", base, table)
-}
-
-#[test]
-fn documents_are_refused(rt: HostRuntime) -> Result<(), Fail> {
-    let table = r#"
-        { -> not-json
-        [] -> shape
-        {"tenants":[{"name":"main"}]} -> shape config
-        {"tenants":[{"name":"main"}],"config":null} -> shape config
-        {"tenants":[5],"config":[]} -> shape config
-        {"tenants":{},"config":[]} -> shape tenants
-        {"config":{}} -> shape tenants
-        {"tenants":[{"name":"main"}],"config":{"main":{}}} -> shape config.main
-    "#;
-    refused(&rt, rt.alloc(), "@", "", table)
-}
-
-#[test]
-fn what_is_absent(rt: HostRuntime) -> Result<(), Fail> {
-    for trigger in [
-        r#"{"timer":[{"time":"0 0"}]}"#,
-        r#"{"gerrit":null}"#,
-        r#"{"gerrit":[]}"#,
-        "null",
-    ] {
-        says(&rt, rt.alloc(), TRIGGER, trigger, "rules 0 0 0 -> 0")?;
-    }
-    let nothing = "
-        pipelines 0 -> nothing
-        listed 0 0 -> true
-        belongs 0 0 demo -> false
-    ";
-    for items in ["null", "[]", r#"[{"pipeline":null},{"project":null}]"#] {
-        says(&rt, rt.alloc(), ITEMS, items, nothing)?;
-    }
-    Ok(())
-}
-
-#[test]
-fn what_is_absent_of_tenants(rt: HostRuntime) -> Result<(), Fail> {
-    let tenants =
-        r#"[{},{"tenant":null},{"tenant":null,"name":"main","source":{"a":{"config-projects":["x"],"untrusted-projects":["y"]}}}]"#;
-    let table = "
-        tenants -> main
-        belongs 0 0 x -> true
-        belongs 0 0 y -> true
-    ";
-    says(&rt, rt.alloc(), TENANTS, tenants, table)
+    says(&rt, rt.alloc(), "@", base)
 }

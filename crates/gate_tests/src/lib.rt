@@ -17,6 +17,8 @@ mod queue;
 #[cfg(test)]
 mod record;
 #[cfg(test)]
+mod records;
+#[cfg(test)]
 mod rule;
 #[cfg(test)]
 mod source;

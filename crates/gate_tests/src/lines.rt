@@ -1,25 +1,41 @@
 //! The lines of scripts and of tables.
-use std::alloc::Global;
-use std::test::Fail;
+use std::alloc::{AllocError, Global};
+use std::process::Abort;
 
-// What is given and what is wanted, around the first arrow of a line of a table.
-pub(crate) fn halves(line: &str) -> Result<(&str, &str), Fail> {
-    Ok(line.trim().split_once(" -> ").ok_or("an arrow")?)
+// What is given and what is wanted, around the first arrow of a line. Where there is none, the empty text is wanted.
+pub(crate) fn halves(line: &str) -> (&str, &str) {
+    let line = line.trim();
+    match line.split_once(" -> ") {
+        Some(halves) => halves,
+        None => (line, ""),
+    }
 }
 
-// A step of a script, and what it comes to, which is the empty text where its line has no arrow.
-pub(crate) fn step_of(line: &str) -> (&str, &str) {
-    line.trim().split_once(" -> ").unwrap_or((line.trim(), ""))
+// The word before the first space, and what stands behind it.
+pub(crate) fn word_and_rest(words: &str) -> (&str, &str) {
+    match words.split_once(' ') {
+        Some(halves) => halves,
+        None => (words, ""),
+    }
 }
 
-// The lines without what stands around them, and without empty ones.
-pub(crate) fn trimmed(alloc: Global, script: &str) -> Result<String, Fail> {
+// Sees that a line comes to what is wanted.
+pub(crate) fn comes_to(rt: &impl Abort, line: &str, found: &str, wanted: &str) {
+    assert_eq!(rt; found, wanted, "{line}");
+}
+
+// The lines without what stands around them, and without empty ones and those that begin with `#`, which say what follows.
+pub(crate) fn trimmed(alloc: Global, script: &str) -> Result<String, AllocError> {
     let mut text = String::new(alloc);
     for line in script.lines() {
-        if !line.trim().is_empty() {
-            text.push_str(line.trim())?;
-            text.push_str("\n")?;
-        }
+        push_trimmed(&mut text, line.trim())?;
     }
     Ok(text)
+}
+
+fn push_trimmed(text: &mut String, line: &str) -> Result<(), AllocError> {
+    if line.is_empty() || line.starts_with('#') {
+        return Ok(());
+    }
+    write!(text, "{line}\n")
 }

@@ -1,15 +1,12 @@
-//! One tenant with an independent and a dependent pipeline, and turns of them.
-mod actions;
+//! One tenant with an independent and a dependent pipeline, and scripts of the turns of either.
 mod turns;
 
-ghost use Rattle.std.specs.Prelude.{◌≡◌};
-ghost use Rattle.gate_pipeline.specs.States.{asked, next_of};
-
+use crate::lines::{comes_to, halves};
 use gate_config::{Config, ConfigFault, read_config};
-use gate_items::{Action, JobResult, Manage, Outcome};
-use gate_pipeline::{Pipeline, Taken, Which};
-use gate_record::{Memory, PipelineId, PipelineItem, Stamp, TenantId};
-use std::alloc::Global;
+use gate_pipeline::{PHASE, Pipeline};
+use gate_record::{PipelineId, TenantId};
+use std::alloc::{AllocError, Global};
+use std::process::Abort;
 use std::test::Fail;
 
 const MAIN: TenantId = TenantId(0);
@@ -26,48 +23,107 @@ fn config(alloc: Global) -> Result<Config, ConfigFault> {
     read_config(alloc, document.as_bytes())
 }
 
-// What the pipeline makes of a taking, and its outcome; nothing for the end mark.
-type Processed = Option<(Option<Stamp>, Action, Outcome)>;
-
-// Takes what the pipeline asks for. Whoever calls this knows nothing of what came of it, so that little has to be proved.
-fn took(pipeline: &mut Pipeline, config: &Config, given: Taken) -> Result<Processed, Memory>
-    requires asked { next_of pipeline.old ≡ asked given }
-{
-    pipeline.took(config, given)
+// Plays a script from the start of a pipeline.
+fn play(rt: &impl Abort, alloc: Global, pipeline: PipelineId, script: &str) -> Result<(), Fail> {
+    let config = config(alloc)?;
+    play_with(rt, alloc, &config, pipeline, script)
 }
 
-// Takes an operator's wish, if the pipeline wants one.
-fn manage(pipeline: &mut Pipeline, config: &Config, manage: Manage) -> Result<Processed, Fail> {
-    match pipeline.wants() {
-        Which::Management => Ok(took(pipeline, config, Taken::Manage(manage))?),
-        _ => Err(Fail::from("the pipeline wants another queue")),
-    }
-}
-
-fn ended(pipeline: &mut Pipeline, config: &Config, ended: JobResult) -> Result<Processed, Fail> {
-    match pipeline.wants() {
-        Which::Result => Ok(took(pipeline, config, Taken::Result(ended))?),
-        _ => Err(Fail::from("the pipeline wants another queue")),
-    }
-}
-
-fn trigger(
-    pipeline: &mut Pipeline,
+fn play_with(
+    rt: &impl Abort,
+    alloc: Global,
     config: &Config,
-    item: PipelineItem,
-) -> Result<Processed, Fail> {
-    match pipeline.wants() {
-        Which::Trigger => Ok(took(pipeline, config, Taken::Trigger(item))?),
-        _ => Err(Fail::from("the pipeline wants another queue")),
-    }
+    pipeline: PipelineId,
+    script: &str,
+) -> Result<(), Fail> {
+    let mut worker = Pipeline::new(alloc, config, MAIN, pipeline);
+    play_over(rt, alloc, &mut worker, config, script)
 }
 
-fn found_empty(pipeline: &mut Pipeline) -> Result<(), Fail> {
-    match pipeline.wants() {
-        Which::Management => pipeline.found_empty(),
-        Which::Result => pipeline.found_empty(),
-        Which::Trigger => pipeline.found_empty(),
-        _ => return Err(Fail::from("the pipeline wants no queue")),
+// Takes each turn of a script, and compares what it comes to with what stands behind the arrow.
+fn play_over(
+    rt: &impl Abort,
+    alloc: Global,
+    worker: &mut Pipeline,
+    config: &Config,
+    script: &str,
+) -> Result<(), Fail> {
+    for line in script.trim().lines() {
+        play_line(rt, alloc, worker, config, line)?;
     }
     Ok(())
+}
+
+fn play_line(
+    rt: &impl Abort,
+    alloc: Global,
+    worker: &mut Pipeline,
+    config: &Config,
+    line: &str,
+) -> Result<(), Fail> {
+    let (turn, wanted) = halves(line);
+    let found = turns::take(alloc, worker, config, turn)?;
+    comes_to(rt, line, found.as_str(), wanted);
+    Ok(())
+}
+
+// As many results of a build set that is no item's as a phase takes.
+fn late_results(alloc: Global) -> Result<String, AllocError> {
+    let mut script = String::new(alloc);
+    for _ in 0..PHASE {
+        script.push_str("ended 5 build -> Discarded(NotCurrent)\n")?;
+    }
+    Ok(script)
+}
+
+#[test]
+fn moves_on_after_a_whole_phase(rt: HostRuntime) -> Result<(), Fail> {
+    let late = late_results(rt.alloc())?;
+    let script = format!(in rt.alloc();
+        "
+        dequeue 9 -> Discarded(NoItem)
+        empty
+        {late}wants -> Trigger
+    "
+    )?;
+    play(&rt, rt.alloc(), CHECK, script.as_str())
+}
+
+#[test]
+fn finishes_with_the_end_mark(rt: HostRuntime) -> Result<(), Fail> {
+    let script = "
+        empty
+        empty
+        finished -> false
+        end
+        finished -> true
+        wants -> Finished
+        done -> 0
+    ";
+    play(&rt, rt.alloc(), CHECK, script)
+}
+
+#[test]
+fn makes_an_action_of_an_event(rt: HostRuntime) -> Result<(), Fail> {
+    let script = r#"
+        empty
+        empty
+        event {"type":"patchset-created","change":{"project":"demo","number":7},"patchSet":{"number":2}} -> change 0 7 2 build lint
+        event {"type":"ref-updated","patchSet":{"number":2},"refUpdate":{"project":"demo","refName":"refs/heads/a","newRev":"12ab"}} -> ref 0 12ab refs/heads/a demo 0 build lint
+        event {"type":"x","change":{"number":7},"refUpdate":{"refName":"refs/heads/a","newRev":"12ab"}} -> change 0 7 0
+        event {"type":"x","refUpdate":{"refName":"refs/heads/a","newRev":"12ab"}} -> ref 0 12ab refs/heads/a  0
+    "#;
+    play(&rt, rt.alloc(), CHECK, script)
+}
+
+#[test]
+fn makes_an_action_of_an_event_in_a_queue(rt: HostRuntime) -> Result<(), Fail> {
+    let script = r#"
+        empty
+        empty
+        event {"type":"change-restored","change":{"project":"demo","number":"-7"}} -> change 0 -7 0 build
+        event {"type":"ref-updated","refUpdate":{"project":"demo","refName":"refs/heads/a"}} -> none 0 build
+        event {"type":"ref-updated","refUpdate":{"project":"other","newRev":"12ab"}} -> none 0
+    "#;
+    play(&rt, rt.alloc(), GATE, script)
 }

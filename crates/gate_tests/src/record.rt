@@ -6,7 +6,7 @@ mod numbers;
 mod readings;
 mod shown;
 
-use crate::lines::trimmed;
+use crate::lines::{comes_to, trimmed};
 use gate_record::{Memory, Queue, Sequence, Shared, Text};
 use std::alloc::Global;
 use std::process::Abort;
@@ -16,68 +16,79 @@ use std::test::Fail;
 fn play(rt: &impl Abort, alloc: Global, script: &str) -> Result<(), Fail> {
     let wanted = trimmed(alloc, script)?;
     let played = shown::played(alloc, wanted.as_str())?;
-    assert_eq!(rt; played.as_str(), wanted.as_str());
+    comes_to(rt, "a script", played.as_str(), wanted.as_str());
     Ok(())
 }
 
 // Sees what one record is read as, whose bytes no script can have.
 fn check(rt: &impl Abort, alloc: Global, line: &[u8], wanted: &str) -> Result<(), Fail> {
     let found = shown::reading(alloc, line)?;
-    assert_eq!(rt; found.as_str(), wanted);
+    comes_to(rt, "a record", found.as_str(), wanted);
     Ok(())
 }
 
 #[test]
 fn keeps_texts(rt: HostRuntime) -> Result<(), Fail> {
     let text = Text::copy(rt.alloc(), "demo")?;
-    assert_eq!(rt; text.as_str(), "demo");
-    assert_eq!(rt; Text::new(text.into_string()).as_str(), "demo");
+    comes_to(&rt, "copy", text.as_str(), "demo");
+    let text = Text::new(text.into_string());
+    comes_to(&rt, "new", text.as_str(), "demo");
     Ok(())
 }
 
 #[test]
 fn keeps_lists(rt: HostRuntime) -> Result<(), Fail> {
     let mut list = Sequence::empty(rt.alloc());
+    keeps_two(&rt, &mut list)?;
+    assert!(rt; list.into_vec().len() == 2);
+    Ok(())
+}
+
+fn keeps_two(rt: &impl Abort, list: &mut Sequence<i32>) -> Result<(), Fail> {
     list.push(7)?;
     list.push(8)?;
-    assert_eq!(rt; list.len(), 2);
-    assert_eq!(rt; list.get(1).copied(), Some(8));
-    assert_eq!(rt; list.get(2).copied(), None);
-    assert_eq!(rt; list.as_slice(), [7, 8].as_slice());
-    assert_eq!(rt; list.into_vec().len(), 2);
+    let found = (list.len(), list.get(1).copied(), list.get(2).copied());
+    assert!(rt; found == (2, Some(8), None));
+    assert!(rt; list.as_slice() == [7, 8].as_slice());
     Ok(())
 }
 
 #[test]
 fn shares_values(rt: HostRuntime) -> Result<(), Fail> {
     let shared = Shared::new(rt.alloc(), 5)?;
-    assert_eq!(rt; *shared.share()?.get(), 5);
+    assert!(rt; *shared.share()?.get() == 5);
     Ok(())
-}
-
-// A queue of 0, 1 and 2.
-fn three(alloc: Global) -> Result<Queue<i32>, Fail> {
-    let mut queue = Queue::new(alloc);
-    for value in 0..3 {
-        queue.push(value)?;
-    }
-    Ok(queue)
 }
 
 #[test]
 fn queues_pop_at_the_front(rt: HostRuntime) -> Result<(), Fail> {
+    let mut queue = Queue::new(rt.alloc());
     let mut other = Queue::new(rt.alloc());
-    assert_eq!(rt; other.is_empty(), true);
-    let mut queue = three(rt.alloc())?;
-    assert_eq!(rt; queue.len(), 3);
-    queue.move_first_to(&mut other)?;
-    assert_eq!(rt; other.get(0).copied(), Some(0));
-    assert_eq!(rt; queue.pop(), Some(1));
-    assert_eq!(rt; queue.get(0).copied(), Some(2));
+    are_moved(&rt, &mut queue, &mut other)
+}
+
+// Puts 0, 1 and 2 into an empty queue, and moves its first value to another, which is empty.
+fn are_moved(rt: &impl Abort, queue: &mut Queue<i32>, other: &mut Queue<i32>) -> Result<(), Fail> {
+    for value in 0..3 {
+        queue.push(value)?;
+    }
+    assert!(rt; (other.is_empty(), queue.len()) == (true, 3));
+    queue.move_first_to(other)?;
+    let moved = (other.get(0).copied(), queue.pop(), queue.get(0).copied());
+    assert!(rt; moved == (Some(0), Some(1), Some(2)));
+    nothing_is_moved(rt, queue, other)
+}
+
+// Clears a queue, from which nothing is moved then to another, which has one value.
+fn nothing_is_moved(
+    rt: &impl Abort,
+    queue: &mut Queue<i32>,
+    other: &mut Queue<i32>,
+) -> Result<(), Fail> {
     queue.clear();
-    assert_eq!(rt; queue.pop(), None);
-    queue.move_first_to(&mut other)?;
-    assert_eq!(rt; other.len(), 1);
+    assert!(rt; queue.pop() == None);
+    queue.move_first_to(other)?;
+    assert!(rt; other.len() == 1);
     Ok(())
 }
 
@@ -85,6 +96,6 @@ fn queues_pop_at_the_front(rt: HostRuntime) -> Result<(), Fail> {
 fn a_refusal_has_a_word(rt: HostRuntime) -> Result<(), Fail> {
     let refused = Memory;
     let text = format!(in rt.alloc(); "{refused}")?;
-    assert_eq!(rt; text.as_str(), "memory");
+    comes_to(&rt, "a refusal", text.as_str(), "memory");
     Ok(())
 }

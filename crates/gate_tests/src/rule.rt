@@ -3,12 +3,12 @@ mod approvals;
 mod attributes;
 mod patterns;
 
-use gate_record::Sequence;
+use gate_record::{Sequence, Text};
 use gate_rule::Rule;
 use std::alloc::Global;
 
-// A rule that lists nothing, not even a type, as no configuration has one.
-fn blank_rule(alloc: Global) -> Rule {
+// A rule that lists these approvals and nothing else, not even a type, as no configuration has one.
+fn rule_of(alloc: Global, approval: Sequence<(Text, i64)>) -> Rule {
     Rule {
         event: Sequence::empty(alloc),
         branch: Sequence::empty(alloc),
@@ -16,7 +16,7 @@ fn blank_rule(alloc: Global) -> Rule {
         username: Sequence::empty(alloc),
         email: Sequence::empty(alloc),
         comment: Sequence::empty(alloc),
-        approval: Sequence::empty(alloc),
+        approval,
         ignore_deletes: false,
     }
 }

@@ -5,33 +5,55 @@
 //!   on change 7, to tenant 0, and `0: end of 1` for the end mark
 //! - `back` takes the next item, and comes to it too, but puts it back
 //! - `empty` and `ended` come to what they ask
+use crate::lines::word_and_rest;
+use crate::records::record_of;
 use gate_forward::Forward;
-use gate_record::{Record, Sequence, TenantId, TenantItem};
-use std::alloc::Global;
+use gate_record::{Record, TenantId, TenantItem};
+use std::alloc::{AllocError, Global};
 use std::test::Fail;
 
 pub(super) fn take(alloc: Global, forward: &mut Forward<'_>, step: &str) -> Result<String, Fail> {
-    let (verb, rest) = step.split_once(' ').unwrap_or((step, ""));
-    if forward.is_out() {
-        return Err(Fail::from("an item is out"));
-    }
+    let mut text = String::new(alloc);
+    push_step(alloc, &mut text, forward, step)?;
+    Ok(text)
+}
+
+fn push_step(
+    alloc: Global,
+    text: &mut String,
+    forward: &mut Forward<'_>,
+    step: &str,
+) -> Result<(), Fail> {
+    let (verb, rest) = word_and_rest(step);
     match verb {
         "load" => load(alloc, forward, rest),
-        "end" => load_end(alloc, forward),
-        "send" => send(alloc, forward),
-        "back" => put_back(alloc, forward),
-        "empty" => Ok(format!(in alloc; "{}", forward.is_empty())?),
-        "ended" => Ok(format!(in alloc; "{}", forward.ended())?),
+        "end" => load_end(forward),
+        "send" => send(text, forward),
+        "back" => put_back(text, forward),
+        _ => push_asked(text, forward, verb),
+    }
+}
+
+fn push_asked(text: &mut String, forward: &Forward<'_>, word: &str) -> Result<(), Fail> {
+    match word {
+        "empty" => Ok(write!(text, "{}", forward.is_empty())?),
+        "ended" => push_ended(text, forward),
         _ => Err(Fail::from("a step")),
     }
 }
 
-fn load(alloc: Global, forward: &mut Forward<'_>, words: &str) -> Result<String, Fail> {
-    let (number, line) = words.split_once(' ').ok_or("a number")?;
+fn push_ended(text: &mut String, forward: &Forward<'_>) -> Result<(), Fail> {
+    if forward.is_out() {
+        return Err(Fail::from("an item is out"));
+    }
+    Ok(write!(text, "{}", forward.ended())?)
+}
+
+fn load(alloc: Global, forward: &mut Forward<'_>, words: &str) -> Result<(), Fail> {
+    let (number, line) = word_and_rest(words);
     let number = number.parse::<u64>()?;
-    let record = Record::Line(Sequence::new(line.as_bytes().to_vec(alloc)?));
-    load_record(alloc, forward, number, record)?;
-    Ok(String::new(alloc))
+    let record = record_of(alloc, line)?;
+    load_record(alloc, forward, number, record)
 }
 
 fn load_record(
@@ -43,16 +65,15 @@ fn load_record(
     if forward.is_out() || !forward.is_empty() {
         return Err(Fail::from("an item is in the hand"));
     }
-    forward.load(alloc, number, record)?;
-    Ok(())
+    Ok(forward.load(alloc, number, record)?)
 }
 
-fn load_end(alloc: Global, forward: &mut Forward<'_>) -> Result<String, Fail> {
+fn load_end(forward: &mut Forward<'_>) -> Result<(), Fail> {
     if forward.is_out() || !forward.is_empty() {
         return Err(Fail::from("an item is in the hand"));
     }
     forward.load_end();
-    Ok(String::new(alloc))
+    Ok(())
 }
 
 // The next item, which is out then.
@@ -60,39 +81,47 @@ fn next(forward: &mut Forward<'_>) -> Result<(TenantId, TenantItem), Fail> {
     if forward.is_out() {
         return Err(Fail::from("an item is out"));
     }
-    Ok(forward.next().ok_or("an item")?)
+    match forward.next() {
+        Some(item) => Ok(item),
+        None => Err(Fail::from("an item")),
+    }
 }
 
-fn send(alloc: Global, forward: &mut Forward<'_>) -> Result<String, Fail> {
+fn send(text: &mut String, forward: &mut Forward<'_>) -> Result<(), Fail> {
     let (tenant, item) = next(forward)?;
     if !forward.is_out() {
         return Err(Fail::from("no item is out"));
     }
     forward.sent();
-    text_of(alloc, tenant, &item)
+    Ok(push_item(text, tenant, &item)?)
 }
 
-fn put_back(alloc: Global, forward: &mut Forward<'_>) -> Result<String, Fail> {
+fn put_back(text: &mut String, forward: &mut Forward<'_>) -> Result<(), Fail> {
     let (tenant, item) = next(forward)?;
+    push_item(text, tenant, &item)?;
+    unsend(forward, item)
+}
+
+fn unsend(forward: &mut Forward<'_>, item: TenantItem) -> Result<(), Fail> {
     if !forward.is_out() {
         return Err(Fail::from("no item is out"));
     }
-    let text = text_of(alloc, tenant, &item)?;
     forward.unsent(item);
-    Ok(text)
+    Ok(())
 }
 
-fn text_of(alloc: Global, tenant: TenantId, item: &TenantItem) -> Result<String, Fail> {
-    let tenant = tenant.0;
-    Ok(match item {
-        TenantItem::End(conn) => format!(in alloc; "{tenant}: end of {}", conn.0)?,
+fn push_item(text: &mut String, tenant: TenantId, item: &TenantItem) -> Result<(), AllocError> {
+    write!(text, "{}: ", tenant.0)?;
+    match item {
+        TenantItem::End(conn) => write!(text, "end of {}", conn.0),
         TenantItem::Event(stamped) => {
             let stamp = stamped.stamp;
             let change = stamped.event.get().change;
-            format!(in alloc;
-                "{tenant}: event {} of {} on {change:?}",
+            write!(
+                text,
+                "event {} of {} on {change:?}",
                 stamp.number, stamp.conn.0
-            )?
+            )
         }
-    })
+    }
 }

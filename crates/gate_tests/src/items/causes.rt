@@ -1,5 +1,5 @@
 //! Each cause for which an action is discarded, with both managers, and that nothing changes then.
-use super::{BOTH, check};
+use super::{BOTH, play_new};
 use gate_items::ManagerKind;
 use std::alloc::Global;
 use std::process::Abort;
@@ -19,7 +19,7 @@ fn each(
 ) -> Result<(), Fail> {
     for act in acts.lines() {
         let script = format!(in alloc; "{front}\n{act}\n{back}")?;
-        check(rt, alloc, manager, first_set, "build lint", script.as_str())?;
+        play_new(rt, alloc, manager, first_set, "build lint", script.as_str())?;
     }
     Ok(())
 }
@@ -154,25 +154,4 @@ fn the_last_item_needs_no_number(rt: HostRuntime) -> Result<(), Fail> {
         at_the_end(&rt, rt.alloc(), manager, acts, "")?;
     }
     Ok(())
-}
-
-#[test]
-fn current_build_sets(rt: HostRuntime) -> Result<(), Fail> {
-    check(
-        &rt,
-        rt.alloc(),
-        ManagerKind::Independent,
-        3,
-        "build",
-        "
-        current 3: false
-        trigger 1 1: Applied
-        trigger 2 1: Applied
-        reset 1: Applied
-        current 3: false
-        current 4: true
-        current 5: true
-        current 6: false
-        ",
-    )
 }

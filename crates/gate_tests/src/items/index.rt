@@ -1,80 +1,59 @@
-//! What an index finds, and in which order its items stand.
-use super::check;
+//! Keys in the order of an index.
 use super::script::key_of;
-use gate_items::{Key, ManagerKind};
+use gate_items::Key;
 use std::alloc::Global;
 use std::cmp::Ordering;
 use std::process::Abort;
 use std::test::Fail;
 
-#[test]
-fn items_keep_their_order(rt: HostRuntime) -> Result<(), Fail> {
-    check(
-        &rt,
-        rt.alloc(),
-        ManagerKind::Independent,
-        0,
-        "build",
-        "
-        trigger 1 1: Applied
-        trigger 2 1: Applied
-        trigger 3 1: Applied
-        reset 2: Applied
-        trigger 1 2: Applied
-        left
-        item 2 1 set 3 build waiting
-        item 3 1 set 2 build waiting
-        item 1 2 set 4 build waiting
-        ",
-    )
-}
-
-#[test]
-fn numbers_of_earlier_build_sets_find_nothing(rt: HostRuntime) -> Result<(), Fail> {
-    check(
-        &rt,
-        rt.alloc(),
-        ManagerKind::Independent,
-        0,
-        "build",
-        "
-        trigger 1 1: Applied
-        trigger 2 1: Applied
-        trigger 3 1: Applied
-        reset 2: Applied
-        trigger 1 2: Applied
-        ended 0 build success: Discarded(NotCurrent)
-        ended 1 build success: Discarded(NotCurrent)
-        ended 3 build failure: Applied
-        ended 3 build failure: Discarded(NotCurrent)
-        dequeue 2: Discarded(NoItem)
-        dequeue 3: Applied
-        ended 2 build success: Discarded(NotCurrent)
-        trigger 3 1: Applied
-        ended 4 build success: Applied
-        left
-        item 3 1 set 5 build waiting
-        report 2 1 set 3 failure
-        report 1 2 set 4 success
-        ",
-    )
-}
-
 // Sees that two keys are ordered as their places.
 fn compare(rt: &impl Abort, key: &Key, other: &Key, wanted: Ordering) {
-    assert_eq!(rt; key.cmp(other), wanted);
-    assert_eq!(rt; key.partial_cmp(other), Some(wanted));
-    assert_eq!(rt; *key == *other, wanted == Ordering::Equal);
+    let found = (key.cmp(other), key.partial_cmp(other), *key == *other);
+    assert!(rt; found == (wanted, Some(wanted), wanted == Ordering::Equal));
 }
 
 // Sees that the keys of these lines rise.
 fn rise(rt: &impl Abort, alloc: Global, lines: &str) -> Result<(), Fail> {
     for (place, line) in lines.lines().enumerate() {
-        let key = key_of(alloc, line)?;
-        for (other_place, other) in lines.lines().enumerate() {
-            compare(rt, &key, &key_of(alloc, other)?, place.cmp(&other_place));
-        }
+        stands_at(rt, alloc, line, place, lines)?;
     }
+    Ok(())
+}
+
+// Sees that a key is ordered beside those of these lines as its place is.
+fn stands_at(
+    rt: &impl Abort,
+    alloc: Global,
+    line: &str,
+    place: usize,
+    lines: &str,
+) -> Result<(), Fail> {
+    let key = key_of(alloc, line)?;
+    is_ordered(rt, alloc, &key, place, lines)
+}
+
+fn is_ordered(
+    rt: &impl Abort,
+    alloc: Global,
+    key: &Key,
+    place: usize,
+    lines: &str,
+) -> Result<(), Fail> {
+    for (other_place, other) in lines.lines().enumerate() {
+        is_beside(rt, alloc, key, other, place.cmp(&other_place))?;
+    }
+    Ok(())
+}
+
+fn is_beside(
+    rt: &impl Abort,
+    alloc: Global,
+    key: &Key,
+    other: &str,
+    wanted: Ordering,
+) -> Result<(), Fail> {
+    let other = key_of(alloc, other)?;
+    compare(rt, key, &other, wanted);
     Ok(())
 }
 

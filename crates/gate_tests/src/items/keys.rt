@@ -1,28 +1,46 @@
 //! Keys, compared and copied.
 use super::script::key_of;
+use crate::lines::comes_to;
+use gate_items::Key;
 use std::alloc::Global;
 use std::process::Abort;
 use std::test::Fail;
 
 // Compares a key with that of each line, `KEY: true` where they are the same and `KEY: false` where they aren't.
 fn compare(rt: &impl Abort, alloc: Global, key: &str, lines: &str) -> Result<(), Fail> {
+    let key = key_of(alloc, key)?;
+    compare_lines(rt, alloc, &key, lines)
+}
+
+fn compare_lines(rt: &impl Abort, alloc: Global, key: &Key, lines: &str) -> Result<(), Fail> {
     for line in lines.lines() {
-        let (other, same) = line.trim().split_once(": ").ok_or("a key and a word")?;
-        let found = are_same(alloc, key, other)?;
-        assert_eq!(rt; found.as_str(), same, "{line}");
+        match line.split_once(": ") {
+            Some((other, same)) => compare_with(rt, alloc, key, other, same)?,
+            None => return Err(Fail::from("a key and a word")),
+        }
     }
     Ok(())
 }
 
+fn compare_with(
+    rt: &impl Abort,
+    alloc: Global,
+    key: &Key,
+    other: &str,
+    same: &str,
+) -> Result<(), Fail> {
+    let other_key = key_of(alloc, other)?;
+    comes_to(rt, other, are_same(key, &other_key), same);
+    Ok(())
+}
+
 // Whether two keys are the same, by either; they have to agree.
-fn are_same(alloc: Global, key: &str, other: &str) -> Result<String, Fail> {
-    let key = key_of(alloc, key)?;
-    let other = key_of(alloc, other)?;
-    let same = key.is_same(&other);
-    if other.is_same(&key) != same {
-        return Err(Fail::from("they agree"));
+fn are_same(key: &Key, other: &Key) -> &'static str {
+    match (key.is_same(other), other.is_same(key)) {
+        (true, true) => "true",
+        (false, false) => "false",
+        _ => "not agreed",
     }
-    Ok(format!(in alloc; "{same}")?)
 }
 
 #[test]
@@ -51,9 +69,17 @@ fn refs_are_compared_field_by_field(rt: HostRuntime) -> Result<(), Fail> {
 
 #[test]
 fn a_copy_is_the_same(rt: HostRuntime) -> Result<(), Fail> {
-    for line in ["ref 0 demo refs/heads/master 0123", "change 3 -1"] {
-        let key = key_of(rt.alloc(), line)?;
-        assert!(rt; key.copy(rt.alloc())?.is_same(&key), "{line}");
-    }
+    is_copied(&rt, rt.alloc(), "ref 0 demo refs/heads/master 0123")?;
+    is_copied(&rt, rt.alloc(), "change 3 -1")
+}
+
+fn is_copied(rt: &impl Abort, alloc: Global, line: &str) -> Result<(), Fail> {
+    let key = key_of(alloc, line)?;
+    has_copy(rt, alloc, &key)
+}
+
+fn has_copy(rt: &impl Abort, alloc: Global, key: &Key) -> Result<(), Fail> {
+    let copy = key.copy(alloc)?;
+    comes_to(rt, "a copy", are_same(key, &copy), "true");
     Ok(())
 }

@@ -1,13 +1,15 @@
 //! What a dependent pipeline finds after items left, were replaced and were renewed.
 use super::{check, play};
 use gate_items::{Items, ManagerKind};
-use std::alloc::Global;
+use std::alloc::{AllocError, Global};
 use std::process::Abort;
 use std::test::Fail;
 
-// Plays a script where changes 1 to 5 came, of which 2 was taken out and 3 has a newer patch set, which was reset.
-fn after_five(rt: &impl Abort, alloc: Global, script: &str) -> Result<(), Fail> {
-    let five = "
+// Changes 1 to 5 came, of which 2 was taken out and 3 has a newer patch set, which was reset.
+#[test]
+fn what_is_found_behind_five_changes(rt: HostRuntime) -> Result<(), Fail> {
+    let script = "
+        keys after a removal and a newer patch set: dependent 0 build
         trigger 1 1: Applied
         trigger 2 1: Applied
         trigger 3 1: Applied
@@ -15,24 +17,7 @@ fn after_five(rt: &impl Abort, alloc: Global, script: &str) -> Result<(), Fail> 
         trigger 5 1: Applied
         dequeue 2: Applied
         trigger 3 2: Applied
-        reset 3: Applied";
-    let whole = format!(in alloc; "{five}{script}")?;
-    check(
-        rt,
-        alloc,
-        ManagerKind::Dependent,
-        0,
-        "build",
-        whole.as_str(),
-    )
-}
-
-#[test]
-fn keys_after_a_removal_and_a_newer_patch_set(rt: HostRuntime) -> Result<(), Fail> {
-    after_five(
-        &rt,
-        rt.alloc(),
-        "
+        reset 3: Applied
         dequeue 2: Discarded(NoItem)
         reset 2: Discarded(NoItem)
         trigger 3 2: Discarded(Known)
@@ -43,16 +28,16 @@ fn keys_after_a_removal_and_a_newer_patch_set(rt: HostRuntime) -> Result<(), Fai
         item 4 1 set 8 build waiting
         item 5 1 set 9 build waiting
         item 3 2 set 11 build waiting
-        ",
-    )
-}
 
-#[test]
-fn keys_after_the_head_has_left(rt: HostRuntime) -> Result<(), Fail> {
-    after_five(
-        &rt,
-        rt.alloc(),
-        "
+        keys after the head has left: dependent 0 build
+        trigger 1 1: Applied
+        trigger 2 1: Applied
+        trigger 3 1: Applied
+        trigger 4 1: Applied
+        trigger 5 1: Applied
+        dequeue 2: Applied
+        trigger 3 2: Applied
+        reset 3: Applied
         ended 0 build success: Applied
         dequeue 1: Discarded(NoItem)
         trigger 1 1: Applied
@@ -63,16 +48,16 @@ fn keys_after_the_head_has_left(rt: HostRuntime) -> Result<(), Fail> {
         item 3 2 set 14 build waiting
         item 1 1 set 15 build waiting
         report 1 1 set 0 success
-        ",
-    )
-}
 
-#[test]
-fn results_after_renewals(rt: HostRuntime) -> Result<(), Fail> {
-    after_five(
-        &rt,
-        rt.alloc(),
-        "
+        results after renewals: dependent 0 build
+        trigger 1 1: Applied
+        trigger 2 1: Applied
+        trigger 3 1: Applied
+        trigger 4 1: Applied
+        trigger 5 1: Applied
+        dequeue 2: Applied
+        trigger 3 2: Applied
+        reset 3: Applied
         ended 4 build success: Discarded(NotCurrent)
         ended 10 build success: Discarded(NotCurrent)
         ended 9 build success: Applied
@@ -85,16 +70,16 @@ fn results_after_renewals(rt: HostRuntime) -> Result<(), Fail> {
         item 5 1 set 15 build waiting
         item 3 2 set 16 build waiting
         report 4 1 set 12 failure
-        ",
-    )
-}
 
-#[test]
-fn complete_items_wait_for_the_head(rt: HostRuntime) -> Result<(), Fail> {
-    after_five(
-        &rt,
-        rt.alloc(),
-        "
+        complete items wait for the head: dependent 0 build
+        trigger 1 1: Applied
+        trigger 2 1: Applied
+        trigger 3 1: Applied
+        trigger 4 1: Applied
+        trigger 5 1: Applied
+        dequeue 2: Applied
+        trigger 3 2: Applied
+        reset 3: Applied
         ended 8 build success: Applied
         ended 9 build success: Applied
         dequeue 3: Applied
@@ -106,35 +91,45 @@ fn complete_items_wait_for_the_head(rt: HostRuntime) -> Result<(), Fail> {
         report 1 1 set 0 success
         report 4 1 set 8 success
         report 5 1 set 9 success
-        ",
-    )
+    ";
+    check(&rt, rt.alloc(), script)
 }
 
 // Triggers patch set 1 of changes 1 to 40, each with this outcome.
 fn forty(rt: &impl Abort, alloc: Global, items: &mut Items, outcome: &str) -> Result<(), Fail> {
+    let script = forty_triggers(alloc, outcome)?;
+    play(rt, alloc, items, "build", script.as_str())
+}
+
+fn forty_triggers(alloc: Global, outcome: &str) -> Result<String, AllocError> {
     let mut script = String::new(alloc);
     for number in 1..41 {
-        let line = format!(in alloc; "trigger {number} 1: {outcome}\n")?;
-        script.push_str(line.as_str())?;
+        write!(script, "trigger {number} 1: {outcome}\n")?;
     }
-    play(rt, alloc, items, "build", script.as_str())
+    Ok(script)
 }
 
 // Changes 1 to 40 have sets 0 to 39, and from change 10 on then 40 to 70.
 #[test]
 fn each_set_and_each_key_of_forty(rt: HostRuntime) -> Result<(), Fail> {
-    let alloc = rt.alloc();
-    let mut items = Items::new(alloc, ManagerKind::Dependent, 0);
-    forty(&rt, alloc, &mut items, "Applied")?;
-    play(&rt, alloc, &mut items, "build", "reset 10: Applied")?;
+    let mut items = Items::new(rt.alloc(), ManagerKind::Dependent, 0);
+    each_of_forty(&rt, rt.alloc(), &mut items)
+}
+
+fn each_of_forty(rt: &impl Abort, alloc: Global, items: &mut Items) -> Result<(), Fail> {
+    forty(rt, alloc, items, "Applied")?;
+    play(rt, alloc, items, "build", "reset 10: Applied")?;
     for set in 0..80 {
-        let current = set < 9 || set >= 40 && set < 71;
-        assert_eq!(rt; items.current(set), current, "{set}");
+        is_current(rt, items, set, set < 9 || set >= 40 && set < 71);
     }
-    forty(&rt, alloc, &mut items, "Discarded(Known)")?;
+    forty(rt, alloc, items, "Discarded(Known)")?;
     let strangers = "
         dequeue 0: Discarded(NoItem)
         dequeue 41: Discarded(NoItem)
         ";
-    play(&rt, alloc, &mut items, "build", strangers)
+    play(rt, alloc, items, "build", strangers)
+}
+
+fn is_current(rt: &impl Abort, items: &Items, set: u64, wanted: bool) {
+    assert!(rt; items.current(set) == wanted, "{set}");
 }

@@ -6,9 +6,10 @@
 //! - `ended SET JOB success` and `ended SET JOB failure`
 //! - `dequeue KEY` and `reset KEY`
 //! - `current SET`, which asks whether an item has the build set
-use gate_items::{Action, Items, JobResult, Key, Manage};
-use gate_record::{ConnId, Sequence, Text};
-use std::alloc::Global;
+use crate::lines::word_and_rest;
+use gate_items::{Action, Items, JobResult, Key, Manage, QueueItem, Report};
+use gate_record::{ConnId, Memory, Sequence, Text};
+use std::alloc::{AllocError, Global};
 use std::test::Fail;
 
 // The acts of a script with what they come to, and what is left where it says so.
@@ -20,109 +21,180 @@ pub(super) fn played(
 ) -> Result<String, Fail> {
     let mut text = String::new(alloc);
     for line in script.lines() {
-        let come_to = play_line(alloc, items, jobs, line)?;
-        text.push_str(come_to.as_str())?;
+        play_line(alloc, &mut text, items, jobs, line)?;
     }
     Ok(text)
 }
 
-fn play_line(alloc: Global, items: &mut Items, jobs: &str, line: &str) -> Result<String, Fail> {
+fn play_line(
+    alloc: Global,
+    text: &mut String,
+    items: &mut Items,
+    jobs: &str,
+    line: &str,
+) -> Result<(), Fail> {
     if line == "left" {
-        return left(alloc, items);
+        return Ok(push_left(text, items)?);
     }
     match line.split_once(": ") {
-        Some((act, _)) => do_act(alloc, items, jobs, act),
-        None => Ok(String::new(alloc)),
+        Some((act, _)) => do_act(alloc, text, items, jobs, act),
+        None => Ok(()),
     }
 }
 
-fn do_act(alloc: Global, items: &mut Items, jobs: &str, act: &str) -> Result<String, Fail> {
-    if let Some(set) = act.strip_prefix("current ") {
-        let current = items.current(set.parse::<u64>()?);
-        return Ok(format!(in alloc; "{act}: {current}\n")?);
+fn do_act(
+    alloc: Global,
+    text: &mut String,
+    items: &mut Items,
+    jobs: &str,
+    act: &str,
+) -> Result<(), Fail> {
+    match word_and_rest(act) {
+        ("current", set) => ask_current(text, items, act, set),
+        _ => do_action(alloc, text, items, jobs, act),
     }
-    let outcome = items.apply(&action_of(alloc, jobs, act)?)?;
-    Ok(format!(in alloc; "{act}: {outcome:?}\n")?)
+}
+
+fn do_action(
+    alloc: Global,
+    text: &mut String,
+    items: &mut Items,
+    jobs: &str,
+    act: &str,
+) -> Result<(), Fail> {
+    let action = action_of(alloc, jobs, act)?;
+    apply(text, items, act, &action)
+}
+
+fn ask_current(text: &mut String, items: &Items, act: &str, set: &str) -> Result<(), Fail> {
+    let current = items.current(set_of(set)?);
+    Ok(write!(text, "{act}: {current}\n")?)
+}
+
+fn apply(text: &mut String, items: &mut Items, act: &str, action: &Action) -> Result<(), Fail> {
+    let outcome = items.apply(action)?;
+    Ok(write!(text, "{act}: {outcome:?}\n")?)
 }
 
 fn action_of(alloc: Global, jobs: &str, act: &str) -> Result<Action, Fail> {
-    let mut words = act;
-    match word(&mut words)? {
-        "keyless" => Ok(Action::Trigger(None, 1, texts(alloc, jobs)?)),
-        "jobless" => Ok(Action::Trigger(Some(key(alloc, &mut words)?), 1, Sequence::empty(alloc))),
-        "trigger" => trigger(alloc, jobs, &mut words),
-        "ended" => ended(alloc, &mut words),
-        "dequeue" => Ok(Action::Manage(Manage::Dequeue(key(alloc, &mut words)?))),
-        "reset" => Ok(Action::Manage(Manage::Reset(key(alloc, &mut words)?))),
+    let (verb, words) = word_and_rest(act);
+    match verb {
+        "keyless" => keyless(alloc, jobs),
+        "jobless" => jobless(alloc, words),
+        "trigger" => trigger(alloc, jobs, words),
+        "ended" => ended(alloc, words),
+        "dequeue" => dequeue(alloc, words),
+        "reset" => reset(alloc, words),
         _ => Err(Fail::from("an act")),
     }
 }
 
-fn trigger(alloc: Global, jobs: &str, words: &mut &str) -> Result<Action, Fail> {
-    let key = key(alloc, words)?;
-    let patchset = number(words)?;
-    Ok(Action::Trigger(Some(key), patchset, texts(alloc, jobs)?))
+fn keyless(alloc: Global, jobs: &str) -> Result<Action, Fail> {
+    Ok(Action::Trigger(None, 1, texts(alloc, jobs)?))
 }
 
-fn ended(alloc: Global, words: &mut &str) -> Result<Action, Fail> {
-    let set = word(words)?.parse::<u64>()?;
-    let job = Text::copy(alloc, word(words)?)?;
-    let success = match word(words)? {
-        "success" => true,
-        "failure" => false,
-        _ => return Err(Fail::from("an outcome of a job")),
-    };
+fn jobless(alloc: Global, key: &str) -> Result<Action, Fail> {
+    Ok(Action::Trigger(Some(key_of(alloc, key)?), 1, Sequence::empty(alloc)))
+}
+
+fn trigger(alloc: Global, jobs: &str, words: &str) -> Result<Action, Fail> {
+    match words.rsplit_once(' ') {
+        Some((key, patchset)) => trigger_with(texts(alloc, jobs)?, alloc, key, number(patchset)?),
+        None => Err(Fail::from("a key and a patch set")),
+    }
+}
+
+fn trigger_with(
+    jobs: Sequence<Text>,
+    alloc: Global,
+    key: &str,
+    patchset: i64,
+) -> Result<Action, Fail> {
+    Ok(Action::Trigger(Some(key_of(alloc, key)?), patchset, jobs))
+}
+
+fn dequeue(alloc: Global, key: &str) -> Result<Action, Fail> {
+    Ok(Action::Manage(Manage::Dequeue(key_of(alloc, key)?)))
+}
+
+fn reset(alloc: Global, key: &str) -> Result<Action, Fail> {
+    Ok(Action::Manage(Manage::Reset(key_of(alloc, key)?)))
+}
+
+fn ended(alloc: Global, words: &str) -> Result<Action, Fail> {
+    let (set, rest) = word_and_rest(words);
+    let (job, outcome) = word_and_rest(rest);
+    let set = set_of(set)?;
+    let success = is_success(outcome)?;
+    let job = Text::copy(alloc, job)?;
     Ok(Action::Result(JobResult { set, job, success }))
 }
 
-// The key of one line.
-pub(super) fn key_of(alloc: Global, line: &str) -> Result<Key, Fail> {
-    let mut words = line.trim();
-    key(alloc, &mut words)
+fn set_of(word: &str) -> Result<u64, Fail> {
+    Ok(word.parse::<u64>()?)
 }
 
-fn key(alloc: Global, words: &mut &str) -> Result<Key, Fail> {
-    match word(words)? {
-        "ref" => ref_key(alloc, words),
-        "change" => Ok(change(conn(words)?, number(words)?)),
-        other => Ok(change(ConnId(0), other.parse::<i64>()?)),
+fn is_success(outcome: &str) -> Result<bool, Fail> {
+    match outcome {
+        "success" => Ok(true),
+        "failure" => Ok(false),
+        _ => Err(Fail::from("an outcome of a job")),
     }
 }
 
-fn change(conn: ConnId, number: i64) -> Key {
-    Key::Change { conn, number }
+// A key as a script has it.
+pub(super) fn key_of(alloc: Global, text: &str) -> Result<Key, Fail> {
+    let (word, rest) = word_and_rest(text.trim());
+    match word {
+        "ref" => ref_key(alloc, rest),
+        "change" => change_key(rest),
+        number => change("0", number),
+    }
 }
 
-fn ref_key(alloc: Global, words: &mut &str) -> Result<Key, Fail> {
-    let conn = conn(words)?;
-    let project = Text::copy(alloc, word(words)?)?;
-    let refname = Text::copy(alloc, word(words)?)?;
-    let newrev = Text::copy(alloc, word(words)?)?;
-    Ok(Key::Ref {
-        conn,
-        project,
-        refname,
-        newrev,
+fn change_key(words: &str) -> Result<Key, Fail> {
+    let (conn, number) = word_and_rest(words);
+    change(conn, number)
+}
+
+fn change(conn: &str, word: &str) -> Result<Key, Fail> {
+    Ok(Key::Change {
+        conn: conn_of(conn)?,
+        number: number(word)?,
     })
 }
 
-// The next word, without which the others are left.
-fn word<'a>(words: &mut &'a str) -> Result<&'a str, Fail> {
-    let text: &'a str = *words;
-    let (word, rest) = text.split_once(' ').unwrap_or((text, ""));
-    *words = rest;
-    if word.is_empty() {
-        return Err(Fail::from("a word"));
+fn ref_key(alloc: Global, words: &str) -> Result<Key, Fail> {
+    let (conn, rest) = word_and_rest(words);
+    let (project, rest) = word_and_rest(rest);
+    let (refname, newrev) = word_and_rest(rest);
+    if newrev.is_empty() {
+        return Err(Fail::from("a new revision"));
     }
-    Ok(word)
+    Ok(ref_of(alloc, conn_of(conn)?, project, refname, newrev)?)
 }
 
-fn number(words: &mut &str) -> Result<i64, Fail> {
-    Ok(word(words)?.parse::<i64>()?)
+fn ref_of(
+    alloc: Global,
+    conn: ConnId,
+    project: &str,
+    refname: &str,
+    newrev: &str,
+) -> Result<Key, Memory> {
+    Ok(Key::Ref {
+        conn,
+        project: Text::copy(alloc, project)?,
+        refname: Text::copy(alloc, refname)?,
+        newrev: Text::copy(alloc, newrev)?,
+    })
 }
 
-fn conn(words: &mut &str) -> Result<ConnId, Fail> {
-    Ok(ConnId(word(words)?.parse::<u32>()?))
+fn number(word: &str) -> Result<i64, Fail> {
+    Ok(word.parse::<i64>()?)
+}
+
+fn conn_of(word: &str) -> Result<ConnId, Fail> {
+    Ok(ConnId(word.parse::<u32>()?))
 }
 
 fn texts(alloc: Global, names: &str) -> Result<Sequence<Text>, Fail> {
@@ -134,33 +206,36 @@ fn texts(alloc: Global, names: &str) -> Result<Sequence<Text>, Fail> {
 }
 
 // A line `left`, and one for each item and each report.
-fn left(alloc: Global, items: &Items) -> Result<String, Fail> {
-    let mut text = String::from_str(alloc, "left\n")?;
+fn push_left(text: &mut String, items: &Items) -> Result<(), AllocError> {
+    text.push_str("left\n")?;
     for item in items.items() {
-        let key = key_text(alloc, &item.key)?;
-        let jobs = jobs_text(alloc, item.jobs.as_slice())?;
-        let line = format!(in alloc; "item {key} {} set {}{jobs}\n", item.patchset, item.set)?;
-        text.push_str(line.as_str())?;
+        push_item(text, item)?;
     }
     for report in items.reported() {
-        let key = key_text(alloc, &report.key)?;
-        let state = state(Some(report.success));
-        let line = format!(in alloc;
-            "report {key} {} set {} {state}\n",
-            report.patchset, report.set
-        )?;
-        text.push_str(line.as_str())?;
+        push_report(text, report)?;
     }
-    Ok(text)
+    Ok(())
 }
 
-fn jobs_text(alloc: Global, jobs: &[(Text, Option<bool>)]) -> Result<String, Fail> {
-    let mut text = String::new(alloc);
+fn push_item(text: &mut String, item: &QueueItem) -> Result<(), AllocError> {
+    text.push_str("item ")?;
+    push_key(text, &item.key)?;
+    write!(text, " {} set {}", item.patchset, item.set)?;
+    push_jobs(text, item.jobs.as_slice())
+}
+
+fn push_jobs(text: &mut String, jobs: &[(Text, Option<bool>)]) -> Result<(), AllocError> {
     for (name, outcome) in jobs {
-        let job = format!(in alloc; " {} {}", name.as_str(), state(*outcome))?;
-        text.push_str(job.as_str())?;
+        write!(text, " {} {}", name.as_str(), state(*outcome))?;
     }
-    Ok(text)
+    text.push_str("\n")
+}
+
+fn push_report(text: &mut String, report: &Report) -> Result<(), AllocError> {
+    text.push_str("report ")?;
+    push_key(text, &report.key)?;
+    let state = state(Some(report.success));
+    write!(text, " {} set {} {state}\n", report.patchset, report.set)
 }
 
 fn state(outcome: Option<bool>) -> &'static str {
@@ -171,9 +246,13 @@ fn state(outcome: Option<bool>) -> &'static str {
     }
 }
 
-fn key_text(alloc: Global, key: &Key) -> Result<String, Fail> {
+fn push_key(text: &mut String, key: &Key) -> Result<(), AllocError> {
     match key {
-        Key::Change { conn, number } => change_text(alloc, conn.0, *number),
+        Key::Change {
+            conn: ConnId(0),
+            number,
+        } => write!(text, "{number}"),
+        Key::Change { conn, number } => write!(text, "change {} {number}", conn.0),
         Key::Ref {
             conn,
             project,
@@ -181,19 +260,12 @@ fn key_text(alloc: Global, key: &Key) -> Result<String, Fail> {
             newrev,
         } => {
             let names = [project.as_str(), refname.as_str(), newrev.as_str()];
-            ref_text(alloc, conn.0, names)
+            push_ref(text, conn.0, names)
         }
     }
 }
 
-fn change_text(alloc: Global, conn: u32, number: i64) -> Result<String, Fail> {
-    if conn == 0 {
-        return Ok(format!(in alloc; "{number}")?);
-    }
-    Ok(format!(in alloc; "change {conn} {number}")?)
-}
-
-fn ref_text(alloc: Global, conn: u32, names: [&str; 3]) -> Result<String, Fail> {
+fn push_ref(text: &mut String, conn: u32, names: [&str; 3]) -> Result<(), AllocError> {
     let [project, refname, newrev] = names;
-    Ok(format!(in alloc; "ref {conn} {project} {refname} {newrev}")?)
+    write!(text, "ref {conn} {project} {refname} {newrev}")
 }

@@ -1,91 +1,148 @@
-//! Turns of the independent pipeline, as scripts. The turns, and what each comes to: the outcome of its action or, where
-//! nothing is said, the empty text:
+//! The turns of a script, and what each comes to; where that isn't said, it is the empty text:
 //!
 //! - `empty`: the queue is empty; `end`: the end mark is taken
-//! - `dequeue NUMBER`, of a change of connection 0, and `ended SET JOB`, for a job that succeeded
+//! - `event JSON`, of a record, comes to what its trigger asks for: its key, its patch set and its jobs
+//! - `dequeue NUMBER`, of a change of connection 0, and `ended SET JOB`, for a job that succeeded, come to the outcomes of
+//!   their actions
 //! - `wants`, `finished` and `done`, how many events were processed, come to what they ask
-use super::*;
-use crate::lines::step_of;
-use gate_items::Key;
-use gate_pipeline::PHASE;
-use gate_record::{ConnId, Text};
-use std::process::Abort;
+ghost use Rattle.std.specs.Prelude.{◌≡◌};
+ghost use Rattle.gate_pipeline.specs.States.{asked, next_of};
 
-// Plays a script from the start of the pipeline.
-fn play(rt: &impl Abort, alloc: Global, script: &str) -> Result<(), Fail> {
-    let config = config(alloc)?;
-    let mut pipeline = Pipeline::new(alloc, &config, MAIN, CHECK);
-    play_over(rt, alloc, &mut pipeline, &config, script)
+use crate::lines::word_and_rest;
+use crate::records::event_of;
+use gate_config::Config;
+use gate_items::{Action, JobResult, Key, Manage, Outcome};
+use gate_pipeline::{Pipeline, Taken, Which};
+use gate_record::{ConnId, PipelineItem, Shared, Stamp, Stamped, Text};
+use std::alloc::{AllocError, Global};
+use std::test::Fail;
+
+// What the pipeline makes of a taking, and its outcome; nothing for the end mark.
+type Processed = Option<(Option<Stamp>, Action, Outcome)>;
+
+pub(super) fn take(
+    alloc: Global,
+    worker: &mut Pipeline,
+    config: &Config,
+    turn: &str,
+) -> Result<String, Fail> {
+    let mut text = String::new(alloc);
+    push_turn(alloc, &mut text, worker, config, turn)?;
+    Ok(text)
 }
 
-// Takes each turn of a script, and compares what it comes to with what stands behind the arrow.
-fn play_over(
-    rt: &impl Abort,
+fn push_turn(
     alloc: Global,
-    pipeline: &mut Pipeline,
+    text: &mut String,
+    worker: &mut Pipeline,
     config: &Config,
-    script: &str,
+    turn: &str,
 ) -> Result<(), Fail> {
-    for line in script.trim().lines() {
-        let (act, wanted) = step_of(line);
-        let found = turn(alloc, pipeline, config, act)?;
-        assert_eq!(rt; found.as_str(), wanted, "{line}");
-    }
-    Ok(())
-}
-
-fn turn(
-    alloc: Global,
-    pipeline: &mut Pipeline,
-    config: &Config,
-    act: &str,
-) -> Result<String, Fail> {
-    let (verb, rest) = act.split_once(' ').unwrap_or((act, ""));
+    let (verb, rest) = word_and_rest(turn);
     match verb {
-        "empty" => {
-            found_empty(pipeline)?;
-            Ok(String::new(alloc))
-        }
-        "end" => take_end(alloc, pipeline, config),
-        "dequeue" => take_dequeue(alloc, pipeline, config, rest),
-        "ended" => take_ended(alloc, pipeline, config, rest),
-        "wants" => Ok(format!(in alloc; "{:?}", pipeline.wants())?),
-        "finished" => Ok(format!(in alloc; "{}", pipeline.finished())?),
-        "done" => Ok(format!(in alloc; "{}", pipeline.done().len())?),
-        _ => Err(Fail::from("a turn")),
+        "empty" => found_empty(worker),
+        "end" => trigger(text, worker, config, PipelineItem::End),
+        "event" => take_event(alloc, text, worker, config, rest),
+        "dequeue" => manage(text, worker, config, dequeue(rest)?),
+        "ended" => take_ended(alloc, text, worker, config, rest),
+        _ => push_asked(text, worker, verb),
     }
 }
 
-fn take_end(alloc: Global, pipeline: &mut Pipeline, config: &Config) -> Result<String, Fail> {
-    let processed = trigger(pipeline, config, PipelineItem::End)?;
-    outcome(alloc, &processed)
-}
-
-fn take_dequeue(
+fn take_event(
     alloc: Global,
-    pipeline: &mut Pipeline,
+    text: &mut String,
+    worker: &mut Pipeline,
     config: &Config,
-    number: &str,
-) -> Result<String, Fail> {
-    let processed = manage(pipeline, config, dequeue(number)?)?;
-    outcome(alloc, &processed)
+    line: &str,
+) -> Result<(), Fail> {
+    let item = item_of(alloc, line)?;
+    trigger(text, worker, config, item)
 }
 
 fn take_ended(
     alloc: Global,
-    pipeline: &mut Pipeline,
+    text: &mut String,
+    worker: &mut Pipeline,
     config: &Config,
     words: &str,
-) -> Result<String, Fail> {
-    let processed = ended(pipeline, config, succeeded(alloc, words)?)?;
-    outcome(alloc, &processed)
+) -> Result<(), Fail> {
+    let result = succeeded(alloc, words)?;
+    ended(text, worker, config, result)
 }
 
-fn outcome(alloc: Global, processed: &Processed) -> Result<String, Fail> {
-    match processed {
-        Some((_, _, outcome)) => Ok(format!(in alloc; "{outcome:?}")?),
-        None => Ok(String::new(alloc)),
+fn push_asked(text: &mut String, worker: &Pipeline, word: &str) -> Result<(), Fail> {
+    match word {
+        "wants" => Ok(write!(text, "{:?}", worker.wants())?),
+        "finished" => Ok(write!(text, "{}", worker.finished())?),
+        "done" => Ok(write!(text, "{}", worker.done().len())?),
+        _ => Err(Fail::from("a turn")),
     }
+}
+
+fn found_empty(worker: &mut Pipeline) -> Result<(), Fail> {
+    match worker.wants() {
+        Which::Management => worker.found_empty(),
+        Which::Result => worker.found_empty(),
+        Which::Trigger => worker.found_empty(),
+        _ => return Err(Fail::from("the pipeline wants no queue")),
+    }
+    Ok(())
+}
+
+// Takes what the pipeline asks for.
+fn took(text: &mut String, worker: &mut Pipeline, config: &Config, given: Taken) -> Result<(), Fail>
+    requires asked { next_of worker.old ≡ asked given }
+{
+    let processed = worker.took(config, given)?;
+    push_processed(text, &processed)
+}
+
+// Takes an operator's wish, if the pipeline wants one.
+fn manage(
+    text: &mut String,
+    worker: &mut Pipeline,
+    config: &Config,
+    manage: Manage,
+) -> Result<(), Fail> {
+    match worker.wants() {
+        Which::Management => took(text, worker, config, Taken::Manage(manage)),
+        _ => Err(Fail::from("the pipeline wants another queue")),
+    }
+}
+
+fn ended(
+    text: &mut String,
+    worker: &mut Pipeline,
+    config: &Config,
+    ended: JobResult,
+) -> Result<(), Fail> {
+    match worker.wants() {
+        Which::Result => took(text, worker, config, Taken::Result(ended)),
+        _ => Err(Fail::from("the pipeline wants another queue")),
+    }
+}
+
+fn trigger(
+    text: &mut String,
+    worker: &mut Pipeline,
+    config: &Config,
+    item: PipelineItem,
+) -> Result<(), Fail> {
+    match worker.wants() {
+        Which::Trigger => took(text, worker, config, Taken::Trigger(item)),
+        _ => Err(Fail::from("the pipeline wants another queue")),
+    }
+}
+
+// The event of a record, with a stamp.
+fn item_of(alloc: Global, line: &str) -> Result<PipelineItem, Fail> {
+    let stamp = Stamp {
+        conn: ConnId(0),
+        number: 3,
+    };
+    let event = Shared::new(alloc, event_of(alloc, line)?)?;
+    Ok(PipelineItem::Event(Stamped { stamp, event }))
 }
 
 fn dequeue(number: &str) -> Result<Manage, Fail> {
@@ -96,46 +153,62 @@ fn dequeue(number: &str) -> Result<Manage, Fail> {
 }
 
 fn succeeded(alloc: Global, words: &str) -> Result<JobResult, Fail> {
-    let (set, job) = words.split_once(' ').ok_or("a build set and a job")?;
+    let (set, job) = word_and_rest(words);
+    let set = set.parse::<u64>()?;
     Ok(JobResult {
-        set: set.parse::<u64>()?,
+        set,
         job: Text::copy(alloc, job)?,
         success: true,
     })
 }
 
-// As many results of a build set that is no item's as a phase takes.
-fn late_results(alloc: Global) -> Result<String, Fail> {
-    let mut script = String::new(alloc);
-    for _ in 0..PHASE {
-        script.push_str("ended 5 build -> Discarded(NotCurrent)\n")?;
+fn push_processed(text: &mut String, processed: &Processed) -> Result<(), Fail> {
+    match processed {
+        None => Ok(()),
+        Some((_, action, outcome)) => Ok(push_action(text, action, outcome)?),
     }
-    Ok(script)
 }
 
-#[test]
-fn moves_on_after_a_whole_phase(rt: HostRuntime) -> Result<(), Fail> {
-    let late = late_results(rt.alloc())?;
-    let script = format!(in rt.alloc();
-        "
-        dequeue 9 -> Discarded(NoItem)
-        empty
-        {late}wants -> Trigger
-    "
-    )?;
-    play(&rt, rt.alloc(), script.as_str())
+fn push_action(text: &mut String, action: &Action, outcome: &Outcome) -> Result<(), AllocError> {
+    match action {
+        Action::Trigger(key, patchset, jobs) => push_trigger(text, key, *patchset, jobs.as_slice()),
+        _ => write!(text, "{outcome:?}"),
+    }
 }
 
-#[test]
-fn finishes_with_the_end_mark(rt: HostRuntime) -> Result<(), Fail> {
-    let script = "
-        empty
-        empty
-        finished -> false
-        end
-        finished -> true
-        wants -> Finished
-        done -> 0
-    ";
-    play(&rt, rt.alloc(), script)
+fn push_trigger(
+    text: &mut String,
+    key: &Option<Key>,
+    patchset: i64,
+    jobs: &[Text],
+) -> Result<(), AllocError> {
+    push_key(text, key)?;
+    write!(text, " {patchset}")?;
+    for job in jobs {
+        write!(text, " {}", job.as_str())?;
+    }
+    Ok(())
+}
+
+fn push_key(text: &mut String, key: &Option<Key>) -> Result<(), AllocError> {
+    match key {
+        None => text.push_str("none"),
+        Some(Key::Change { conn, number }) => write!(text, "change {} {number}", conn.0),
+        Some(
+            Key::Ref {
+                conn,
+                project,
+                refname,
+                newrev,
+            },
+        ) => {
+            let names = [newrev.as_str(), refname.as_str(), project.as_str()];
+            push_ref(text, conn.0, names)
+        }
+    }
+}
+
+fn push_ref(text: &mut String, conn: u32, names: [&str; 3]) -> Result<(), AllocError> {
+    let [newrev, refname, project] = names;
+    write!(text, "ref {conn} {newrev} {refname} {project}")
 }

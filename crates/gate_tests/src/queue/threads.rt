@@ -3,8 +3,10 @@ ghost use Rattle.std.specs.Prelude.{◌≡◌, [], ◌++◌, IfOk};
 ghost use Rattle.gate_queue.specs.Seats.{IsTailOf, IsHeadOf, AreAllTailsOf};
 ghost use Rattle.gate_queue.specs.States.{IsDelivered};
 
+use crate::lines::comes_to;
 use gate_queue::{EventQueue, Head, Tagged, Tail, open};
 use std::alloc::{AllocError, Global};
+use std::process::Abort;
 use std::sync::Wait;
 use std::test::Fail;
 use std::thread;
@@ -54,18 +56,25 @@ fn take_all<R: Wait>(
     (head, taken)
 }
 
-// Whether the values of this sender are 0, 1 and so on, below `count`.
-fn is_in_order(all: &[Tagged<u64>], sender: usize, count: u64) -> bool {
-    let mut next = 0u64;
+// The value that comes next of this sender, if its values are `next` and so on, below `count`.
+fn next_in_order(all: &[Tagged<u64>], sender: usize, mut next: u64, count: u64) -> Option<u64> {
     for item in all {
         if item.sender == sender {
             if item.value != next || next >= count {
-                return false;
+                return None;
             }
             next += 1;
         }
     }
-    next == count
+    Some(next)
+}
+
+// Whether the values of this sender, those that were taken and those that wait, are 0, 1 and so on, below `count`.
+fn is_in_order(taken: &[Tagged<u64>], rest: &[Tagged<u64>], sender: usize, count: u64) -> bool {
+    match next_in_order(taken, sender, 0, count) {
+        Some(next) => next_in_order(rest, sender, next, count) == Some(count),
+        None => false,
+    }
 }
 
 // Two threads put.
@@ -161,19 +170,18 @@ fn two_put<R: Threads + Wait + Sync>(
 #[test]
 fn two_put_while_one_takes(rt: HostRuntime) -> Result<(), Fail> {
     let numbers: Vec<u64> = (0..1000).collect(rt.alloc())?;
-    let (mut taken, rest) = two_put(
-        &rt,
-        rt.alloc(),
-        numbers.as_slice(),
-        numbers.as_slice(),
-        1990,
-    )?;
-    assert_eq!(rt; (taken.len(), rest.len()), (1990, 10));
-    for item in rest {
-        taken.push(item)?;
-    }
-    assert!(rt; is_in_order(taken.as_slice(), 0, 1000));
-    assert!(rt; is_in_order(taken.as_slice(), 1, 1000));
+    both_arrive(&rt, rt.alloc(), numbers.as_slice())
+}
+
+fn both_arrive<R: Threads + Wait + Abort + Sync>(
+    rt: &R,
+    alloc: Global,
+    thousand: &[u64],
+) -> Result<(), Fail> {
+    let (taken, rest) = two_put(rt, alloc, thousand, thousand, 1990)?;
+    assert!(rt; (taken.len(), rest.len()) == (1990, 10));
+    assert!(rt; is_in_order(taken.as_slice(), rest.as_slice(), 0, 1000));
+    assert!(rt; is_in_order(taken.as_slice(), rest.as_slice(), 1, 1000));
     Ok(())
 }
 
@@ -205,10 +213,18 @@ fn all_put<R: Threads + Wait + Sync>(
 #[test]
 fn four_put_to_the_end(rt: HostRuntime) -> Result<(), Fail> {
     let numbers: Vec<u64> = (0..50_000).collect(rt.alloc())?;
-    let (taken, rest) = all_put(&rt, rt.alloc(), 4, numbers.as_slice(), 200_000)?;
-    assert_eq!(rt; (taken.len(), rest.len()), (200_000, 0));
+    all_arrive(&rt, rt.alloc(), numbers.as_slice())
+}
+
+fn all_arrive<R: Threads + Wait + Abort + Sync>(
+    rt: &R,
+    alloc: Global,
+    each: &[u64],
+) -> Result<(), Fail> {
+    let (taken, rest) = all_put(rt, alloc, 4, each, 200_000)?;
+    assert!(rt; (taken.len(), rest.len()) == (200_000, 0));
     for sender in 0..4 {
-        assert!(rt; is_in_order(taken.as_slice(), sender, 50_000));
+        assert!(rt; is_in_order(taken.as_slice(), rest.as_slice(), sender, 50_000));
     }
     Ok(())
 }
@@ -251,6 +267,6 @@ fn next<T, R: Wait>(rt: &R, queue: &EventQueue<T>, head: &mut Head<T>) -> T
 fn hands_over_a_text(rt: HostRuntime) -> Result<(), Fail> {
     let text = String::from_str(rt.alloc(), "recheck")?;
     let got = hand_over(&rt, rt.alloc(), text)?;
-    assert_eq!(rt; got.as_str(), "recheck");
+    comes_to(&rt, "handed over", got.as_str(), "recheck");
     Ok(())
 }

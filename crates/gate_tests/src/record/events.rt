@@ -4,8 +4,9 @@ use super::play;
 use std::test::Fail;
 
 #[test]
-fn reads_changes_with_an_account(rt: HostRuntime) -> Result<(), Fail> {
+fn reads_each_type(rt: HostRuntime) -> Result<(), Fail> {
     let script = r#"
+        # reads changes with an account
         read {"uploader":{"name":"Dana Okafor","email":"dana.okafor@example.org","username":"dokafor"},"patchSet":{"number":7,"revision":"9c41e6f0d2b85a7731fe04c6b9d8a25e7f1380bc","parents":["3f0d9be27c5a18446de1b7a0952fc8e3d16b7a08"],"ref":"refs/changes/12/874312/7","uploader":{"name":"Dana Okafor","email":"dana.okafor@example.org","username":"dokafor"},"createdOn":1676467815,"author":{"name":"Dana Okafor","email":"dana.okafor@example.org","username":"dokafor"},"kind":"REWORK","sizeInsertions":412,"sizeDeletions":-97},"change":{"project":"openstack/nova","branch":"master","topic":"bp/ordered-volume-detach","id":"I5b1f7d0c9a3e4f62814d0b7c6a9e8f3d2c1b0a49","number":874312,"subject":"Detach volumes in the order of their attachment","owner":{"name":"Dana Okafor","email":"dana.okafor@example.org","username":"dokafor"},"url":"https://review.example.org/c/openstack/nova/+/874312","commitMessage":"Detach volumes in the order of their attachment\n\nThe compute manager walks the block device mappings of an instance in\nwhatever order the database gives them. Where two volumes share a\nmultipath device, detaching the first one\u0027s parent while its child is\nstill open leaves a stale path behind, and the next attach on the same\nhost waits for udev until its timeout.\n\nSort the mappings by the time of their attachment, the newest first,\nand detach them one by one. A volume that can\u0027t be detached is kept in\nthe list with its error, so that a later call can try it again, and\nthose behind it are still detached.\n\nThe functional test attaches three volumes, fails the second one with\nan injected \"DeviceBusy\", and expects that the third and the first are\ngone while the second one is reported as `error_detaching`.\n\nThe new option [compute]/volume_detach_order is either `attachment`\n(the default) or `database`, which keeps what older releases did. An\noperator who sets it sees a warning at start-up, since it is going to\nbe dropped in the release after next.\n\nCloses-Bug: #2031847\nRelated-Bug: #1998274\nImplements: blueprint ordered-volume-detach\nDepends-On: https://review.example.org/c/openstack/os-brick/+/873990\nChange-Id: I5b1f7d0c9a3e4f62814d0b7c6a9e8f3d2c1b0a49\n","hashtags":["volumes","review-priority"],"createdOn":1674741022,"lastUpdated":1676467815,"open":true,"status":"NEW"},"type":"patchset-created","eventCreatedOn":1676467816}
         kind "patchset-created"
         project "openstack/nova"
@@ -53,13 +54,8 @@ fn reads_changes_with_an_account(rt: HostRuntime) -> Result<(), Fail> {
         patchset 2
         username "tohara"
         email "tom@example.com"
-    "#;
-    play(&rt, rt.alloc(), script)
-}
 
-#[test]
-fn reads_changes_without_an_account(rt: HostRuntime) -> Result<(), Fail> {
-    let script = r#"
+        # reads changes without an account
         read {"deleter":{"name":"Dana Okafor","email":"dana.okafor@example.org","username":"dokafor"},"change":{"project":"openstack/sandbox","branch":"master","id":"I8d4c01e7b9f2a365d0be7148c3fa9602e5b7d1c8","number":874402,"subject":"DNM: does the gate still work?","owner":{"name":"Dana Okafor","email":"dana.okafor@example.org","username":"dokafor"},"url":"https://review.example.org/c/openstack/sandbox/+/874402","commitMessage":"DNM: does the gate still work?\n\nChange-Id: I8d4c01e7b9f2a365d0be7148c3fa9602e5b7d1c8\n","createdOn":1676475001,"lastUpdated":1676476218,"open":true,"status":"NEW","wip":true},"type":"change-deleted","eventCreatedOn":1676476218}
         kind "change-deleted"
         project "openstack/sandbox"
@@ -97,13 +93,8 @@ fn reads_changes_without_an_account(rt: HostRuntime) -> Result<(), Fail> {
         project "openstack/swift"
         branch "feature/losf"
         change 640281
-    "#;
-    play(&rt, rt.alloc(), script)
-}
 
-#[test]
-fn reads_reviewers(rt: HostRuntime) -> Result<(), Fail> {
-    let script = r#"
+        # reads reviewers
         read {"reviewer":{"name":"Inês Carvalho","email":"ines.carvalho@example.org","username":"inesc"},"adder":{"name":"Pavel Kříž","email":"pkriz@example.net","username":"pkriz"},"patchSet":{"number":5,"revision":"18d6fa0b73ce9452e7b01d84c96f35a2d0be7c49","parents":["94c0de71bf5a8236e1d70bc4f8a9356207ed18bf"],"ref":"refs/changes/18/872818/5","uploader":{"name":"Pavel Kříž","email":"pkriz@example.net","username":"pkriz"},"createdOn":1676300912,"author":{"name":"Pavel Kříž","email":"pkriz@example.net","username":"pkriz"},"kind":"MERGE_FIRST_PARENT_UPDATE","sizeInsertions":140,"sizeDeletions":-22},"change":{"project":"openstack/ironic","branch":"bugfix/21.2","topic":"story/2010576","id":"I6fb2c9d81e07a354be90d7c1f2a8354b6d0e97c3","number":872818,"subject":"Power off before the BIOS settings are applied","owner":{"name":"Pavel Kříž","email":"pkriz@example.net","username":"pkriz"},"url":"https://review.example.org/c/openstack/ironic/+/872818","commitMessage":"Power off before the BIOS settings are applied\n\nStory: 2010576\nTask: 47312\nChange-Id: I6fb2c9d81e07a354be90d7c1f2a8354b6d0e97c3\n","createdOn":1675339876,"lastUpdated":1676477040,"open":true,"status":"NEW"},"type":"reviewer-added","eventCreatedOn":1676477040}
         kind "reviewer-added"
         project "openstack/ironic"
@@ -129,13 +120,8 @@ fn reads_reviewers(rt: HostRuntime) -> Result<(), Fail> {
         patchset 10
         comment "Removed Code-Review-2 by Dana Okafor <dana.okafor@example.org>\n"
         approval "code-review" 0
-    "#;
-    play(&rt, rt.alloc(), script)
-}
 
-#[test]
-fn reads_refs_and_the_rest(rt: HostRuntime) -> Result<(), Fail> {
-    let script = r#"
+        # reads refs and the rest
         read {"submitter":{"name":"Release Team","email":"release@example.org","username":"release-bot"},"refUpdate":{"oldRev":"0000000000000000000000000000000000000000","newRev":"2e9c7d04f8b15a63c0ad94e7f16b8352dd07be41","refName":"refs/tags/21.2.0","project":"openstack/cinder"},"type":"ref-updated","eventCreatedOn":1676476777}
         kind "ref-updated"
         project "openstack/cinder"

@@ -1,30 +1,44 @@
 //! What is a number, and what isn't.
 use super::check;
-use crate::lines::halves;
+use crate::lines::{comes_to, halves};
 use gate_record::{number_of_text, read_number};
 use serde_json::Value;
-use std::alloc::Global;
+use std::alloc::{AllocError, Global};
 use std::process::Abort;
 use std::test::Fail;
 
 // Sees which number a JSON value is, by itself and as the number of a change.
 fn is_number(rt: &impl Abort, alloc: Global, json: &str, wanted: &str) -> Result<(), Fail> {
-    let value = Value::from_str(alloc, json)?;
-    let found = format!(in alloc; "{:?}", read_number(&value))?;
-    assert_eq!(rt; found.as_str(), wanted, "at {json}");
+    is_value(rt, alloc, json, wanted)?;
     is_change(rt, alloc, json, wanted)
+}
+
+fn is_value(rt: &impl Abort, alloc: Global, json: &str, wanted: &str) -> Result<(), Fail> {
+    let value = Value::from_str(alloc, json)?;
+    is_read(rt, alloc, read_number(&value), wanted)
+}
+
+fn is_read(rt: &impl Abort, alloc: Global, number: Option<i64>, wanted: &str) -> Result<(), Fail> {
+    let found = format!(in alloc; "{number:?}")?;
+    comes_to(rt, "a number", found.as_str(), wanted);
+    Ok(())
 }
 
 fn is_change(rt: &impl Abort, alloc: Global, json: &str, wanted: &str) -> Result<(), Fail> {
     let line = format!(in alloc; r#"{{"type":"a","change":{{"number":{json}}}}}"#)?;
-    let number = wanted
-        .strip_prefix("Some(")
-        .and_then(|rest| rest.strip_suffix(")"));
-    let wanted = match number {
-        Some(number) => format!(in alloc; "kind \"a\"\nchange {number}\n")?,
-        None => String::from_str(alloc, "kind \"a\"\n")?,
-    };
+    let wanted = change_text(alloc, wanted)?;
     check(rt, alloc, line.as_bytes(), wanted.as_str())
+}
+
+// An event whose change has the number that `Some(..)` holds, if any.
+fn change_text(alloc: Global, number: &str) -> Result<String, AllocError> {
+    match number.strip_prefix("Some(") {
+        Some(number) => {
+            let number = number.trim_end_matches(')');
+            format!(in alloc; "kind \"a\"\nchange {number}\n")
+        }
+        None => String::from_str(alloc, "kind \"a\"\n"),
+    }
 }
 
 #[test]
@@ -65,7 +79,7 @@ fn reads_numbers(rt: HostRuntime) -> Result<(), Fail> {
         "٣" -> None
     "#;
     for line in table.trim().lines() {
-        let (json, wanted) = halves(line)?;
+        let (json, wanted) = halves(line);
         is_number(&rt, rt.alloc(), json, wanted)?;
     }
     Ok(())
@@ -73,7 +87,10 @@ fn reads_numbers(rt: HostRuntime) -> Result<(), Fail> {
 
 #[test]
 fn reads_numbers_of_texts(rt: HostRuntime) {
-    assert_eq!(rt; number_of_text("+7"), Some(7));
-    assert_eq!(rt; number_of_text("-007"), Some(-7));
-    assert_eq!(rt; number_of_text("7 "), None);
+    let found = (
+        number_of_text("+7"),
+        number_of_text("-007"),
+        number_of_text("7 "),
+    );
+    assert_eq!(rt; found, (Some(7), Some(-7), None));
 }

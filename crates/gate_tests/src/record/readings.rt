@@ -1,12 +1,15 @@
 //! What records are read as, by their form.
 use super::{check, play, shown};
+use crate::lines::comes_to;
 use gate_record::Record;
 use std::alloc::{AllocError, Global};
+use std::process::Abort;
 use std::test::Fail;
 
 #[test]
-fn tells_why_there_is_no_event(rt: HostRuntime) -> Result<(), Fail> {
+fn reads_records_by_their_form(rt: HostRuntime) -> Result<(), Fail> {
     let script = r#"
+        # tells why there is no event
         read {"type"
         nothing NotJson
 
@@ -51,24 +54,8 @@ fn tells_why_there_is_no_event(rt: HostRuntime) -> Result<(), Fail> {
 
         read {"type":"a","x":1e308}
         kind "a"
-    "#;
-    play(&rt, rt.alloc(), script)
-}
 
-#[test]
-fn reads_what_no_script_has(rt: HostRuntime) -> Result<(), Fail> {
-    check(&rt, rt.alloc(), b"", "nothing NotJson\n")?;
-    check(&rt, rt.alloc(), b"{\"type\":\"\xff\"}", "nothing NotJson\n")?;
-    check(&rt, rt.alloc(), b" {\"type\":\"\"} ", "kind \"\"\n")?;
-    let oversize = Record::Oversize.copy(rt.alloc())?;
-    let found = shown::record_text(rt.alloc(), &oversize)?;
-    assert_eq!(rt; found.as_str(), "nothing Oversize\n");
-    Ok(())
-}
-
-#[test]
-fn every_field_may_be_missing(rt: HostRuntime) -> Result<(), Fail> {
-    let script = r#"
+        # every field may be missing
         read {"type":"ref-updated"}
         kind "ref-updated"
 
@@ -80,13 +67,8 @@ fn every_field_may_be_missing(rt: HostRuntime) -> Result<(), Fail> {
 
         read {"type":"ref-updated","change":{"branch":1,"number":"x","project":[]},"patchSet":{"number":{}},"refUpdate":{"project":null,"refName":2,"newRev":false},"comment":["a"],"submitter":{"username":3,"email":[]},"approvals":[[],1]}
         kind "ref-updated"
-    "#;
-    play(&rt, rt.alloc(), script)
-}
 
-#[test]
-fn finds_the_project(rt: HostRuntime) -> Result<(), Fail> {
-    let script = r#"
+        # finds the project
         read {"type":"a","change":{"project":"b"},"refUpdate":{"project":"c"}}
         kind "a"
         project "b"
@@ -105,13 +87,8 @@ fn finds_the_project(rt: HostRuntime) -> Result<(), Fail> {
 
         read {"type":"a","project":"b","projectName":"c"}
         kind "a"
-    "#;
-    play(&rt, rt.alloc(), script)
-}
 
-#[test]
-fn the_last_of_a_repeated_key_stands(rt: HostRuntime) -> Result<(), Fail> {
-    let script = r#"
+        # the last of a repeated key stands
         read {"type":3,"change":{"project":"a","branch":"a"},"type":"b","comment":"a","comment":"b","change":{"branch":"a","branch":"b"}}
         kind "b"
         branch "b"
@@ -121,6 +98,22 @@ fn the_last_of_a_repeated_key_stands(rt: HostRuntime) -> Result<(), Fail> {
         nothing NoType
     "#;
     play(&rt, rt.alloc(), script)
+}
+
+#[test]
+fn reads_what_no_script_has(rt: HostRuntime) -> Result<(), Fail> {
+    check(&rt, rt.alloc(), b"", "nothing NotJson\n")?;
+    check(&rt, rt.alloc(), b"{\"type\":\"\xff\"}", "nothing NotJson\n")?;
+    check(&rt, rt.alloc(), b" {\"type\":\"\"} ", "kind \"\"\n")?;
+    is_oversize(&rt, rt.alloc())
+}
+
+fn is_oversize(rt: &impl Abort, alloc: Global) -> Result<(), Fail> {
+    let mut found = String::new(alloc);
+    let oversize = Record::Oversize.copy(alloc)?;
+    shown::push_record(alloc, &mut found, &oversize)?;
+    comes_to(rt, "oversize", found.as_str(), "nothing Oversize\n");
+    Ok(())
 }
 
 // An object that holds so many lists, one in the other.
@@ -138,8 +131,11 @@ fn nested(alloc: Global, lists: usize) -> Result<String, AllocError> {
 
 #[test]
 fn reads_127_levels(rt: HostRuntime) -> Result<(), Fail> {
-    let deepest = nested(rt.alloc(), 126)?;
-    check(&rt, rt.alloc(), deepest.as_bytes(), "kind \"a\"\n")?;
-    let deeper = nested(rt.alloc(), 127)?;
-    check(&rt, rt.alloc(), deeper.as_bytes(), "nothing NotJson\n")
+    nests(&rt, rt.alloc(), 126, "kind \"a\"\n")?;
+    nests(&rt, rt.alloc(), 127, "nothing NotJson\n")
+}
+
+fn nests(rt: &impl Abort, alloc: Global, lists: usize, wanted: &str) -> Result<(), Fail> {
+    let line = nested(alloc, lists)?;
+    check(rt, alloc, line.as_bytes(), wanted)
 }

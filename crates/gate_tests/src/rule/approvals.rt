@@ -1,15 +1,20 @@
 //! The attributes `approval` and `ignore-deletes`.
-use super::blank_rule;
+use super::rule_of;
 use crate::config::asked::meets;
 use crate::config::{RULES, says};
+use crate::lines::comes_to;
 use gate_record::{Sequence, Text};
 use gate_rule::Rule;
+use std::alloc::Global;
+use std::process::Abort;
 use std::test::Fail;
 
 #[test]
-fn asks_for_each_approval(rt: HostRuntime) -> Result<(), Fail> {
-    let rule = r#"[{"event":"","approval":[{"code-review":2},{"verified":1}]}]"#;
-    let table = r#"
+fn approvals_and_deletions_are_asked_for(rt: HostRuntime) -> Result<(), Fail> {
+    let rules = r#"
+        # asks for each approval
+
+        [{"event":"","approval":[{"code-review":2},{"verified":1}]}]
         meets {"type":"x","approvals":[{"type":"code-review","value":2},{"type":"verified","value":1}]} -> true
         meets {"type":"x","approvals":[{"type":"verified","value":1},{"type":"code-review","value":2}]} -> true
         meets {"type":"x","approvals":[{"type":"code-review","value":2},{"type":"code-review","value":2}]} -> false
@@ -19,42 +24,16 @@ fn asks_for_each_approval(rt: HostRuntime) -> Result<(), Fail> {
         meets {"type":"x","approvals":[{"type":"code-review","value":1},{"type":"verified","value":1},{"type":"code-review","value":2}]} -> true
         meets {"type":"x","approvals":[{"type":"code-review","value":2}]} -> false
         meets {"type":"x","approvals":[]} -> false
-    "#;
-    says(&rt, rt.alloc(), RULES, rule, table)
-}
 
-#[test]
-fn asks_for_no_approval(rt: HostRuntime) -> Result<(), Fail> {
-    let table = r#"
+        # asks for no approval
+
+        [{"event":"","approval":[]}]
         meets {"type":"x","approvals":[{"type":"code-review","value":2},{"type":"verified","value":1}]} -> true
         meets {"type":"x","approvals":[]} -> true
-    "#;
-    says(
-        &rt,
-        rt.alloc(),
-        RULES,
-        r#"[{"event":"","approval":[]}]"#,
-        table,
-    )
-}
 
-#[test]
-fn categories_are_compared_byte_by_byte(rt: HostRuntime) -> Result<(), Fail> {
-    let mut approval = Sequence::empty(rt.alloc());
-    approval.push((Text::copy(rt.alloc(), "Verified")?, 1))?;
-    let rule = Rule {
-        approval,
-        ..blank_rule(rt.alloc())
-    };
-    // a record's category is in lower case
-    let record = r#"{"type":"x","approvals":[{"type":"Verified","value":1}]}"#;
-    assert_eq!(rt; meets(rt.alloc(), &rule, record)?.as_str(), "false");
-    Ok(())
-}
+        # ignores deletions
 
-#[test]
-fn ignores_deletions(rt: HostRuntime) -> Result<(), Fail> {
-    let table = r#"
+        [{"event":"","ignore-deletes":true}]
         meets {"type":"ref-updated","refUpdate":{"newRev":"0000000000000000000000000000000000000000"}} -> false
         meets {"type":"patchset-created","refUpdate":{"newRev":"0000000000000000000000000000000000000000"}} -> true
         meets {"type":"ref-updated-again","refUpdate":{"newRev":"0000000000000000000000000000000000000000"}} -> true
@@ -63,25 +42,31 @@ fn ignores_deletions(rt: HostRuntime) -> Result<(), Fail> {
         meets {"type":"ref-updated","refUpdate":{"newRev":"2e9c7d04f8b15a63c0ad94e7f16b8352dd07be41"}} -> true
         meets {"type":"ref-updated","refUpdate":{"newRev":""}} -> true
         meets {"type":"ref-updated","refUpdate":{}} -> true
+
+        # a rule may take deletions
+
+        [{"event":"","ignore-deletes":false}]
+        meets {"type":"ref-updated","refUpdate":{"newRev":"0000000000000000000000000000000000000000"}} -> true
     "#;
-    says(
-        &rt,
-        rt.alloc(),
-        RULES,
-        r#"[{"event":"","ignore-deletes":true}]"#,
-        table,
-    )
+    says(&rt, rt.alloc(), RULES, rules)
 }
 
 #[test]
-fn a_rule_may_take_deletions(rt: HostRuntime) -> Result<(), Fail> {
-    let deletion =
-        r#"meets {"type":"ref-updated","refUpdate":{"newRev":"0000000000000000000000000000000000000000"}} -> true"#;
-    says(
-        &rt,
-        rt.alloc(),
-        RULES,
-        r#"[{"event":"","ignore-deletes":false}]"#,
-        deletion,
-    )
+fn categories_are_compared_byte_by_byte(rt: HostRuntime) -> Result<(), Fail> {
+    let rule = rule_of(rt.alloc(), verified(rt.alloc())?);
+    // a record's category is in lower case
+    let record = r#"{"type":"x","approvals":[{"type":"Verified","value":1}]}"#;
+    is_not_met(&rt, rt.alloc(), &rule, record)
+}
+
+fn verified(alloc: Global) -> Result<Sequence<(Text, i64)>, Fail> {
+    let category = Text::copy(alloc, "Verified")?;
+    let mut approvals = Sequence::empty(alloc);
+    approvals.push((category, 1))?;
+    Ok(approvals)
+}
+
+fn is_not_met(rt: &impl Abort, alloc: Global, rule: &Rule, record: &str) -> Result<(), Fail> {
+    comes_to(rt, record, meets(alloc, rule, record)?, "false");
+    Ok(())
 }

@@ -1,124 +1,168 @@
 //! Patterns alone.
+use crate::lines::{comes_to, halves};
 use gate_rule::{Matcher, Pattern, PatternFault};
 use std::alloc::Global;
 use std::process::Abort;
 use std::test::Fail;
 
-fn pattern_of(rt: &impl Abort, alloc: Global, text: &str) -> Pattern {
-    match Pattern::new(alloc, text) {
-        Ok(pattern) => pattern,
-        Err(_) => panic!(rt; "the pattern is built"),
+// What a pattern finds of a text: a match at its front, and one within it.
+fn found(alloc: Global, pattern: &Pattern, text: &str) -> Result<&'static str, Fail> {
+    let front = pattern.front(alloc, text)?;
+    let within = pattern.within(alloc, text)?;
+    Ok(both(front, within))
+}
+
+fn both(front: bool, within: bool) -> &'static str {
+    match (front, within) {
+        (true, true) => "true true",
+        (true, false) => "true false",
+        (false, true) => "false true",
+        (false, false) => "false false",
     }
 }
 
-// What a pattern finds of a text, at its front and within it.
-fn found(alloc: Global, pattern: &Pattern, text: &str) -> Result<String, Fail> {
-    let front = pattern.front(alloc, text)?;
-    let within = pattern.within(alloc, text)?;
-    Ok(format!(in alloc; "{front} {within}")?)
+// A text in quotes, without them.
+fn quoted(text: &str) -> &str {
+    text.trim_matches('"')
 }
 
-fn found_by(alloc: Global, matcher: &mut Matcher<'_>, text: &str) -> Result<String, Fail> {
-    let front = matcher.front(text);
-    let within = matcher.within(text);
-    Ok(format!(in alloc; "{front} {within}")?)
+// Sees what a pattern finds by a line `"PATTERN" in "TEXT" -> FRONT WITHIN`.
+fn is_found(rt: &impl Abort, alloc: Global, line: &str) -> Result<(), Fail> {
+    let (given, wanted) = halves(line);
+    match given.split_once(" in ") {
+        Some((pattern, text)) => finds(rt, alloc, quoted(pattern), quoted(text), wanted),
+        None => Err(Fail::from("a pattern and a text")),
+    }
 }
 
-fn is_found(
+fn finds(
     rt: &impl Abort,
     alloc: Global,
-    pattern: &Pattern,
+    pattern: &str,
     text: &str,
     wanted: &str,
 ) -> Result<(), Fail> {
-    assert_eq!(rt; found(alloc, pattern, text)?.as_str(), wanted, "at {text}");
+    let built = Pattern::new(alloc, pattern)?;
+    comes_to(rt, "its text", built.text(), pattern);
+    comes_to(rt, pattern, found(alloc, &built, text)?, wanted);
     Ok(())
 }
 
 #[test]
 fn finds_a_match(rt: HostRuntime) -> Result<(), Fail> {
-    let cases = [
-        ("a+", "aab", "true true"),
-        ("a+", "ba", "false true"),
-        ("a+", "b", "false false"),
-        ("b|ab", "ab", "true true"),
-        ("", "", "true true"),
-        ("$", "ab", "false true"),
-        ("^b", "ab", "false false"),
-        ("(?i)PATCHSET", "patchset-created", "true true"),
-        ("patchset-created$", "patchset-created-twice", "false false"),
-        (".*created", "patchset-created", "true true"),
-        ("é", "été", "true true"),
-        ("t", "été", "false true"),
-    ];
-    for (text, subject, wanted) in cases {
-        let pattern = pattern_of(&rt, rt.alloc(), text);
-        assert_eq!(rt; pattern.text(), text);
-        is_found(&rt, rt.alloc(), &pattern, subject, wanted)?;
+    let table = r#"
+        "a+" in "aab" -> true true
+        "a+" in "ba" -> false true
+        "a+" in "b" -> false false
+        "b|ab" in "ab" -> true true
+        "" in "" -> true true
+        "$" in "ab" -> false true
+        "^b" in "ab" -> false false
+        "(?i)PATCHSET" in "patchset-created" -> true true
+        "patchset-created$" in "patchset-created-twice" -> false false
+        ".*created" in "patchset-created" -> true true
+        "é" in "été" -> true true
+        "t" in "été" -> false true
+    "#;
+    for line in table.trim().lines() {
+        is_found(&rt, rt.alloc(), line)?;
     }
     Ok(())
+}
+
+fn fault_of(alloc: Global, text: &str) -> &'static str {
+    match Pattern::new(alloc, text) {
+        Ok(_) => "built",
+        Err(PatternFault::Refused) => "refused",
+        Err(PatternFault::Memory) => "memory",
+    }
 }
 
 #[test]
-fn refuses_what_is_no_pattern(rt: HostRuntime) -> Result<(), Fail> {
-    for text in ["(", ")", "[a", "*a", "\\", "(?P<"] {
-        match Pattern::new(rt.alloc(), text) {
-            Ok(_) => panic!(rt; "the pattern is refused"),
-            Err(fault) => assert_eq!(rt; fault, PatternFault::Refused),
-        }
+fn refuses_what_is_no_pattern(rt: HostRuntime) {
+    for text in r"( ) [a *a \ (?P<".split_whitespace() {
+        comes_to(&rt, text, fault_of(rt.alloc(), text), "refused");
     }
-    Ok(())
 }
 
-// Sees that a matcher finds what its pattern finds in a text.
-fn try_text(
+// Sees that a matcher finds what its pattern finds in the text of a line.
+fn try_line(
     rt: &impl Abort,
     alloc: Global,
     pattern: &Pattern,
     matcher: &mut Matcher<'_>,
-    text: &str,
-    wanted: &str,
+    line: &str,
 ) -> Result<(), Fail> {
-    assert_eq!(rt;
-        found_by(alloc, matcher, text)?.as_str(),
-        wanted,
-        "at {text}"
-    );
-    is_found(rt, alloc, pattern, text, wanted)
+    let (text, wanted) = halves(line);
+    let text = quoted(text);
+    let by_matcher = both(matcher.front(text), matcher.within(text));
+    comes_to(rt, line, by_matcher, wanted);
+    comes_to(rt, line, found(alloc, pattern, text)?, wanted);
+    Ok(())
 }
 
-#[test]
-fn one_matcher_tries_many_texts(rt: HostRuntime) -> Result<(), Fail> {
-    let built = pattern_of(&rt, rt.alloc(), "a+|recheck");
-    let shared = built.share()?;
-    assert_eq!(rt; shared.text(), "a+|recheck");
-    let mut first = built.matcher(rt.alloc())?;
-    let mut second = shared.matcher(rt.alloc())?;
-    let cases = [
-        ("a", "true true"),
-        ("ba", "false true"),
-        ("", "false false"),
-        ("recheck, please", "true true"),
-        ("please recheck", "false true"),
-        ("rechck", "false false"),
-        ("été à la", "false true"),
-        ("a", "true true"),
-    ];
-    for (text, wanted) in cases {
-        try_text(&rt, rt.alloc(), &built, &mut first, text, wanted)?;
-        try_text(&rt, rt.alloc(), &shared, &mut second, text, wanted)?;
+// Tries the texts of a table, each by the matcher of a pattern and by one of its shared copy.
+fn try_texts(
+    rt: &impl Abort,
+    alloc: Global,
+    built: &Pattern,
+    shared: &Pattern,
+    table: &str,
+) -> Result<(), Fail> {
+    let mut first = built.matcher(alloc)?;
+    try_beside(rt, alloc, built, &mut first, shared, table)
+}
+
+fn try_beside(
+    rt: &impl Abort,
+    alloc: Global,
+    built: &Pattern,
+    first: &mut Matcher<'_>,
+    shared: &Pattern,
+    table: &str,
+) -> Result<(), Fail> {
+    let mut second = shared.matcher(alloc)?;
+    try_lines(rt, alloc, built, first, shared, &mut second, table)
+}
+
+fn try_lines(
+    rt: &impl Abort,
+    alloc: Global,
+    built: &Pattern,
+    first: &mut Matcher<'_>,
+    shared: &Pattern,
+    second: &mut Matcher<'_>,
+    table: &str,
+) -> Result<(), Fail> {
+    for line in table.trim().lines() {
+        try_line(rt, alloc, built, first, line)?;
+        try_line(rt, alloc, shared, second, line)?;
     }
     Ok(())
 }
 
 #[test]
+fn one_matcher_tries_many_texts(rt: HostRuntime) -> Result<(), Fail> {
+    let table = r#"
+        "a" -> true true
+        "ba" -> false true
+        "" -> false false
+        "recheck, please" -> true true
+        "please recheck" -> false true
+        "rechck" -> false false
+        "été à la" -> false true
+        "a" -> true true
+    "#;
+    let built = Pattern::new(rt.alloc(), "a+|recheck")?;
+    let shared = built.share()?;
+    comes_to(&rt, "shared", shared.text(), "a+|recheck");
+    try_texts(&rt, rt.alloc(), &built, &shared, table)
+}
+
+#[test]
 fn faults_have_words(rt: HostRuntime) -> Result<(), Fail> {
-    for (fault, word) in [
-        (PatternFault::Memory, "memory"),
-        (PatternFault::Refused, "refused"),
-    ] {
-        let text = format!(in rt.alloc(); "{fault}")?;
-        assert_eq!(rt; text.as_str(), word);
-    }
+    let (memory, refused) = (PatternFault::Memory, PatternFault::Refused);
+    let text = format!(in rt.alloc(); "{memory} {refused}")?;
+    comes_to(&rt, "faults", text.as_str(), "memory refused");
     Ok(())
 }

@@ -1,8 +1,8 @@
 //! Streams in pieces.
-use crate::lines::halves;
+use crate::lines::{comes_to, halves, word_and_rest};
 use gate_record::{Memory, Record};
 use gate_source::LineSplit;
-use std::alloc::Global;
+use std::alloc::{AllocError, Global};
 use std::process::Abort;
 use std::test::Fail;
 
@@ -21,15 +21,20 @@ fn around_line_feeds(alloc: Global, stream: &[u8]) -> Result<Vec<Record>, Fail> 
     let mut splitter = LineSplit::new(alloc);
     let mut records = Vec::new(alloc);
     for piece in stream.split_inclusive(|byte| *byte == b'\n') {
-        match piece {
-            [front @ .., b'\n'] => {
-                add(&mut splitter, front, &mut records)?;
-                add(&mut splitter, b"\n", &mut records)?;
-            }
-            _ => add(&mut splitter, piece, &mut records)?,
-        }
+        add_line(&mut splitter, piece, &mut records)?;
     }
     last(splitter, records)
+}
+
+// Adds a line in two pieces, the second its LF, if it has one.
+fn add_line(splitter: &mut LineSplit, line: &[u8], records: &mut Vec<Record>) -> Result<(), Fail> {
+    match line {
+        [front @ .., b'\n'] => {
+            add(splitter, front, records)?;
+            add(splitter, b"\n", records)
+        }
+        _ => add(splitter, line, records),
+    }
 }
 
 // Adds the records that a piece completes. Where memory is refused the piece is fed again.
@@ -52,12 +57,9 @@ fn last(splitter: LineSplit, mut records: Vec<Record>) -> Result<Vec<Record>, Fa
 }
 
 // A stream of a table, in brackets: `/` stands for LF, `<` for CR and `_` for a space.
-fn stream_of(alloc: Global, text: &str) -> Result<String, Fail> {
-    let text = text
-        .strip_prefix('[')
-        .and_then(|rest| rest.strip_suffix(']'));
+fn stream_of(alloc: Global, text: &str) -> Result<String, AllocError> {
     let mut stream = String::new(alloc);
-    for letter in text.ok_or("brackets")?.chars() {
+    for letter in text.trim_start_matches('[').trim_end_matches(']').chars() {
         stream.push(match letter {
             '/' => '\n',
             '<' => '\r',
@@ -68,47 +70,62 @@ fn stream_of(alloc: Global, text: &str) -> Result<String, Fail> {
     Ok(stream)
 }
 
-// The records of a table, each in brackets, one behind the other, or `none`.
-fn lines_of(alloc: Global, text: &str) -> Result<Vec<String>, Fail> {
-    let mut lines = Vec::new(alloc);
-    if text == "none" {
-        return Ok(lines);
+// Records in brackets as in a table, one behind the other, or `none`.
+fn shown(alloc: Global, records: &[Record]) -> Result<String, AllocError> {
+    let mut text = String::new(alloc);
+    for record in records {
+        push_record(&mut text, record)?;
     }
-    for part in text.split_inclusive(']') {
-        lines.push(stream_of(alloc, part)?)?;
+    if text.is_empty() {
+        text.push_str("none")?;
     }
-    Ok(lines)
+    Ok(text)
 }
 
-// A stream has these lines, however it is cut.
-fn has_lines(rt: &impl Abort, alloc: Global, stream: &str, wanted: &[String]) -> Result<(), Fail> {
-    for size in [1, 2, 3, 100] {
-        are_lines(rt, &in_pieces(alloc, stream.as_bytes(), size)?, wanted);
+fn push_record(text: &mut String, record: &Record) -> Result<(), AllocError> {
+    match record {
+        Record::Line(bytes) => push_bytes(text, bytes.as_slice()),
+        Record::Oversize => text.push_str("[oversize]"),
     }
-    are_lines(rt, &around_line_feeds(alloc, stream.as_bytes())?, wanted);
+}
+
+fn push_bytes(text: &mut String, bytes: &[u8]) -> Result<(), AllocError> {
+    text.push('[')?;
+    for byte in bytes {
+        text.push(match byte {
+            b'\r' => '<',
+            b' ' => '_',
+            _ => char::from(*byte),
+        })?;
+    }
+    text.push(']')
+}
+
+fn are_shown(rt: &impl Abort, alloc: Global, records: &[Record], wanted: &str) -> Result<(), Fail> {
+    let found = shown(alloc, records)?;
+    comes_to(rt, wanted, found.as_str(), wanted);
     Ok(())
 }
 
-fn are_lines(rt: &impl Abort, records: &[Record], wanted: &[String]) {
-    assert_eq!(rt; records.len(), wanted.len());
-    for (record, wanted) in records.iter().zip(wanted) {
-        assert!(rt; is_line(record, wanted.as_str()));
-    }
-}
-
-fn is_line(record: &Record, wanted: &str) -> bool {
-    match record {
-        Record::Line(bytes) => bytes.as_slice() == wanted.as_bytes(),
-        Record::Oversize => false,
-    }
+// A stream has these lines, however it is cut.
+fn has_lines(rt: &impl Abort, alloc: Global, stream: &[u8], wanted: &str) -> Result<(), Fail> {
+    are_shown(rt, alloc, in_pieces(alloc, stream, 1)?.as_slice(), wanted)?;
+    are_shown(rt, alloc, in_pieces(alloc, stream, 2)?.as_slice(), wanted)?;
+    are_shown(rt, alloc, in_pieces(alloc, stream, 3)?.as_slice(), wanted)?;
+    are_shown(rt, alloc, in_pieces(alloc, stream, 100)?.as_slice(), wanted)?;
+    are_shown(
+        rt,
+        alloc,
+        around_line_feeds(alloc, stream)?.as_slice(),
+        wanted,
+    )
 }
 
 // Sees that the stream of a line has the records that stand behind the arrow.
 fn check_line(rt: &impl Abort, alloc: Global, line: &str) -> Result<(), Fail> {
-    let (stream, wanted) = halves(line)?;
+    let (stream, wanted) = halves(line);
     let stream = stream_of(alloc, stream)?;
-    let wanted = lines_of(alloc, wanted)?;
-    has_lines(rt, alloc, stream.as_str(), wanted.as_slice())
+    has_lines(rt, alloc, stream.as_bytes(), wanted)
 }
 
 #[test]
@@ -133,7 +150,7 @@ fn cuts_lines(rt: HostRuntime) -> Result<(), Fail> {
 }
 
 // `a` and an empty line, then as many bytes as a line may have, then one more, and the end.
-fn long_stream(alloc: Global) -> Result<Vec<u8>, Fail> {
+fn long_stream(alloc: Global) -> Result<Vec<u8>, AllocError> {
     let mut stream = b"a\r\n\n".to_vec(alloc)?;
     push_long(&mut stream, 1_048_576)?;
     stream.push(b'\n')?;
@@ -142,72 +159,116 @@ fn long_stream(alloc: Global) -> Result<Vec<u8>, Fail> {
     Ok(stream)
 }
 
-fn push_long(stream: &mut Vec<u8>, count: usize) -> Result<(), Fail> {
+fn push_long(stream: &mut Vec<u8>, count: usize) -> Result<(), AllocError> {
     for _ in 0..count {
         stream.push(b'x')?;
     }
     Ok(())
 }
 
-fn are_long(rt: &impl Abort, records: &[Record]) {
+// Whether these are three lines, the second as long as may be, and behind it one that is too long.
+fn are_long(records: &[Record]) -> bool {
     match records {
         [
             Record::Line(a),
             Record::Line(longest),
             Record::Oversize,
             Record::Line(end),
-        ] => {
-            assert_eq!(rt; a.as_slice(), b"a".as_slice());
-            assert_eq!(rt; longest.len(), 1_048_576);
-            assert!(rt; longest.as_slice().iter().all(|byte| *byte == b'x'));
-            assert_eq!(rt; end.as_slice(), b"end".as_slice());
-        }
-        _ => panic!(rt; "three lines, and one that is too long"),
+        ] => is_text(a.as_slice(), "a")
+            && is_longest(longest.as_slice())
+            && is_text(end.as_slice(), "end"),
+        _ => false,
     }
+}
+
+fn is_text(line: &[u8], text: &str) -> bool {
+    line == text.as_bytes()
+}
+
+fn is_longest(line: &[u8]) -> bool {
+    for byte in line {
+        if *byte != b'x' {
+            return false;
+        }
+    }
+    line.len() == 1_048_576
+}
+
+fn is_long_in_pieces(
+    rt: &impl Abort,
+    alloc: Global,
+    stream: &[u8],
+    size: usize,
+) -> Result<(), Fail> {
+    let records = in_pieces(alloc, stream, size)?;
+    assert!(rt; are_long(records.as_slice()), "{size}");
+    Ok(())
+}
+
+fn is_long_around_line_feeds(rt: &impl Abort, alloc: Global, stream: &[u8]) -> Result<(), Fail> {
+    let records = around_line_feeds(alloc, stream)?;
+    assert!(rt; are_long(records.as_slice()));
+    Ok(())
 }
 
 #[test]
 fn long_lines_in_pieces(rt: HostRuntime) -> Result<(), Fail> {
     let stream = long_stream(rt.alloc())?;
-    for size in [1, 4096, 1_048_577, 4_000_000] {
-        are_long(&rt, &in_pieces(rt.alloc(), stream.as_slice(), size)?);
-    }
-    are_long(&rt, &around_line_feeds(rt.alloc(), stream.as_slice())?);
-    Ok(())
+    is_long_in_pieces(&rt, rt.alloc(), stream.as_slice(), 1)?;
+    is_long_in_pieces(&rt, rt.alloc(), stream.as_slice(), 4096)?;
+    is_long_in_pieces(&rt, rt.alloc(), stream.as_slice(), 1_048_577)?;
+    is_long_in_pieces(&rt, rt.alloc(), stream.as_slice(), 4_000_000)?;
+    is_long_around_line_feeds(&rt, rt.alloc(), stream.as_slice())
 }
 
-// The lengths of the records where so many bytes come in one piece, and then these one by one.
-fn lengths(alloc: Global, count: usize, tail: &str) -> Result<String, Fail> {
+// The records where so many bytes come in one piece, and then these one by one.
+fn behind_long(alloc: Global, count: usize, tail: &[u8]) -> Result<Vec<Record>, Fail> {
     let mut front = Vec::new(alloc);
     push_long(&mut front, count)?;
     let mut splitter = LineSplit::new(alloc);
     let mut records = Vec::new(alloc);
     add(&mut splitter, front.as_slice(), &mut records)?;
-    for piece in tail.as_bytes().chunks(1) {
-        add(&mut splitter, piece, &mut records)?;
-    }
-    lengths_of(alloc, last(splitter, records)?.as_slice())
+    add_each(&mut splitter, tail, &mut records)?;
+    last(splitter, records)
 }
 
-fn lengths_of(alloc: Global, records: &[Record]) -> Result<String, Fail> {
+fn add_each(splitter: &mut LineSplit, bytes: &[u8], records: &mut Vec<Record>) -> Result<(), Fail> {
+    for piece in bytes.chunks(1) {
+        add(splitter, piece, records)?;
+    }
+    Ok(())
+}
+
+fn lengths_of(alloc: Global, records: &[Record]) -> Result<String, AllocError> {
     let mut text = String::new(alloc);
     for record in records {
-        let length = match record {
-            Record::Line(bytes) => format!(in alloc; "[{}]", bytes.len())?,
-            Record::Oversize => String::from_str(alloc, "[oversize]")?,
-        };
-        text.push_str(length.as_str())?;
+        match record {
+            Record::Line(bytes) => write!(text, "[{}]", bytes.len())?,
+            Record::Oversize => text.push_str("[oversize]")?,
+        }
     }
     Ok(text)
 }
 
 // Sees that the bytes of a line, `COUNT [TAIL]`, have the lengths that stand behind the arrow.
 fn check_lengths(rt: &impl Abort, alloc: Global, line: &str) -> Result<(), Fail> {
-    let (given, wanted) = halves(line)?;
-    let (count, tail) = given.split_once(' ').ok_or("a tail")?;
+    let (given, wanted) = halves(line);
+    let (count, tail) = word_and_rest(given);
+    let count = count.parse::<usize>()?;
     let tail = stream_of(alloc, tail)?;
-    let found = lengths(alloc, count.parse::<usize>()?, tail.as_str())?;
-    assert_eq!(rt; found.as_str(), wanted, "{line}");
+    let records = behind_long(alloc, count, tail.as_bytes())?;
+    has_lengths(rt, alloc, records.as_slice(), line, wanted)
+}
+
+fn has_lengths(
+    rt: &impl Abort,
+    alloc: Global,
+    records: &[Record],
+    line: &str,
+    wanted: &str,
+) -> Result<(), Fail> {
+    let found = lengths_of(alloc, records)?;
+    comes_to(rt, line, found.as_str(), wanted);
     Ok(())
 }
 

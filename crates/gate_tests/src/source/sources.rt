@@ -3,57 +3,44 @@ ghost use Rattle.std.specs.Prelude.{IfOk};
 ghost use Rattle.gate_queue.specs.Seats.{IsHeadOf, IsTailOf};
 ghost use Rattle.gate_source.specs.Stops.{IsNoteOf};
 
+use crate::records::{is_line, record_of};
 use gate_queue::{EventQueue, Head, Tagged, open};
-use gate_record::{ConnEntry, Record, Sequence};
+use gate_record::{ConnEntry, Record};
 use gate_source::{OfferFault, Source, StopCause, StopCell, StopNote};
 use std::alloc::Global;
+use std::process::Abort;
 use std::sync::Wait;
 use std::test::Fail;
 
-fn is_line(record: &Record, text: &str) -> bool {
-    match record {
-        Record::Line(bytes) => bytes.as_slice() == text.as_bytes(),
-        Record::Oversize => false,
-    }
-}
-
-// Whether the queue was full for this line.
-fn is_full(offered: Result<u64, OfferFault>, text: &str) -> bool {
+// The number of an accepted record, or why this line came back.
+fn offered_of(offered: &Result<u64, OfferFault>, line: &str) -> Result<u64, &'static str> {
     match offered {
-        Err(OfferFault::Full(record)) => is_line(&record, text),
-        _ => false,
+        Ok(number) => Ok(*number),
+        Err(OfferFault::Full(record)) => back(record, line, "full"),
+        Err(OfferFault::Stopped(record)) => back(record, line, "stopped"),
     }
 }
 
-fn is_stopped(offered: Result<u64, OfferFault>, text: &str) -> bool {
-    match offered {
-        Err(OfferFault::Stopped(record)) => is_line(&record, text),
-        _ => false,
+fn back(record: &Record, line: &str, why: &'static str) -> Result<u64, &'static str> {
+    if is_line(record, line) {
+        Err(why)
+    } else {
+        Err("another line")
     }
 }
 
-// Whether this was taken, with this number.
-fn is_numbered(taken: Option<Tagged<ConnEntry>>, wanted: u64, text: &str) -> bool {
+// Whether this is the entry of a record with this number and this line, or, where the line is `end`, the end mark.
+fn is_entry(entry: &ConnEntry, wanted: u64, line: &str) -> bool {
+    match entry {
+        ConnEntry::Numbered(number, record) => *number == wanted && is_line(record, line),
+        ConnEntry::End => line == "end",
+    }
+}
+
+fn is_taken(taken: &Option<Tagged<ConnEntry>>, number: u64, line: &str) -> bool {
     match taken {
-        Some(
-            Tagged {
-                sender: _,
-                value: ConnEntry::Numbered(number, record),
-            },
-        ) => number == wanted && is_line(&record, text),
-        _ => false,
-    }
-}
-
-fn is_end(taken: Option<Tagged<ConnEntry>>) -> bool {
-    match taken {
-        Some(
-            Tagged {
-                sender: _,
-                value: ConnEntry::End,
-            },
-        ) => true,
-        _ => false,
+        Some(tagged) => is_entry(&tagged.value, number, line),
+        None => line == "nothing",
     }
 }
 
@@ -72,23 +59,58 @@ fn opened(
     }
 }
 
-// Offers this line.
-fn offer<R: Wait>(
+// Sees what an offer of this line comes to.
+fn offer<R: Wait + Abort>(
     rt: &R,
     alloc: Global,
     queue: &EventQueue<ConnEntry>,
     cell: &StopCell,
     note: &mut StopNote,
     source: &mut Source,
-    text: &str,
-) -> Result<Result<u64, OfferFault>, Fail>
+    line: &str,
+    wanted: Result<u64, &'static str>,
+) -> Result<(), Fail>
     requires seat { IsTailOf queue.now source.old.seat }
     requires note { IsNoteOf cell.now note.old }
     ensures seat { IsTailOf queue.now source.new.seat }
     ensures note { IsNoteOf cell.now note.new }
 {
-    let line = Record::Line(Sequence::new(text.as_bytes().to_vec(alloc)?));
-    Ok(source.offer(rt, queue, cell, note, line))
+    let record = record_of(alloc, line)?;
+    let offered = source.offer(rt, queue, cell, note, record);
+    assert!(rt; offered_of(&offered, line) == wanted, "{line}");
+    Ok(())
+}
+
+// Sees that what is taken is this line with this number, `end` or `nothing`.
+fn take<R: Wait + Abort>(
+    rt: &R,
+    queue: &EventQueue<ConnEntry>,
+    head: &mut Head<ConnEntry>,
+    number: u64,
+    line: &str,
+)
+    requires { IsHeadOf queue.now head.old }
+    ensures { IsHeadOf queue.now head.new }
+{
+    let taken = queue.take(rt, head);
+    assert!(rt; is_taken(&taken, number, line), "{line}");
+}
+
+// Offers three lines to a queue of two places.
+fn fill<R: Wait + Abort>(
+    rt: &R,
+    alloc: Global,
+    queue: &EventQueue<ConnEntry>,
+    cell: &StopCell,
+    source: &mut Source,
+) -> Result<(), Fail>
+    requires { IsTailOf queue.now source.old.seat }
+    ensures { IsTailOf queue.now source.new.seat }
+{
+    let mut note = cell.note();
+    offer(rt, alloc, queue, cell, &mut note, source, "a", Ok(0))?;
+    offer(rt, alloc, queue, cell, &mut note, source, "b", Ok(1))?;
+    offer(rt, alloc, queue, cell, &mut note, source, "c", Err("full"))
 }
 
 // The source, which comes back since the queue is full.
@@ -106,62 +128,112 @@ fn not_closed<R: Wait>(
     }
 }
 
+// Closes a source that accepted two records, since there is a place.
+fn close<R: Wait>(rt: &R, queue: &EventQueue<ConnEntry>, source: Source) -> Result<(), Fail>
+    requires { IsTailOf queue.now source.seat }
+{
+    match source.close(rt, queue) {
+        Ok(closed) if closed.count == 2 => Ok(()),
+        _ => Err(Fail::from("two records")),
+    }
+}
+
+// Closes the source of a full queue of two places, once a record is taken.
+fn close_full<R: Wait + Abort>(
+    rt: &R,
+    queue: &EventQueue<ConnEntry>,
+    source: Source,
+    head: &mut Head<ConnEntry>,
+) -> Result<(), Fail>
+    requires { IsTailOf queue.now source.seat × IsHeadOf queue.now head.old }
+{
+    let source = not_closed(rt, queue, source)?;
+    take(rt, queue, head, 0, "a");
+    close(rt, queue, source)?;
+    take(rt, queue, head, 1, "b");
+    take(rt, queue, head, 0, "end");
+    take(rt, queue, head, 0, "nothing");
+    Ok(())
+}
+
 #[test]
 fn records_are_numbered_until_the_queue_is_full(rt: HostRuntime) -> Result<(), Fail> {
-    let alloc = rt.alloc();
-    let (queue, mut source, mut head) = opened(alloc, 2)?;
-    let cell = StopCell::new(alloc);
+    let (queue, mut source, mut head) = opened(rt.alloc(), 2)?;
+    let cell = StopCell::new(rt.alloc());
+    fill(&rt, rt.alloc(), &queue, &cell, &mut source)?;
+    close_full(&rt, &queue, source, &mut head)
+}
+
+// Offers three lines, and stops the sources behind the first.
+fn stop<R: Wait + Abort>(
+    rt: &R,
+    alloc: Global,
+    queue: &EventQueue<ConnEntry>,
+    cell: &StopCell,
+    source: &mut Source,
+) -> Result<(), Fail>
+    requires { IsTailOf queue.now source.old.seat }
+{
     let mut note = cell.note();
-    let first = offer(&rt, alloc, &queue, &cell, &mut note, &mut source, "a")?;
-    assert_eq!(rt; first.ok(), Some(0));
-    let second = offer(&rt, alloc, &queue, &cell, &mut note, &mut source, "b")?;
-    assert_eq!(rt; second.ok(), Some(1));
-    let third = offer(&rt, alloc, &queue, &cell, &mut note, &mut source, "c")?;
-    assert!(rt; is_full(third, "c"));
-    let source = not_closed(&rt, &queue, source)?;
-    assert!(rt; is_numbered(queue.take(&rt, &mut head), 0, "a"));
-    let closed = source.close(&rt, &queue).ok().ok_or("a place")?;
-    assert_eq!(rt; closed.count, 2);
-    assert!(rt; is_numbered(queue.take(&rt, &mut head), 1, "b"));
-    assert!(rt; is_end(queue.take(&rt, &mut head)));
-    assert!(rt; queue.take(&rt, &mut head).is_none());
+    offer(rt, alloc, queue, cell, &mut note, source, "a", Ok(0))?;
+    request_stop(rt, cell);
+    refuse_two(rt, alloc, queue, cell, &mut note, source)
+}
+
+fn request_stop(rt: &impl Abort, cell: &StopCell) {
+    let mut port = cell.note();
+    assert!(rt; cell.request(&mut port, StopCause::Caller) == Ok(StopCause::Caller));
+}
+
+fn refuse_two<R: Wait + Abort>(
+    rt: &R,
+    alloc: Global,
+    queue: &EventQueue<ConnEntry>,
+    cell: &StopCell,
+    note: &mut StopNote,
+    source: &mut Source,
+) -> Result<(), Fail>
+    requires seat { IsTailOf queue.now source.old.seat }
+    requires note { IsNoteOf cell.now note.old }
+{
+    offer(rt, alloc, queue, cell, note, source, "b", Err("stopped"))?;
+    offer(rt, alloc, queue, cell, note, source, "c", Err("stopped"))?;
+    assert!(rt; cell.seen(note) == Some(StopCause::Caller));
     Ok(())
 }
 
 #[test]
 fn a_stop_comes_before_a_full_queue(rt: HostRuntime) -> Result<(), Fail> {
-    let alloc = rt.alloc();
-    let (queue, mut source, mut head) = opened(alloc, 1)?;
+    let (queue, mut source, mut head) = opened(rt.alloc(), 1)?;
+    let cell = StopCell::new(rt.alloc());
+    stop(&rt, rt.alloc(), &queue, &cell, &mut source)?;
+    take(&rt, &queue, &mut head, 0, "a");
+    take(&rt, &queue, &mut head, 0, "nothing");
+    Ok(())
+}
+
+// A source that leaves once it has accepted one record.
+fn leave<R: Wait + Abort>(
+    rt: &R,
+    alloc: Global,
+    queue: &EventQueue<ConnEntry>,
+    mut source: Source,
+) -> Result<(), Fail>
+    requires { IsTailOf queue.now source.seat }
+{
     let cell = StopCell::new(alloc);
     let mut note = cell.note();
-    let first = offer(&rt, alloc, &queue, &cell, &mut note, &mut source, "a")?;
-    assert_eq!(rt; first.ok(), Some(0));
-    let mut port = cell.note();
-    assert_eq!(rt;
-        cell.request(&mut port, StopCause::Caller),
-        Ok(StopCause::Caller)
-    );
-    let second = offer(&rt, alloc, &queue, &cell, &mut note, &mut source, "b")?;
-    assert!(rt; is_stopped(second, "b"));
-    let third = offer(&rt, alloc, &queue, &cell, &mut note, &mut source, "c")?;
-    assert!(rt; is_stopped(third, "c"));
-    assert_eq!(rt; cell.seen(&mut note), Some(StopCause::Caller));
-    assert!(rt; is_numbered(queue.take(&rt, &mut head), 0, "a"));
-    assert!(rt; queue.take(&rt, &mut head).is_none());
+    offer(rt, alloc, queue, &cell, &mut note, &mut source, "a", Ok(0))?;
+    let (count, _tail) = source.leave();
+    assert!(rt; count == 1);
     Ok(())
 }
 
 #[test]
 fn a_source_may_leave_without_an_end_mark(rt: HostRuntime) -> Result<(), Fail> {
-    let alloc = rt.alloc();
-    let (queue, mut source, mut head) = opened(alloc, 2)?;
-    let cell = StopCell::new(alloc);
-    let mut note = cell.note();
-    let first = offer(&rt, alloc, &queue, &cell, &mut note, &mut source, "a")?;
-    assert_eq!(rt; first.ok(), Some(0));
-    let (count, _tail) = source.leave();
-    assert_eq!(rt; count, 1);
-    assert!(rt; is_numbered(queue.take(&rt, &mut head), 0, "a"));
-    assert!(rt; queue.take(&rt, &mut head).is_none());
+    let (queue, source, mut head) = opened(rt.alloc(), 2)?;
+    leave(&rt, rt.alloc(), &queue, source)?;
+    take(&rt, &queue, &mut head, 0, "a");
+    take(&rt, &queue, &mut head, 0, "nothing");
     Ok(())
 }

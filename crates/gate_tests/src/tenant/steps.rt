@@ -6,25 +6,34 @@
 //! - `give` gives all that is in the hand: `0:1/7` for record 7 of connection 1 to pipeline 0, `0:end` for its end mark
 //! - `back` takes the next item and puts it back
 //! - `room`, `ended` and `empty` come to what they ask
-use gate_record::{
-    ConnId, Event, PipelineId, PipelineItem, Reading, Record, Sequence, Shared, Stamp, Stamped,
-    TenantItem, read_record,
-};
+use crate::lines::word_and_rest;
+use crate::records::event_of;
+use gate_record::{ConnId, PipelineId, PipelineItem, Shared, Stamp, Stamped, TenantItem};
 use gate_tenant::Dispatch;
-use std::alloc::Global;
+use std::alloc::{AllocError, Global};
 use std::test::Fail;
 
 pub(super) fn take(alloc: Global, dispatch: &mut Dispatch<'_>, step: &str) -> Result<String, Fail> {
-    let (verb, rest) = step.split_once(' ').unwrap_or((step, ""));
+    let mut text = String::new(alloc);
+    push_step(alloc, &mut text, dispatch, step)?;
+    Ok(text)
+}
+
+fn push_step(
+    alloc: Global,
+    text: &mut String,
+    dispatch: &mut Dispatch<'_>,
+    step: &str,
+) -> Result<(), Fail> {
+    let (verb, rest) = word_and_rest(step);
     match verb {
-        "event" => gather_event(alloc, dispatch, rest)?,
-        "end" => gather_ends(dispatch, rest)?,
-        "match" => match_batch(alloc, dispatch)?,
-        "back" => take_back(dispatch)?,
-        "give" => return give_all(alloc, dispatch),
-        _ => return asked(alloc, dispatch, verb),
+        "event" => gather_event(alloc, dispatch, rest),
+        "end" => gather_ends(dispatch, rest),
+        "match" => match_batch(alloc, dispatch),
+        "back" => take_back(dispatch),
+        "give" => give_all(text, dispatch),
+        _ => push_asked(text, dispatch, verb),
     }
-    Ok(String::new(alloc))
 }
 
 // Gathers an item, if it may be.
@@ -32,17 +41,26 @@ fn gather(dispatch: &mut Dispatch<'_>, item: TenantItem) -> Result<(), Fail> {
     if dispatch.is_out() || dispatch.room() == 0 || dispatch.ended() {
         return Err(Fail::from("nothing may be gathered"));
     }
-    dispatch.gather(item)?;
-    Ok(())
+    Ok(dispatch.gather(item)?)
 }
 
 fn gather_ends(dispatch: &mut Dispatch<'_>, words: &str) -> Result<(), Fail> {
-    let (conn, times) = words.split_once(' ').unwrap_or((words, "1"));
-    let conn = ConnId(conn.parse::<u32>()?);
-    for _ in 0..times.parse::<u32>()? {
-        gather(dispatch, TenantItem::End(conn))?;
+    let (conn, times) = word_and_rest(words);
+    gather_so_many(dispatch, conn.parse::<u32>()?, times_of(times)?)
+}
+
+fn gather_so_many(dispatch: &mut Dispatch<'_>, conn: u32, times: u32) -> Result<(), Fail> {
+    for _ in 0..times {
+        gather(dispatch, TenantItem::End(ConnId(conn)))?;
     }
     Ok(())
+}
+
+fn times_of(word: &str) -> Result<u32, Fail> {
+    match word {
+        "" => Ok(1),
+        _ => Ok(word.parse::<u32>()?),
+    }
 }
 
 fn gather_event(alloc: Global, dispatch: &mut Dispatch<'_>, words: &str) -> Result<(), Fail> {
@@ -51,34 +69,30 @@ fn gather_event(alloc: Global, dispatch: &mut Dispatch<'_>, words: &str) -> Resu
 }
 
 fn stamped(alloc: Global, words: &str) -> Result<Stamped, Fail> {
-    let (conn, rest) = words.split_once(' ').ok_or("a connection")?;
-    let (number, kind) = rest.split_once(' ').ok_or("a number")?;
-    let stamp = Stamp {
+    let (conn, rest) = word_and_rest(words);
+    let (number, kind) = word_and_rest(rest);
+    let stamp = stamp_of(conn, number)?;
+    let line = format!(in alloc; r#"{{"type":"{kind}","change":{{"project":"demo"}}}}"#)?;
+    stamped_event(alloc, stamp, line.as_str())
+}
+
+fn stamp_of(conn: &str, number: &str) -> Result<Stamp, Fail> {
+    Ok(Stamp {
         conn: ConnId(conn.parse::<u32>()?),
         number: number.parse::<u64>()?,
-    };
-    let event = Shared::new(alloc, event_of(alloc, kind)?)?;
+    })
+}
+
+fn stamped_event(alloc: Global, stamp: Stamp, line: &str) -> Result<Stamped, Fail> {
+    let event = Shared::new(alloc, event_of(alloc, line)?)?;
     Ok(Stamped { stamp, event })
-}
-
-fn event_of(alloc: Global, kind: &str) -> Result<Event, Fail> {
-    match read_record(alloc, &record_of(alloc, kind)?)? {
-        Reading::Event(event) => Ok(event),
-        Reading::Nothing(_) => Err(Fail::from("an event")),
-    }
-}
-
-fn record_of(alloc: Global, kind: &str) -> Result<Record, Fail> {
-    let line = format!(in alloc; r#"{{"type":"{kind}","change":{{"project":"demo"}}}}"#)?;
-    Ok(Record::Line(Sequence::new(line.as_bytes().to_vec(alloc)?)))
 }
 
 fn match_batch(alloc: Global, dispatch: &mut Dispatch<'_>) -> Result<(), Fail> {
     if !dispatch.has_gathered() {
         return Err(Fail::from("nothing is gathered"));
     }
-    dispatch.match_batch(alloc)?;
-    Ok(())
+    Ok(dispatch.match_batch(alloc)?)
 }
 
 fn take_back(dispatch: &mut Dispatch<'_>) -> Result<(), Fail> {
@@ -99,53 +113,55 @@ fn back(dispatch: &mut Dispatch<'_>, item: PipelineItem) -> Result<(), Fail> {
     Ok(())
 }
 
-fn give_all(alloc: Global, dispatch: &mut Dispatch<'_>) -> Result<String, Fail> {
-    let mut given = String::new(alloc);
+fn give_all(text: &mut String, dispatch: &mut Dispatch<'_>) -> Result<(), Fail> {
     for _ in 0..1000 {
-        if dispatch.is_out() {
-            return Err(Fail::from("an item is out"));
-        }
-        let Some((pipeline, item)) = dispatch.next() else {
-            return Ok(given);
-        };
-        push_item(alloc, &mut given, pipeline, &item)?;
-        if dispatch.is_out() {
-            dispatch.given();
+        if !give(text, dispatch)? {
+            return Ok(());
         }
     }
     Err(Fail::from("items without an end"))
 }
 
-fn push_item(
-    alloc: Global,
-    given: &mut String,
-    pipeline: PipelineId,
-    item: &PipelineItem,
-) -> Result<(), Fail> {
-    if !given.is_empty() {
-        given.push_str(" ")?;
+// Gives the next item, if there is one.
+fn give(text: &mut String, dispatch: &mut Dispatch<'_>) -> Result<bool, Fail> {
+    if dispatch.is_out() {
+        return Err(Fail::from("an item is out"));
     }
-    let text = match item {
-        PipelineItem::End => format!(in alloc; "{}:end", pipeline.0)?,
-        PipelineItem::Event(stamped) => {
-            let stamp = stamped.stamp;
-            format!(in alloc; "{}:{}/{}", pipeline.0, stamp.conn.0, stamp.number)?
-        }
+    let Some((pipeline, item)) = dispatch.next() else {
+        return Ok(false);
     };
-    given.push_str(text.as_str())?;
-    Ok(())
+    push_item(text, pipeline, &item)?;
+    if dispatch.is_out() {
+        dispatch.given();
+    }
+    Ok(true)
 }
 
-fn asked(alloc: Global, dispatch: &Dispatch<'_>, word: &str) -> Result<String, Fail> {
-    if word == "empty" {
-        return Ok(format!(in alloc; "{}", dispatch.is_empty())?);
+fn push_item(
+    text: &mut String,
+    pipeline: PipelineId,
+    item: &PipelineItem,
+) -> Result<(), AllocError> {
+    if !text.is_empty() {
+        text.push_str(" ")?;
     }
+    match item {
+        PipelineItem::End => write!(text, "{}:end", pipeline.0),
+        PipelineItem::Event(stamped) => {
+            let stamp = stamped.stamp;
+            write!(text, "{}:{}/{}", pipeline.0, stamp.conn.0, stamp.number)
+        }
+    }
+}
+
+fn push_asked(text: &mut String, dispatch: &Dispatch<'_>, word: &str) -> Result<(), Fail> {
     if dispatch.is_out() {
         return Err(Fail::from("an item is out"));
     }
     match word {
-        "room" => Ok(format!(in alloc; "{}", dispatch.room())?),
-        "ended" => Ok(format!(in alloc; "{}", dispatch.ended())?),
+        "empty" => Ok(write!(text, "{}", dispatch.is_empty())?),
+        "room" => Ok(write!(text, "{}", dispatch.room())?),
+        "ended" => Ok(write!(text, "{}", dispatch.ended())?),
         _ => Err(Fail::from("a step")),
     }
 }
