@@ -33,7 +33,8 @@ use Rattle.gate_core.specs.declared.answer.Answer.TheVariants.{Accepted, Closed,
 use Rattle.gate_core.specs.declared.pipeline.Pipeline.{Pipeline}
 use Rattle.gate_core.specs.declared.step.Step.{Step}
 use Rattle.gate_core.specs.declared.step.Step.TheVariants as step
-use Rattle.gate_core.specs.History.{History, finished, manage_posts, result_posts, triggering}
+use Rattle.gate_pipeline.specs.Histories.{triggering}
+use Rattle.gate_core.specs.History.{History, finished, manage_posts, result_posts}
 use Rattle.gate_core.specs.History.{turned as turned_of}
 use Rattle.gate_core.specs.Pipelines.{answer_of, first_ended, first_managed, first_triggered, found_where, passed_on, post_manage, post_result, took, turned, turned_by}
 use Rattle.gate_core.specs.States.{ConnectionState, TenantState, State}

@@ -21,7 +21,8 @@ use Rattle.gate_config.specs.Selection.{is_listed, selects, selects_reading}
 use Rattle.gate_forward.specs.Forwarding.{conn_id, stamped, forwarded, forwarded_entry, forwarded_reading}
 use Rattle.gate_tenant.specs.Dispatching.{chosen, chosen_item, holds_ends}
 use Rattle.gate_core.specs.History.{number_from, number_where, wanted}
-use Rattle.gate_core.specs.Ways.{WantedArrive, arrives, entries_of, number_of_item, numbered}
+use Rattle.gate_record.specs.Entries.{entries_of, numbered}
+use Rattle.gate_core.specs.Ways.{WantedArrive, arrives, number_of_item}
 use Rattle.gate_core.proofs.Maps.{filter_map-filter_map, filter_map_still}
 
 pub same_as_itself : (n : ℕ) → (n == n) ≡ true

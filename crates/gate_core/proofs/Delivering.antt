@@ -21,10 +21,12 @@ use Rattle.gate_config.specs.Lookups.{connections_of, has_project, lists, projec
 use Rattle.gate_config.specs.Selection.{is_listed, selects_event}
 use Rattle.gate_config.specs.declared.project_set.ProjectSet.{ProjectSet}
 use Rattle.gate_forward.specs.Forwarding.{forwarded, forwarded_entry, forwarded_reading, stamped, conn_id}
-use Rattle.gate_tenant.specs.Dispatching.{chosen, chosen_item, holds_ends, is_end_of}
+use Rattle.gate_tenant.specs.Dispatching.{chosen, chosen_item, holds_ends, is_end_of, is_from}
 use Rattle.gate_core.specs.History.{wanted}
-use Rattle.gate_core.specs.Promises.{IsPrefixOf}
-use Rattle.gate_core.specs.Ways.{EachWayDelivers, Way, entries_of, is_end, is_from, mark, number_of_item, numbered}
+use Rattle.gate_record.specs.Prefixes.{IsPrefixOf}
+use Rattle.gate_record.specs.Entries.{entries_of, numbered}
+use Rattle.gate_pipeline.specs.Histories.{is_end}
+use Rattle.gate_core.specs.Ways.{EachWayDelivers, Way, mark, number_of_item}
 use Rattle.gate_core.proofs.Arrivals.{brought, by_items, wanted_arrive}
 use Rattle.gate_core.proofs.Maps.{filter_map_none}
 

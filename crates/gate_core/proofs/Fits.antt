@@ -21,42 +21,15 @@ use Rattle.gate_items.specs.Outcomes.{run}
 use Rattle.gate_pipeline.specs.declared.which.Held.{Held}
 use Rattle.gate_pipeline.specs.declared.which.Held.TheVariants as held
 use Rattle.gate_pipeline.specs.declared.which.Taken.TheVariants as taking
-use Rattle.gate_pipeline.specs.Histories.{action_of, stamp_of}
+use Rattle.gate_pipeline.specs.Histories.{action_of, asking, held_ended, held_items, held_managed, is_end, managing, outcome_of, resulting, stamp_in, stamp_of, triggering}
 use Rattle.gate_pipeline.specs.States.{Processed, counted, found_empty, held_as, processed}
 use Rattle.gate_pipeline.specs.Triggers.{trigger_of}
 use Rattle.gate_tenant.specs.Histories.{items_for}
 use Rattle.gate_core.specs.declared.pipeline.Pipeline.{Pipeline}
-use Rattle.gate_core.specs.History.{managing, outcome_of, resulting, triggering}
 use Rattle.gate_core.specs.Pipelines.{fresh_pipeline, took}
 use Rattle.gate_core.specs.Promises.{no_items}
-use Rattle.gate_core.specs.Ways.{is_end}
 use Rattle.gate_core.proofs.Maps.{filter_map_push}
 use Rattle.gate_core.proofs.Pushes.{or_false, or_true}
-
-abbrev pub stamp_in : PipelineItem → Option Stamp
-stamp_in (pipeline.Event s) = Some s.stamp
-stamp_in pipeline.End = None
-
--- what a trigger event asks for
-abbrev pub asking : Config → ℕ → ℕ → PipelineItem → Option (Option Stamp × Action)
-asking config t p (pipeline.Event s) = Some (Some s.stamp, trigger_of config t p s)
-asking config t p pipeline.End = None
-
--- what is held, as it stood in its queue
-abbrev pub held_items : Option Held → List PipelineItem
-held_items None = []
-held_items (Some (held.Event e)) = pipeline.Event e ∷ []
-held_items (Some (held.Action a)) = []
-
-abbrev pub held_managed : Option Held → List Manage
-held_managed None = []
-held_managed (Some (held.Event e)) = []
-held_managed (Some (held.Action a)) = option_to_list (managing a)
-
-abbrev pub held_ended : Option Held → List JobResult
-held_ended None = []
-held_ended (Some (held.Event e)) = []
-held_ended (Some (held.Action a)) = option_to_list (resulting a)
 
 -- a trigger is held as its event
 abbrev pub IsNoTrigger : Option Held → Type 0

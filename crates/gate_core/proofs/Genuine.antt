@@ -21,11 +21,12 @@ use Rattle.gate_config.specs.Selection.{is_listed, selects_event}
 use Rattle.gate_forward.specs.Forwarding.{conn_id, forwarded, forwarded_entry, forwarded_reading, stamped}
 use Rattle.gate_items.specs.declared.action.Action.{Action}
 use Rattle.gate_pipeline.specs.Triggers.{trigger_of}
-use Rattle.gate_tenant.specs.Dispatching.{chosen, chosen_item, holds_ends}
+use Rattle.gate_tenant.specs.Dispatching.{chosen, chosen_item, conn_of_item, holds_ends, is_from}
 use Rattle.gate_core.specs.History.{History, accepted, asked_by, asked_of, closed}
-use Rattle.gate_core.specs.Ways.{conn_of_item, entries_of, is_from, mark, numbered}
+use Rattle.gate_record.specs.Entries.{entries_of, numbered}
+use Rattle.gate_core.specs.Ways.{mark}
 use Rattle.gate_core.proofs.Arrivals.{same_as_itself}
-use Rattle.gate_core.proofs.Fits.{asking}
+use Rattle.gate_pipeline.specs.Histories.{asking}
 use Rattle.gate_core.proofs.Streams.{put_by}
 use Rattle.gate_core.proofs.Working.{the_same}
 

@@ -25,7 +25,9 @@ use Rattle.gate_core.specs.declared.answer.Answer.TheVariants.{Accepted, Moved}
 use Rattle.gate_core.specs.declared.step.Step.TheVariants as step
 use Rattle.gate_core.specs.History.{History, accepted, closed, is_put, is_taking}
 use Rattle.gate_core.specs.States.{ConnectionState, State}
-use Rattle.gate_core.specs.Ways.{conn_of_item, entries_of, mark, numbered}
+use Rattle.gate_tenant.specs.Dispatching.{conn_of_item}
+use Rattle.gate_record.specs.Entries.{entries_of, numbered}
+use Rattle.gate_core.specs.Ways.{mark}
 use Rattle.gate_core.proofs.Arrivals.{same_as_itself}
 use Rattle.gate_core.proofs.Maps.{cons_option_is, enumerate_from-append, filter_map_push}
 use Rattle.gate_core.proofs.Pushes.{accepted_push, closed_push, count_push, or_false}

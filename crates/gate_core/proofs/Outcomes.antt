@@ -13,18 +13,19 @@ use Rattle.gate_config.specs.declared.config.Config.{Config}
 use Rattle.gate_config.specs.Lookups.{connections_of, pipelines_of}
 use Rattle.gate_forward.specs.Forwarding.{forwarded}
 use Rattle.gate_forward.specs.Histories.{items_to}
-use Rattle.gate_tenant.specs.Dispatching.{chosen}
+use Rattle.gate_tenant.specs.Dispatching.{chosen, is_from}
 use Rattle.gate_tenant.specs.Histories.{EachGetsItsOwn, NothingIsLost, item_for, items_for}
-use Rattle.gate_pipeline.specs.Histories.{stamp_of}
+use Rattle.gate_pipeline.specs.Histories.{stamp_in, stamp_of}
 use Rattle.gate_pipeline.specs.States.{Processed}
 use Rattle.gate_core.specs.declared.pipeline.Pipeline.{Pipeline}
 use Rattle.gate_core.specs.History.{History, accepted, closed, done, finished, number_from, numbers_from, wanted}
-use Rattle.gate_core.specs.Promises.{Delivers, IsPrefixOf}
+use Rattle.gate_record.specs.Prefixes.{IsPrefixOf}
+use Rattle.gate_core.specs.Promises.{Delivers}
 use Rattle.gate_core.specs.States.{TenantState, State}
-use Rattle.gate_core.specs.Ways.{Way, is_from, number_of_item}
+use Rattle.gate_core.specs.Ways.{Way, number_of_item}
 use Rattle.gate_core.proofs.Delivering.{none_wanted, prefix as taken_in_order, whole as taken_whole}
 use Rattle.gate_core.proofs.Maps.{filter_map-filter_map, filter_map_same}
-use Rattle.gate_core.proofs.Fits.{stamp_in, waiting_items}
+use Rattle.gate_core.proofs.Fits.{waiting_items}
 use Rattle.gate_core.proofs.Streams.{Holds, PipeHolds, TenantHolds, count_of, hand_of, pipe_of, queue_of}
 
 -- ---- numbers

@@ -17,16 +17,17 @@ use Rattle.gate_items.specs.declared.action.Outcome.TheVariants.{Discarded}
 use Rattle.gate_items.specs.History.{CancelledChangesNothing, after, start}
 use Rattle.gate_items.specs.Machine.{State as ItemsState, apply}
 use Rattle.gate_items.specs.Outcomes.{OutcomesAreSaid, run, said}
-use Rattle.gate_pipeline.specs.Histories.{action_of, stamp_of}
+use Rattle.gate_pipeline.specs.Histories.{action_of, asking, managing, outcome_of, resulting, stamp_in, stamp_of, triggering}
 use Rattle.gate_pipeline.specs.States.{Processed, manager_of}
 use Rattle.gate_tenant.specs.Histories.{EachGetsItsOwn, NothingIsLost, items_for}
 use Rattle.gate_core.specs.declared.pipeline.Pipeline.{Pipeline}
-use Rattle.gate_core.specs.History.{History, actions, asked_by, done, manage_posts, managed, managing, outcome_of, outcomes, result_posts, resulted, resulting, stamp_with, triggered, triggering}
+use Rattle.gate_core.specs.History.{History, actions, asked_by, done, manage_posts, managed, outcomes, result_posts, resulted, stamp_with, triggered}
 use Rattle.gate_core.specs.Late.{LateIsDiscarded, actions_in}
-use Rattle.gate_core.specs.Promises.{IsPrefixOf, Keeps, Processes, no_items}
+use Rattle.gate_record.specs.Prefixes.{IsPrefixOf}
+use Rattle.gate_core.specs.Promises.{Keeps, Processes, no_items}
 use Rattle.gate_core.specs.States.{State, TenantState, items_at}
-use Rattle.gate_core.specs.Ways.{is_from}
-use Rattle.gate_core.proofs.Fits.{after_push, asking, stamp_in, waiting_ended, waiting_items, waiting_managed}
+use Rattle.gate_tenant.specs.Dispatching.{is_from}
+use Rattle.gate_core.proofs.Fits.{after_push, waiting_ended, waiting_items, waiting_managed}
 use Rattle.gate_core.proofs.Genuine.{AllOf, IsAsked, ItemIs, TriggerIs, all_at, all_from, all_front, asked_are, chosen_are, forwarded_are}
 use Rattle.gate_core.proofs.Delivering.{head_same, tail_same}
 use Rattle.gate_core.proofs.Outcomes.{all_chosen}

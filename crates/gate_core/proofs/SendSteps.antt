@@ -14,7 +14,7 @@ use Rattle.gate_core.specs.declared.answer.Answer.TheVariants.{Moved}
 use Rattle.gate_core.specs.declared.step.Step.TheVariants as step
 use Rattle.gate_core.specs.History.{History, finished, turned}
 use Rattle.gate_core.specs.States.{ConnectionState, TenantState, State}
-use Rattle.gate_core.specs.Ways.{conn_of_item, is_from}
+use Rattle.gate_tenant.specs.Dispatching.{conn_of_item, is_from}
 use Rattle.gate_core.proofs.Arrivals.{same_as_itself}
 use Rattle.gate_core.proofs.Sendings.{differs}
 use Rattle.gate_core.proofs.Spots.{AfterSet, after_set, another, it}

@@ -21,7 +21,9 @@ use Rattle.gate_core.specs.declared.step.Step.{Step}
 use Rattle.gate_core.specs.declared.step.Step.TheVariants as step
 use Rattle.gate_core.specs.History.{History, accepted, finished, closed, manage_posts, posted_manage, posted_result, result_posts, turned, is_put, is_taking, is_turn, is_close, is_take, is_offer, is_moved, is_accepted, offered_to, processed}
 use Rattle.gate_core.specs.States.{ConnectionState, TenantState, State}
-use Rattle.gate_core.specs.Ways.{conn_of_item, entries_of, is_from, mark}
+use Rattle.gate_tenant.specs.Dispatching.{conn_of_item, is_from}
+use Rattle.gate_record.specs.Entries.{entries_of}
+use Rattle.gate_core.specs.Ways.{mark}
 use Rattle.gate_core.proofs.Fits.{PipeFits, fits_same}
 use Rattle.gate_core.proofs.Pushes.{accepted_push, closed_push, cond_none, count_push, ended_push, finished_push, managed_push, or_false, turned_push}
 

@@ -18,7 +18,7 @@ use Rattle.gate_core.specs.declared.step.Step.{Step}
 use Rattle.gate_core.specs.History.{History, finished, turned}
 use Rattle.gate_core.specs.States.{TenantState, State}
 use Rattle.gate_core.specs.Steps.{with_item}
-use Rattle.gate_core.specs.Ways.{is_from}
+use Rattle.gate_tenant.specs.Dispatching.{is_from}
 use Rattle.gate_core.proofs.Arrivals.{same_as_itself}
 use Rattle.gate_core.proofs.Fits.{fits_given, fits_still}
 use Rattle.gate_core.proofs.Maps.{filter_map_push, filter_map_still}

@@ -10,11 +10,10 @@ use Rattle.gate_record.specs.Reading.{reading_of}
 use Rattle.gate_config.specs.declared.config.Config.{Config}
 use Rattle.gate_config.specs.Selection.{selects}
 use Rattle.gate_items.specs.declared.action.Action.{Action}
-use Rattle.gate_items.specs.declared.action.Action.TheVariants as action
 use Rattle.gate_items.specs.declared.action.JobResult.{JobResult}
 use Rattle.gate_items.specs.declared.action.Manage.{Manage}
 use Rattle.gate_items.specs.declared.action.Outcome.{Outcome}
-use Rattle.gate_pipeline.specs.Histories.{action_of, stamp_of}
+use Rattle.gate_pipeline.specs.Histories.{action_of, managing, outcome_of, resulting, stamp_of, triggering}
 use Rattle.gate_pipeline.specs.States.{Processed}
 use Rattle.gate_pipeline.specs.Triggers.{trigger_of}
 use Rattle.gate_core.specs.declared.answer.Answer.{Answer}
@@ -172,9 +171,6 @@ turned t p history = filter_map (turned_in t p) history
 abbrev pub actions : ℕ → ℕ → History → List Action
 actions t p history = map action_of (turned t p history)
 
-abbrev pub outcome_of : Processed → Action × Outcome
-outcome_of done = (done.1, done.2)
-
 abbrev pub outcomes : ℕ → ℕ → History → List (Action × Outcome)
 outcomes t p history = map outcome_of (turned t p history)
 
@@ -191,11 +187,6 @@ abbrev pub numbers_from : ℕ → List Stamp → List ℕ
 numbers_from c stamps = filter_map (number_from c) stamps
 
 -- the triggers among the actions that it has processed, each with its stamp
-abbrev pub triggering : Processed → Option (Option Stamp × Action)
-triggering (stamp, action.Trigger key patchset jobs, outcome) = Some (stamp, action.Trigger key patchset jobs)
-triggering (stamp, action.Manage manage, outcome) = None
-triggering (stamp, action.Result ended, outcome) = None
-
 abbrev pub triggered : ℕ → ℕ → History → List (Option Stamp × Action)
 triggered t p history = filter_map triggering (turned t p history)
 
@@ -213,17 +204,7 @@ asked_by config t p history None = None
 asked_by config t p history (Some stamp) =
     option_and_then (λ (line : Record). asked_of config t p stamp (reading_of line)) (slice_get (accepted stamp.conn.0 history) stamp.number)
 
--- the management events and the results among actions
-abbrev pub managing : Action → Option Manage
-managing (action.Manage manage) = Some manage
-managing (action.Result ended) = None
-managing (action.Trigger key patchset jobs) = None
-
-abbrev pub resulting : Action → Option JobResult
-resulting (action.Result ended) = Some ended
-resulting (action.Manage manage) = None
-resulting (action.Trigger key patchset jobs) = None
-
+-- the management events and the results among them
 abbrev pub managed : ℕ → ℕ → History → List Manage
 managed t p history = filter_map managing (actions t p history)
 

@@ -3,6 +3,7 @@ use Rattle.std.specs.Prelude.{◌≡◌, ◌<◌, ◌==◌, ℕ, List, [], ◌�
 use Rattle.std.specs.List.{filter_map}
 use Rattle.std.specs.Option.{option_to_list}
 use Rattle.gate_record.specs.declared.ids.Stamp.{Stamp}
+use Rattle.gate_record.specs.Prefixes.{IsPrefixOf}
 use Rattle.gate_config.specs.declared.config.Config.{Config}
 use Rattle.gate_config.specs.Lookups.{connections_of, pipelines_of, tenants_of}
 use Rattle.gate_items.specs.declared.action.Action.{Action}
@@ -21,9 +22,6 @@ use Rattle.gate_core.specs.Late.{LateIsDiscarded}
 use Rattle.gate_core.specs.Reports.{report_after, report_of}
 use Rattle.gate_core.specs.States.{State, items_at}
 use Rattle.gate_core.specs.Steps.{first, left_by, run_from}
-
-abbrev pub IsPrefixOf : {X : Type 0} → List X → List X → Type 0
-IsPrefixOf {X} front whole = (rest : List X) × (front ++ rest ≡ whole)
 
 -- The trigger events that a pipeline has processed are, connection by connection, a prefix of the accepted records
 -- that its rules select, each once and in order, and all of them once its end mark is met.

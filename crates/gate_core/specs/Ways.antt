@@ -1,27 +1,21 @@
 -- The way of a connection's records to a pipeline, as a whole: what is forwarded, then chosen, is what is wanted; and in its
 -- parts, wherever they are.
-use Rattle.std.specs.Prelude.{◌≡◌, ◌<◌, ◌==◌, ℕ, List, [], ◌∷◌, ◌++◌, Bool, true, false, Option, None, length, map, take}
-use Rattle.std.specs.List.{enumerate_from, filter, filter_map, list_any}
+use Rattle.std.specs.Prelude.{◌≡◌, ◌<◌, ℕ, List, [], ◌∷◌, ◌++◌, Bool, true, false, Option, None, length, take}
+use Rattle.std.specs.List.{filter, filter_map, list_any}
 use Rattle.gate_record.specs.declared.record.Record.{Record}
+use Rattle.gate_record.specs.Entries.{entries_of}
 use Rattle.gate_record.specs.declared.transit.ConnEntry.{ConnEntry}
 use Rattle.gate_record.specs.declared.transit.ConnEntry.TheVariants as entry
 use Rattle.gate_record.specs.declared.transit.TenantItem.{TenantItem}
-use Rattle.gate_record.specs.declared.transit.TenantItem.TheVariants as tenant
 use Rattle.gate_record.specs.declared.transit.PipelineItem.{PipelineItem}
 use Rattle.gate_record.specs.declared.transit.PipelineItem.TheVariants as item
 use Rattle.gate_config.specs.declared.config.Config.{Config}
 use Rattle.gate_config.specs.Lookups.{connections_of}
 use Rattle.gate_forward.specs.Forwarding.{forwarded}
-use Rattle.gate_tenant.specs.Dispatching.{chosen}
+use Rattle.gate_tenant.specs.Dispatching.{chosen, is_from}
+use Rattle.gate_pipeline.specs.Histories.{is_end}
 use Rattle.gate_core.specs.History.{number_from, wanted}
-use Rattle.gate_core.specs.Promises.{IsPrefixOf}
-
-abbrev pub numbered : ℕ × Record → ConnEntry
-numbered record' = entry.Numbered record'.0 record'.1
-
--- the entries of records, which are numbered from 0 in order
-abbrev pub entries_of : List Record → List ConnEntry
-entries_of records = map numbered (enumerate_from 0 records)
+use Rattle.gate_record.specs.Prefixes.{IsPrefixOf}
 
 -- the number of an event of connection c
 abbrev pub number_of_item : ℕ → PipelineItem → Option ℕ
@@ -45,18 +39,6 @@ pub record WantedArrive : Type 0 where
 abbrev pub mark : Bool → List ConnEntry
 mark true = entry.End ∷ []
 mark false = []
-
--- the connection of an item
-abbrev pub conn_of_item : TenantItem → ℕ
-conn_of_item (tenant.Event s) = s.stamp.conn.0
-conn_of_item (tenant.End d) = d.0
-
-abbrev pub is_from : ℕ → TenantItem → Bool
-is_from c item = conn_of_item item == c
-
-abbrev pub is_end : PipelineItem → Bool
-is_end (item.Event s) = false
-is_end item.End = true
 
 -- The way of connection c's records to pipeline p of tenant t, behind which the end mark was put if it is closed. What the
 -- pipeline has taken, followed by what it still gets, is what is chosen of what the tenant has matched. Of what it matched and

@@ -1,7 +1,9 @@
 pub mod Approvals
+pub mod Entries
 pub mod Json
 pub mod Lines
 pub mod Names
 pub mod Numbers
+pub mod Prefixes
 pub mod Queues
 pub mod Reading

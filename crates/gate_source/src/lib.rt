@@ -3,7 +3,7 @@
 //! A `LineSplit` cuts a stream into records, in whatever pieces it comes: `the_cutting_does_not_matter`. A `StopCell` holds
 //! the cause to stop, which whoever asks first sets for good; each thread has a note of it, and two notes that know a cause
 //! know the same one (`StopNote::agree`). A `Source` numbers the records that it accepts, and puts them into its connection's
-//! queue, and the end mark behind them; it accepts none once its note knows a cause to stop. No call but `offer` and `close`
+//! queue, and the end mark behind them (`accepted_records_are_numbered`); it accepts none once its note knows a cause to stop. No call but `offer` and `close`
 //! may wait.
 #![tactic(auto)]
 
@@ -13,7 +13,9 @@ mod source;
 mod split;
 mod stop;
 
-pub use laws::{the_cutting_does_not_matter, the_lines_that_ended_are_given};
+pub use laws::{
+    accepted_records_are_numbered, the_cutting_does_not_matter, the_lines_that_ended_are_given,
+};
 pub use source::{ClosedSource, MOST_RECORDS, OfferFault, Source};
 pub use split::LineSplit;
 pub use stop::{StopCause, StopCell, StopNote};

@@ -1,6 +1,6 @@
 -- What pipelines get of a tenant's items.
-use Rattle.std.specs.Prelude.{ℕ, List, [], ◌∷◌, ◌++◌, Bool, true, false, not, ◌||◌, ◌==◌, Option, Some, None, fold, get_or, length, map, option_map, replicate, slice_set, if◌then◌else◌}
-use Rattle.std.specs.List.{filter_map, list_all, list_any, range_with_len}
+use Rattle.std.specs.Prelude.{◌≡◌, ℕ, List, [], ◌∷◌, ◌++◌, Bool, true, false, not, ◌||◌, ◌==◌, Option, Some, None, fold, get_or, length, map, option_map, replicate, slice_set, if◌then◌else◌}
+use Rattle.std.specs.List.{filter, filter_map, list_all, list_any, range_with_len}
 use Rattle.gate_record.specs.declared.ids.PipelineId.{PipelineId}
 use Rattle.gate_record.specs.declared.transit.TenantItem.{TenantItem}
 use Rattle.gate_record.specs.declared.transit.TenantItem.TheVariants as tenant
@@ -68,3 +68,23 @@ is_marked config t marks c = not (lists config t c) || get_or marks c false
 -- each connection that tenant t lists has its end mark among these
 abbrev pub all_marked : Config → ℕ → List Bool → Bool
 all_marked config t marks = list_all (is_marked config t marks) (range_with_len 0 (length (connections_of config)))
+
+-- ---- one connection's part
+
+-- the connection of an item
+abbrev pub conn_of_item : TenantItem → ℕ
+conn_of_item (tenant.Event s) = s.stamp.conn.0
+conn_of_item (tenant.End d) = d.0
+
+abbrev pub is_from : ℕ → TenantItem → Bool
+is_from c item = conn_of_item item == c
+
+-- the item is an event of connection c
+abbrev pub is_event_of : ℕ → PipelineItem → Bool
+is_event_of c (pipeline.Event s) = s.stamp.conn.0 == c
+is_event_of c pipeline.End = false
+
+-- Of what a pipeline gets, the events of a connection are what it gets of that connection's items alone, end marks aside.
+abbrev pub OneConnectionAlone : Type 0
+OneConnectionAlone = (config : Config) (t p c : ℕ) (items : List TenantItem) →
+    filter (is_event_of c) (chosen config t p items) ≡ filter_map (chosen_item config t p) (filter (is_from c) items)

@@ -1,3 +1,4 @@
+ghost use Rattle.gate_tenant.specs.Dispatching.{OneConnectionAlone};
 ghost use Rattle.gate_tenant.specs.Histories.{AllWasGiven, EachGetsItsOwn, NothingIsLost};
 
 /// What was given to a pipeline, followed by its item that is out and by what the hand holds for it, is what it gets of
@@ -19,4 +20,11 @@ pub fn nothing_that_was_gathered_is_lost()
 #[tactic(auto, using(crate::proofs::Holding::all_was_given))]
 pub fn all_was_given_once_it_ended()
     ensures { AllWasGiven }
+{}
+
+/// Of what a pipeline gets of its tenant's items, the events of a connection are what it gets of that connection's items alone,
+/// end marks aside.
+#[tactic(auto, using(crate::proofs::Apart::one_connection_alone))]
+pub fn a_connection_is_chosen_by_itself()
+    ensures { OneConnectionAlone }
 {}

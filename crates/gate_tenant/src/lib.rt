@@ -9,7 +9,8 @@ mod matching;
 
 pub use dispatch::Dispatch;
 pub use laws::{
-    all_was_given_once_it_ended, each_pipeline_gets_its_own, nothing_that_was_gathered_is_lost,
+    a_connection_is_chosen_by_itself, all_was_given_once_it_ended, each_pipeline_gets_its_own,
+    nothing_that_was_gathered_is_lost,
 };
 
 /// How many items of a tenant may be gathered and matched together (this project's profile).
