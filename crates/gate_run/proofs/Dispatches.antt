@@ -1,0 +1,192 @@
+-- What the steps of a tenant's worker keep.
+use Rattle.std.proofs.Common.{◌≡◌, ◌∙◌, refl, sym, ap, subst, ℕ, ◌<◌, ◌==◌, List, [], ◌∷◌, ◌++◌, Bool, true, false, length, map, slice_index_or, Option, Some, None, if◌then◌else◌, append-nil, append_assoc}
+use Rattle.std.specs.List.{cons_option}
+use Rattle.std.specs.Option.{option_to_list}
+use Rattle.std.proofs.lemmas.List.Elements.{filter_map-append}
+use Rattle.gate_record.specs.declared.ids.PipelineId.{PipelineId}
+use Rattle.gate_record.specs.declared.transit.PipelineItem.{PipelineItem}
+use Rattle.gate_record.specs.declared.transit.TenantItem.{TenantItem}
+use Rattle.gate_config.specs.declared.config.Config.{Config}
+use Rattle.gate_config.specs.Lookups.{pipelines_of}
+use Rattle.gate_tenant.specs.Histories.{EachGetsItsOwn, NothingIsLost, beginning, begins, gathers, gives, item_for, items_for, matches, moves}
+use Rattle.gate_tenant.specs.States.{State, config_of, first_state, has_ended, matched, moved_out, put_back, room_of, state_of, tenant_of}
+use Rattle.gate_queue.specs.declared.tagged.Tagged.{Tagged}
+use Rattle.gate_queue.specs.Seats.{IsHeadOf, SenderSeat, Shape, TakerSeat}
+use Rattle.gate_run.specs.declared.dispatcher.Dispatching.{Dispatching}
+use Rattle.gate_run.specs.Dispatchers.{GivenInOrder, HasDispatched, IsDispatching}
+use Rattle.gate_run.specs.Seats.{PutAt, fresh_head, fresh_tail, seat_in, seat_of, values}
+use Rattle.gate_run.proofs.Seated.{fresh_put, taken_more}
+
+module _ {config : Config} {t : ℕ} {f : Dispatching} (f' : Dispatching) (was : IsDispatching config t f) (conf : config_of f'.dispatch ≡ config_of f.dispatch) (tenant : tenant_of f'.dispatch ≡ tenant_of f.dispatch) where
+  puts : f'.tails.items ≡ f.tails.items → (p : ℕ) (d : SenderSeat PipelineItem) → p < length f'.tails.items → (slice_index_or f'.tails.items p d).put ≡ items_for p was.past.given
+  puts tails p d low = ap (λ zs. (slice_index_or zs p d).put) tails ∙ was.put p d (subst (λ zs. p < length zs) tails low)
+
+  same_taken : f'.head.taken ≡ f.head.taken → f'.kept ≡ f.kept → was.past.taken ++ option_to_list f'.kept ≡ values f'.head.taken
+  same_taken taken kept = ap (λ (o : Option TenantItem). was.past.taken ++ option_to_list o) kept ∙ was.gathered ∙ ap values (sym taken)
+
+  -- nothing changed
+  pub still : state_of f'.dispatch ≡ state_of f.dispatch → f'.head.taken ≡ f.head.taken → f'.kept ≡ f.kept → f'.tails.items ≡ f.tails.items → IsDispatching config t f'
+  still state taken kept tails = record {
+    by_config = conf ∙ was.by_config;
+    of_tenant = tenant ∙ was.of_tenant;
+    past = was.past;
+    happens = was.happens;
+    now = was.now ∙ sym state;
+    in_hand = was.in_hand;
+    place = ap (λ (s : State). s.out) state ∙ was.place;
+    gathered = same_taken taken kept;
+    put = puts tails;
+  }
+
+  -- an item was taken and is kept
+  pub kept_one : (x : Tagged TenantItem) → f.kept ≡ None → f'.head.taken ≡ f.head.taken ++ x ∷ [] → f'.tails.items ≡ f.tails.items → (item : TenantItem) → f'.kept ≡ Some item → state_of f'.dispatch ≡ state_of f.dispatch → x.value ≡ item → IsDispatching config t f'
+  kept_one x free more tails item kept state is = record {
+    by_config = conf ∙ was.by_config;
+    of_tenant = tenant ∙ was.of_tenant;
+    past = was.past;
+    happens = was.happens;
+    now = was.now ∙ sym state;
+    in_hand = was.in_hand;
+    place = ap (λ (s : State). s.out) state ∙ was.place;
+    gathered = ap (λ (o : Option TenantItem). was.past.taken ++ option_to_list o) kept ∙ taken_more was.past.taken f.kept f.head.taken f'.head.taken x item was.gathered free is more;
+    put = puts tails;
+  }
+
+  -- an item was taken and gathered
+  pub gathered_one : (x : Tagged TenantItem) → f.kept ≡ None → f'.head.taken ≡ f.head.taken ++ x ∷ [] → f'.tails.items ≡ f.tails.items → f'.kept ≡ None → 0 < room_of (state_of f.dispatch) → has_ended (config_of f.dispatch) (tenant_of f.dispatch) (state_of f.dispatch) ≡ false →
+      state_of f'.dispatch ≡ record (state_of f.dispatch) { gathered = (state_of f.dispatch).gathered ++ x.value ∷ [] } → IsDispatching config t f'
+  gathered_one x free more tails none room goes_on state = record {
+    by_config = conf ∙ was.by_config;
+    of_tenant = tenant ∙ was.of_tenant;
+    past = record was.past { state = record was.past.state { gathered = was.past.state.gathered ++ x.value ∷ [] }; taken = was.past.taken ++ x.value ∷ [] };
+    happens = gathers x.value was.happens was.in_hand (subst (λ (s : State). 0 < room_of s) (sym was.now) room)
+        (ap (has_ended config t) was.now ∙ (λ i. has_ended (sym was.by_config i) (sym was.of_tenant i) (state_of f.dispatch)) ∙ goes_on);
+    now = ap (λ (s : State). record s { gathered = s.gathered ++ x.value ∷ [] }) was.now ∙ sym state;
+    in_hand = was.in_hand;
+    place = ap (λ (s : State). s.out) state ∙ was.place;
+    gathered = ap (λ (o : Option TenantItem). (was.past.taken ++ x.value ∷ []) ++ option_to_list o) none ∙ append-nil (was.past.taken ++ x.value ∷ [])
+        ∙ taken_more was.past.taken f.kept f.head.taken f'.head.taken x x.value was.gathered free refl more;
+    put = puts tails;
+  }
+
+  -- what was gathered was matched
+  pub matched_all : f'.head.taken ≡ f.head.taken → f'.kept ≡ f.kept → f'.tails.items ≡ f.tails.items → (length (state_of f.dispatch).gathered == 0) ≡ false →
+      state_of f'.dispatch ≡ matched (config_of f.dispatch) (tenant_of f.dispatch) (state_of f.dispatch) → IsDispatching config t f'
+  matched_all taken kept tails some state = record {
+    by_config = conf ∙ was.by_config;
+    of_tenant = tenant ∙ was.of_tenant;
+    past = record was.past { state = matched config t was.past.state; done = was.past.done ++ was.past.state.gathered };
+    happens = matches was.happens (ap (λ (s : State). length s.gathered == 0) was.now ∙ some);
+    now = (λ i. matched (sym was.by_config i) (sym was.of_tenant i) (was.now i)) ∙ sym state;
+    in_hand = was.in_hand;
+    place = ap (λ (s : State). s.out) state;
+    gathered = same_taken taken kept;
+    put = puts tails;
+  }
+
+-- ---- one item is moved out
+
+-- the first item of a hand, and what is left
+pub record FirstOut (before out : State) (first : PipelineId × PipelineItem) : Type 0 where
+  pub rest : List (PipelineId × PipelineItem)
+  pub items : before.items ≡ first ∷ rest
+  pub left : out ≡ record before { items = rest; out = Some first.0 }
+
+pub first_out : (before out : State) (first : PipelineId × PipelineItem) → (out, Some first) ≡ moved_out before.items before → FirstOut before out first
+first_out before out first moved = by before.items refl moved
+  where
+    by : (items : List (PipelineId × PipelineItem)) → before.items ≡ items → (out, Some first) ≡ moved_out items before → FirstOut before out first
+    by [] e moved' =
+        let none : Some first ≡ None = ap (λ (pair : State × Option (PipelineId × PipelineItem)). pair.1) moved' in absurd (cc)
+    by (x ∷ rest) e moved' =
+        let same : x ≡ first = ap (λ (pair : State × Option (PipelineId × PipelineItem)). by_second pair.1) (sym moved') in
+        record {
+          rest = rest;
+          items = e ∙ ap (λ y. y ∷ rest) same;
+          left = ap (λ (pair : State × Option (PipelineId × PipelineItem)). pair.0) moved' ∙ ap (λ (y : PipelineId × PipelineItem). record before { items = rest; out = Some y.0 }) same;
+        }
+      where
+        by_second : Option (PipelineId × PipelineItem) → PipelineId × PipelineItem
+        by_second None = first
+        by_second (Some y) = y
+
+-- it came back
+pub back_in : (before out after : State) (first : PipelineId × PipelineItem) → before.out ≡ None → FirstOut before out first → after ≡ put_back first.1 out.out out → after ≡ before
+back_in before out after first free moved fills =
+    fills ∙ ap (λ (s : State). put_back first.1 s.out s) moved.left ∙ (λ i. record before { items = sym moved.items i; out = sym free i })
+
+for_one : (p u : ℕ) (item : PipelineItem) (pipeline : PipelineId) → pipeline.0 ≡ u → items_for p ((pipeline, item) ∷ []) ≡ (if u == p then item ∷ [] else [])
+for_one p u item pipeline e = by (u == p) (ap (λ n. n == p) e)
+  where
+    by : (b : Bool) → (pipeline.0 == p) ≡ b → items_for p ((pipeline, item) ∷ []) ≡ (if b then item ∷ [] else [])
+    by true e' = ap (λ b. cons_option (if b then Some item else None) []) e'
+    by false e' = ap (λ b. cons_option (if b then Some item else None) []) e'
+
+-- an item was given
+pub given_one : {config : Config} {t : ℕ} {f : Dispatching} (f' : Dispatching) (was : IsDispatching config t f) (out : State) (pipeline : PipelineId) (item : PipelineItem) →
+    FirstOut (state_of f.dispatch) out (pipeline, item) → PutAt pipeline.0 item f.tails.items f'.tails.items →
+    state_of f'.dispatch ≡ record out { out = None } → config_of f'.dispatch ≡ config_of f.dispatch → tenant_of f'.dispatch ≡ tenant_of f.dispatch → f'.head.taken ≡ f.head.taken → f'.kept ≡ f.kept → IsDispatching config t f'
+given_one {config} {t} {f} f' was out pipeline item moved puts state conf tenant taken kept =
+    let first : was.past.state.items ≡ (pipeline, item) ∷ moved.rest = ap (λ (s : State). s.items) was.now ∙ moved.items in
+    record {
+      by_config = conf ∙ was.by_config;
+      of_tenant = tenant ∙ was.of_tenant;
+      past = record {
+        state = record was.past.state { items = moved.rest; out = None };
+        taken = was.past.taken;
+        done = was.past.done;
+        given = was.past.given ++ (pipeline, item) ∷ [];
+        out = None;
+      };
+      happens = gives (moves was.happens was.in_hand first) refl;
+      now = ap (λ (s : State). record s { items = moved.rest; out = None }) was.now ∙ ap (λ (s : State). record s { out = None }) (sym moved.left) ∙ sym state;
+      in_hand = refl;
+      place = ap (λ (s : State). s.out) state;
+      gathered = ap (λ (o : Option TenantItem). was.past.taken ++ option_to_list o) kept ∙ was.gathered ∙ ap values (sym taken);
+      put = λ p d low.
+          let low' : p < length f.tails.items = subst (λ n. p < n) puts.0 low in
+          puts.1 p d low' ∙ ap (λ zs. zs ++ (if pipeline.0 == p then item ∷ [] else [])) (was.put p d low')
+          ∙ ap (λ zs. items_for p was.past.given ++ zs) (sym (for_one p pipeline.0 item pipeline refl))
+          ∙ sym (filter_map-append (item_for p) was.past.given ((pipeline, item) ∷ []));
+    }
+
+-- ---- the whole of a tenant's worker
+
+pub dispatching_begins : {config : Config} {t : ℕ} (f : Dispatching) (source : Shape) (targets : List Shape) → config_of f.dispatch ≡ config → tenant_of f.dispatch ≡ t → state_of f.dispatch ≡ first_state config t →
+    f.head ≡ fresh_head source → f.kept ≡ None → f.tails.items ≡ map (fresh_tail 0) targets → IsDispatching config t f
+dispatching_begins {config} {t} f source targets conf tenant state head kept tails = record {
+  by_config = conf;
+  of_tenant = tenant;
+  past = beginning config t;
+  happens = begins;
+  now = sym state;
+  in_hand = refl;
+  place = ap (λ (s : State). s.out) state;
+  gathered = ap option_to_list kept ∙ ap (λ (h : TakerSeat TenantItem). values h.taken) (sym head);
+  put = fresh_put 0 f.tails.items targets tails;
+}
+
+pub all_in_order : {config : Config} {t : ℕ} {f : Dispatching} → EachGetsItsOwn → NothingIsLost → length f.tails.items ≡ length (pipelines_of config t) → IsDispatching config t f → GivenInOrder config t f.head.taken f.tails.items
+all_in_order {config} {t} {f} own nothing_lost pipelines was = record {
+  matched = was.past.done;
+  unmatched = was.past.state.gathered ++ option_to_list f.kept;
+  took = sym (append_assoc was.past.done was.past.state.gathered (option_to_list f.kept)) ∙ ap (λ zs. zs ++ option_to_list f.kept) (nothing_lost config t was.past was.happens) ∙ was.gathered;
+  put = λ p d low.
+      let left = items_for p (option_to_list was.past.out ++ was.past.state.items) in (
+        left,
+        ap (λ zs. zs ++ left) (was.put p d low)
+            ∙ sym (filter_map-append (item_for p) was.past.given (option_to_list was.past.out ++ was.past.state.items))
+            ∙ own config t p was.past (subst (λ n. p < n) pipelines low) was.happens,
+      );
+}
+
+pub dispatcher_ends : {config : Config} {t : ℕ} {f : Dispatching} (source : Shape) (targets : List Shape) (head : TakerSeat TenantItem) (tails : List (SenderSeat PipelineItem)) →
+    head ≡ f.head → tails ≡ f.tails.items → IsHeadOf source f.head → map seat_of f.tails.items ≡ map (seat_in 0) targets → IsDispatching config t f → GivenInOrder (config_of f.dispatch) (tenant_of f.dispatch) f.head.taken f.tails.items →
+    HasDispatched config t source targets head tails
+dispatcher_ends {config} {t} {f} source targets head tails same alike of seats was given = record {
+  head_of = ap (λ (h : TakerSeat TenantItem). h.queue) same ∙ of;
+  seats = ap (map seat_of) alike ∙ seats;
+  given = subst (λ ts. GivenInOrder config t head.taken ts) (sym alike)
+      (subst (λ (h : TakerSeat TenantItem). GivenInOrder config t h.taken f.tails.items) (sym same)
+      (subst (λ conf. GivenInOrder conf t f.head.taken f.tails.items) was.by_config (subst (λ n. GivenInOrder (config_of f.dispatch) n f.head.taken f.tails.items) was.of_tenant given)));
+}

@@ -1,0 +1,28 @@
+use Rattle.std.proofs.Common.{rules, refl, ◌∙◌, ap}
+use Rattle.gate_run.proofs.Dispatches.{dispatcher_ends, dispatching_begins}
+use Rattle.gate_run.proofs.Seated.{fresh_seats, only_queues}
+use Rattle.gate_run.proofs.dispatcher.DispatcherWorkDispatcherEnd.work.Goals as goal
+
+pub loop-init : goal.loop-init
+loop-init g c = (
+  (tt, tt),
+  dispatching_begins _ c.args.self.source.now c.args.self.targets.now refl c.requires.of_tenant c.requires.begins c.requires.not_taken refl c.requires.not_put,
+  refl,
+  ap (λ head. head.queue) c.requires.not_taken,
+  fresh_seats 0 c.args.self.tails.items c.args.self.targets.now c.requires.not_put,
+)
+
+pub returns-then-is_halted : goal.returns-then-is_halted
+returns-then-is_halted g c =
+    let (iterator, was, kept, head, seats) = c.loop.invariant in
+    dispatcher_ends _ _ c.end.result.head c.end.result.tails.items c.end.ensures.head (ap (λ v. v.items) c.end.ensures.tails) head seats was c.end.ensures.given
+
+pub step-requires-clause-seats : goal.step-requires-clause-seats
+step-requires-clause-seats g c =
+    let (iterator, was, kept, head, seats) = c.loop.invariant in
+    only_queues 0 c.loop.dispatching.tails.items c.args.self.targets.now seats
+
+pub returns-in-Out : goal.returns-in-Out
+returns-in-Out g c =
+    let (iterator, was, kept, head, seats) = c.loop.invariant in
+    dispatcher_ends {f = c.step.new.self} _ _ c.end-in-Out.result.head c.end-in-Out.result.tails.items c.end-in-Out.ensures.head (ap (λ v. v.items) c.end-in-Out.ensures.tails) (c.step.ensures.head ∙ head) (c.step.ensures.seats ∙ seats) (search rules) c.end-in-Out.ensures.given

@@ -1,0 +1,7 @@
+use Rattle.std.proofs.Common.{refl}
+use Rattle.gate_run.proofs.Dispatches.{matched_all}
+use Rattle.gate_run.proofs.dispatcher.Dispatching.match_gathered.Goals as goal
+
+pub returns-in-Ok-clause-dispatches : goal.returns-in-Ok-clause-dispatches
+returns-in-Ok-clause-dispatches c =
+    matched_all _ c.requires.dispatches c.in-Ok.ensures.config c.in-Ok.ensures.tenant refl refl refl c.requires.gathered c.in-Ok.ensures.matches

@@ -1,0 +1,7 @@
+use Rattle.std.specs.Prelude.{◌≡◌}
+use Rattle.gate_run.proofs.reader.Reading.end.Given as goal
+
+abbrev pub invariant-loop : goal.invariant-loop
+invariant-loop g l =
+    ((goal.iterator-loop g).can_next l.iterator' × (goal.iterator-loop g).is_finite l.iterator')
+    × (l.source ≡ l.fn.self.source)

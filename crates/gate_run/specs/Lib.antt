@@ -1,0 +1,10 @@
+pub mod Dispatchers
+pub mod Feeds
+pub mod Forwarders
+pub mod Lists
+pub mod PipelineEnds
+pub mod Ports
+pub mod Readers
+pub mod Seats
+pub mod Steps
+pub mod Workers

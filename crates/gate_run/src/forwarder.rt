@@ -1,0 +1,204 @@
+//! The thread that forwards a connection's entries to the tenants.
+ghost use Rattle.std.specs.Prelude.{◌≡◌, [], length, map, None};
+ghost use Rattle.gate_config.specs.Lookups.{tenants_of};
+ghost use Rattle.gate_forward.specs.Hands.{config_of, conn_of, hand_of};
+ghost use Rattle.gate_queue.specs.Seats.{IsHeadOf};
+ghost use Rattle.gate_run.specs.Forwarders.{HasForwarded, IsForwarding, PutInOrder};
+ghost use Rattle.gate_run.specs.Seats.{seat_of};
+ghost use Rattle.gate_run.specs.Steps.{GoesOn};
+
+use crate::putting::put_at;
+use crate::signals::Signals;
+use crate::went::Went;
+use crate::works::Work;
+use crossbeam_utils::sync::Parker;
+use gate_config::Config;
+use gate_forward::{Forward, each_tenant_gets_its_own};
+use gate_queue::{EventQueue, Head, Tail};
+use gate_record::{ConnEntry, ConnId, TenantItem};
+use std::alloc::Global;
+use std::sync::Wait;
+use std::thread::Threads;
+use std::time::Clock;
+
+/// A connection's forwarder before it begins, with its seats.
+#[derive(Drop)]
+pub(crate) struct Forwarder<'a> {
+    pub(crate) alloc: Global,
+    pub(crate) config: &'a Config,
+    pub(crate) conn: ConnId,
+    /// The connection's queue, and the taker's seat in it.
+    pub(crate) source: &'a EventQueue<ConnEntry>,
+    pub(crate) head: Head<ConnEntry>,
+    /// The tenants' queues by number, and a sender's seat in each.
+    pub(crate) targets: &'a [EventQueue<TenantItem>],
+    pub(crate) tails: Vec<Tail<TenantItem>>,
+    pub(crate) parker: Parker,
+    pub(crate) signals: &'a Signals,
+}
+
+/// The seats of a forwarder that returned.
+#[derive(Drop)]
+pub(crate) struct ForwarderEnd {
+    pub(crate) head: Head<ConnEntry>,
+    pub(crate) tails: Vec<Tail<TenantItem>>,
+}
+
+impl<'a> Work<ForwarderEnd> for Forwarder<'a> {
+    ghost use Rattle.gate_run.specs.Forwarders.{CanForward};
+
+    ghost ready = { λ w. CanForward w.config.now w.conn.0 w.source.now w.targets.now w.head w.tails.items };
+
+    ghost comes_to = { λ w end. HasForwarded w.config.now w.conn.0 w.source.now w.targets.now end.head end.tails.items };
+
+    fn work<R: Threads + Wait + Clock + Sync>(self, rt: &R) -> ForwarderEnd {
+        let Forwarder {
+            alloc,
+            config,
+            conn,
+            source,
+            head,
+            targets,
+            tails,
+            parker,
+            signals,
+        } = self;
+        let mut forwarding = Forwarding {
+            conn,
+            hand: Forward::new(config, conn),
+            head,
+            kept: None,
+            tails,
+        };
+        for _ in rt.forever() {
+            if signals.is_halted() {
+                return forwarding.end();
+            }
+            match forwarding.step(rt, alloc, source, targets, signals) {
+                Went::On => {}
+                Went::Nowhere => parker.park(rt),
+                Went::Out => return forwarding.end(),
+            }
+        }
+        unreachable!()
+    }
+}
+
+// A forwarder at work. An entry that was taken and couldn't be loaded is kept.
+#[derive(Drop)]
+pub(crate) struct Forwarding<'c> {
+    pub(crate) conn: ConnId,
+    pub(crate) hand: Forward<'c>,
+    pub(crate) head: Head<ConnEntry>,
+    pub(crate) kept: Option<ConnEntry>,
+    pub(crate) tails: Vec<Tail<TenantItem>>,
+}
+
+impl<'c> Forwarding<'c> {
+    // Sends the next item of the hand, or takes an entry where the hand is empty.
+    fn step<R: Wait>(
+        &mut self,
+        rt: &R,
+        alloc: Global,
+        source: &EventQueue<ConnEntry>,
+        targets: &[EventQueue<TenantItem>],
+        signals: &Signals,
+    ) -> Went
+        requires kept { self.old.kept ≡ None }
+        requires head { IsHeadOf source.now self.old.head }
+        requires seats { map (λ tail. tail.queue) self.old.tails.items ≡ map (λ queue. queue.name) targets.now }
+        requires forwards { IsForwarding (config_of self.old.hand) (conn_of self.old.hand) self.old }
+        ensures forwards { IsForwarding (config_of self.old.hand) (conn_of self.old.hand) self.new }
+        ensures head { self.new.head.queue ≡ self.old.head.queue }
+        ensures seats { map seat_of self.new.tails.items ≡ map seat_of self.old.tails.items }
+        ensures kept { GoesOn result (self.new.kept ≡ None) }
+    {
+        if !self.hand.is_empty() {
+            return self.send(rt, targets, signals);
+        }
+        if self.hand.ended() {
+            return Went::Out;
+        }
+        self.take(rt, alloc, source, signals)
+    }
+
+    // Sends the next item, where there is room for it.
+    fn send<R: Wait>(
+        &mut self,
+        rt: &R,
+        targets: &[EventQueue<TenantItem>],
+        signals: &Signals,
+    ) -> Went
+        requires seats { map (λ tail. tail.queue) self.old.tails.items ≡ map (λ queue. queue.name) targets.now }
+        requires forwards { IsForwarding (config_of self.old.hand) (conn_of self.old.hand) self.old }
+        ensures forwards { IsForwarding (config_of self.old.hand) (conn_of self.old.hand) self.new }
+        ensures head { self.new.head ≡ self.old.head }
+        ensures seats { map seat_of self.new.tails.items ≡ map seat_of self.old.tails.items }
+        ensures kept { self.new.kept ≡ self.old.kept }
+    {
+        let Some((tenant, item)) = self.hand.next() else {
+            return Went::On;
+        };
+        match put_at(rt, targets, &mut self.tails, tenant.0, item) {
+            Ok(()) => {
+                self.hand.sent();
+                signals.wake_dispatcher(tenant);
+                Went::On
+            }
+            Err(item) => {
+                self.hand.unsent(item);
+                Went::Nowhere
+            }
+        }
+    }
+
+    // Takes an entry, where there is one, and loads it.
+    fn take<R: Wait>(
+        &mut self,
+        rt: &R,
+        alloc: Global,
+        source: &EventQueue<ConnEntry>,
+        signals: &Signals,
+    ) -> Went
+        requires kept { self.old.kept ≡ None }
+        requires empty { (hand_of self.old.hand).items ≡ [] }
+        requires head { IsHeadOf source.now self.old.head }
+        requires forwards { IsForwarding (config_of self.old.hand) (conn_of self.old.hand) self.old }
+        ensures forwards { IsForwarding (config_of self.old.hand) (conn_of self.old.hand) self.new }
+        ensures head { self.new.head.queue ≡ self.old.head.queue }
+        ensures tails { self.new.tails ≡ self.old.tails }
+        ensures kept { GoesOn result (self.new.kept ≡ None) }
+    {
+        let Some(taken) = source.take(rt, &mut self.head) else {
+            return Went::Nowhere;
+        };
+        signals.wake_reader(self.conn);
+        match taken.value {
+            ConnEntry::Numbered(number, line) => match self.hand.load(alloc, number, line) {
+                Ok(()) => Went::On,
+                Err(refused) => {
+                    self.kept = Some(ConnEntry::Numbered(number, refused.value));
+                    signals.halt();
+                    Went::Out
+                }
+            },
+            ConnEntry::End => {
+                self.hand.load_end();
+                Went::On
+            }
+        }
+    }
+
+    // The seats.
+    fn end(self) -> ForwarderEnd
+        requires tenants { length self.tails.items ≡ length (tenants_of (config_of self.hand)) }
+        requires forwards { IsForwarding (config_of self.hand) (conn_of self.hand) self }
+        ensures head { result.head ≡ self.entry.head }
+        ensures tails { result.tails ≡ self.entry.tails }
+        ensures put { PutInOrder (config_of self.entry.hand) (conn_of self.entry.hand) self.entry.head.taken self.entry.tails.items }
+    {
+        each_tenant_gets_its_own();
+        let Forwarding { head, tails, .. } = self;
+        ForwarderEnd { head, tails }
+    }
+}

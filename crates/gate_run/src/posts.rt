@@ -1,0 +1,320 @@
+//! The queues of management events and results: what is posted from outside, and taken by the pipelines' workers.
+ghost use Rattle.std.specs.Prelude.{◌≡◌, IfErr, IfNone, IfOk, IfSome, OnErr, OnOk, length, map};
+ghost use Rattle.gate_queue.specs.Seats.{IsHeadOf, IsTailOf, with_taken};
+ghost use Rattle.gate_source.specs.Stops.{IsNoteOf};
+ghost use Rattle.gate_run.specs.Lists.{Pairwise};
+ghost use Rattle.gate_run.specs.PipelineEnds.{ends_of, inbox_of};
+ghost use Rattle.gate_run.specs.Ports.{AreOpened, IsOpened, pipeline_counts};
+
+use crossbeam_utils::sync::{Parker, Unparker};
+use gate_config::Config;
+use gate_core::PLACES;
+use gate_items::{JobResult, Manage};
+use gate_queue::{EventQueue, Full, Head, Tagged, Tail, open};
+use gate_record::{Memory, PipelineId, Shared, TenantId};
+use gate_source::{StopCause, StopCell, StopNote};
+use std::alloc::Global;
+use std::marker::Model;
+use std::sync::Wait;
+
+/// Why a management event or a result was not posted; it comes back.
+#[derive(Debug, Drop)]
+pub enum PostFault<T> {
+    /// There is no such pipeline.
+    NoPipeline(T),
+    /// The pipeline's queue was full at some moment of the call.
+    Full(T),
+}
+
+/// The only sender's seat, with its queue.
+#[derive(Drop)]
+pub(crate) struct PostSeat<T> {
+    queue: Shared<EventQueue<T>>,
+    tail: Tail<T>,
+    ghost own: { IsTailOf queue tail },
+}
+
+impl<T> Model for PostSeat<T> {
+    ghost use Rattle.gate_run.specs.Ports.{PostEnd};
+
+    ghost Value = { PostEnd T };
+
+    ghost view = { λ seat. record { queue = seat.queue; tail = seat.tail } };
+}
+
+/// The taker's seat, with its queue. Contracts see it as the seat.
+#[derive(Drop)]
+pub(crate) struct InboxSeat<T> {
+    queue: Shared<EventQueue<T>>,
+    head: Head<T>,
+    ghost own: { IsHeadOf queue head },
+}
+
+impl<T> Model for InboxSeat<T> {
+    ghost use Rattle.gate_queue.specs.Seats.{TakerSeat};
+
+    ghost Value = { TakerSeat T };
+
+    ghost view = { λ seat. seat.head };
+}
+
+impl<T> InboxSeat<T> {
+    /// Takes what has waited longest, if anything waits.
+    pub(crate) fn take<R: Wait>(&mut self, rt: &R) -> Option<Tagged<T>>
+        ensures some { IfSome result (λ taken. self.new ≡ with_taken self.old taken) }
+        ensures none { IfNone result (self.new ≡ self.old) }
+    {
+        self.queue.get().take(rt, &mut self.head)
+    }
+}
+
+impl<T> PostSeat<T> {
+    ghost use Rattle.gate_queue.specs.States.{MayBeFull};
+    ghost use Rattle.gate_run.specs.Ports.{posted};
+
+    /// Puts a value. It comes back where the queue was full.
+    fn put<R: Wait>(&mut self, rt: &R, value: T) -> Result<(), T>
+        ensures puts { OnOk result (self.new ≡ posted value self.old) }
+        ensures refused { IfErr result (λ back. (back ≡ value) × (self.new ≡ self.old)) }
+        ensures full { OnErr result (MayBeFull self.old.queue self.old.tail) }
+    {
+        match self.queue.get().put(rt, &mut self.tail, value) {
+            Ok(()) => Ok(()),
+            Err(Full(value)) => Err(value),
+        }
+    }
+}
+
+// Both ends of a new queue.
+fn open_pair<T: Drop>(alloc: Global) -> Result<(PostSeat<T>, InboxSeat<T>), Memory>
+    ensures { IfOk result (λ ends. IsOpened ends.0 ends.1) }
+{
+    let Ok((queue, mut tails, head)) = open(alloc, PLACES, 1) else {
+        return Err(Memory);
+    };
+    let Some(tail) = tails.pop() else {
+        return Err(Memory);
+    };
+    let queue = Shared::new(alloc, queue)?;
+    let other = queue.share()?;
+    Ok((PostSeat { queue, tail }, InboxSeat { queue: other, head }))
+}
+
+/// Where management events and results are posted to one pipeline, and what wakes its worker.
+#[derive(Drop)]
+pub(crate) struct PipelinePosts {
+    management: PostSeat<Manage>,
+    results: PostSeat<JobResult>,
+    worker: Unparker,
+}
+
+/// Where the worker of one pipeline takes them, and what it waits on.
+#[derive(Drop)]
+pub(crate) struct PipelineInbox {
+    pub(crate) management: InboxSeat<Manage>,
+    pub(crate) results: InboxSeat<JobResult>,
+    pub(crate) parker: Parker,
+}
+
+/// Where management events and results are posted to the pipelines of a configuration while `serve` runs, and where `serve` is
+/// asked to stop. Contracts see by tenant and pipeline number what was posted, and what is known of the cause to stop.
+#[derive(Drop)]
+pub struct Posts {
+    tenants: Vec<Vec<PipelinePosts>>,
+    cell: Shared<StopCell>,
+    note: StopNote,
+    ghost of_cell: { IsNoteOf cell note },
+}
+
+impl Model for Posts {
+    ghost use Rattle.gate_run.specs.Ports.{PostsView};
+
+    ghost Value = { PostsView };
+
+    ghost use Rattle.std.specs.Prelude.{map};
+    ghost use Rattle.gate_run.specs.PipelineEnds.{ends_of};
+
+    ghost view = { λ posts. record { pipelines = map (λ tenant. map ends_of tenant.items) posts.tenants.items; note = posts.note } };
+}
+
+/// The other ends of the queues of `Posts`, for `serve`.
+#[derive(Drop)]
+pub struct Inbox {
+    pub(crate) tenants: Vec<Vec<PipelineInbox>>,
+    pub(crate) cell: Shared<StopCell>,
+    pub(crate) note: StopNote,
+    ghost of_cell: { IsNoteOf cell note },
+}
+
+impl Model for Inbox {
+    ghost use Rattle.gate_run.specs.Ports.{InboxView};
+
+    ghost Value = { InboxView };
+
+    ghost use Rattle.std.specs.Prelude.{map};
+    ghost use Rattle.gate_run.specs.PipelineEnds.{inbox_of};
+
+    ghost view = { λ inbox. record { pipelines = map (λ tenant. map inbox_of tenant.items) inbox.tenants.items; note = inbox.note } };
+}
+
+// Both ends of the queues of one pipeline.
+fn open_pipeline(alloc: Global) -> Result<(PipelinePosts, PipelineInbox), Memory>
+    ensures { IfOk result (λ ends. AreOpened (ends_of ends.0) (inbox_of ends.1)) }
+{
+    let (management, management_inbox) = open_pair(alloc)?;
+    let (results, results_inbox) = open_pair(alloc)?;
+    let parker = Parker::new(alloc)?;
+    let worker = parker.unparker().clone()?;
+    let posts = PipelinePosts {
+        management,
+        results,
+        worker,
+    };
+    let inbox = PipelineInbox {
+        management: management_inbox,
+        results: results_inbox,
+        parker,
+    };
+    Ok((posts, inbox))
+}
+
+// Both ends of the queues of so many pipelines.
+fn open_tenant(
+    alloc: Global,
+    count: usize,
+) -> Result<(Vec<PipelinePosts>, Vec<PipelineInbox>), Memory>
+    ensures count { IfOk result (λ ends. length ends.0.items ≡ count) }
+    ensures opened { IfOk result (λ ends. Pairwise AreOpened (map ends_of ends.0.items) (map inbox_of ends.1.items)) }
+{
+    let mut posts = Vec::new(alloc);
+    let mut inbox = Vec::new(alloc);
+    for _pipeline in 0..count {
+        let (own, other) = open_pipeline(alloc)?;
+        posts.push(own)?;
+        inbox.push(other)?;
+    }
+    Ok((posts, inbox))
+}
+
+// Both ends of the queues of all pipelines of a configuration.
+fn open_tenants(
+    alloc: Global,
+    config: &Config,
+) -> Result<(Vec<Vec<PipelinePosts>>, Vec<Vec<PipelineInbox>>), Memory>
+    ensures counts { IfOk result (λ ends. map (λ tenant. length (map ends_of tenant.items)) ends.0.items ≡ pipeline_counts config.now) }
+    ensures opened { IfOk result (λ ends. Pairwise (Pairwise AreOpened) (map (λ tenant. map ends_of tenant.items) ends.0.items) (map (λ tenant. map inbox_of tenant.items) ends.1.items)) }
+{
+    let mut posts = Vec::new(alloc);
+    let mut inbox = Vec::new(alloc);
+    for number in 0..config.tenants().len() {
+        let count = config.pipelines(TenantId(number as u32)).len();
+        let (own, other) = open_tenant(alloc, count)?;
+        posts.push(own)?;
+        inbox.push(other)?;
+    }
+    Ok((posts, inbox))
+}
+
+impl Posts {
+    ghost use Rattle.std.specs.Prelude.{None};
+    ghost use Rattle.gate_source.specs.Stops.{Learns};
+    ghost use Rattle.gate_run.specs.PipelineEnds.{HandsBack, Judges};
+    ghost use Rattle.gate_run.specs.Ports.{ArePosts, with_manage, with_result};
+
+    /// Opens a queue of management events and one of results for each pipeline of a configuration, each of 4,096 places, and a cell
+    /// for the cause to stop: the posts, and the other ends for `serve`. `Memory` where there is none for them.
+    pub fn open(alloc: Global, config: &Config) -> Result<(Posts, Inbox), Memory>
+        ensures { IfOk result (λ ends. ArePosts config.now ends.0 ends.1) }
+    {
+        let (posts, inbox) = open_tenants(alloc, config)?;
+        let cell = Shared::new(alloc, StopCell::new(alloc))?;
+        let other = cell.share()?;
+        let note = cell.get().note();
+        let other_note = cell.get().note();
+        let posts = Posts {
+            tenants: posts,
+            cell,
+            note,
+        };
+        let inbox = Inbox {
+            tenants: inbox,
+            cell: other,
+            note: other_note,
+        };
+        Ok((posts, inbox))
+    }
+
+    /// Posts a management event to a pipeline, behind those that wait there. It takes no memory.
+    ///
+    /// `NoPipeline` exactly where there is no such pipeline, and else `Full` only where its queue was full at some moment of the call;
+    /// both hand the event back, and nothing is changed.
+    pub fn manage<R: Wait>(
+        &mut self,
+        rt: &R,
+        tenant: TenantId,
+        pipeline: PipelineId,
+        manage: Manage,
+    ) -> Result<(), PostFault<Manage>>
+        ensures posts { OnOk result (self.new ≡ with_manage tenant.0 pipeline.0 manage self.old) }
+        ensures unchanged { OnErr result (self.new ≡ self.old) }
+        ensures back { IfErr result (HandsBack manage) }
+        ensures judges { Judges (λ ends. ends.management) tenant.0 pipeline.0 self.old.pipelines result }
+    {
+        let tenant = tenant.0 as usize;
+        let pipeline = pipeline.0 as usize;
+        if tenant >= self.tenants.len() {
+            return Err(PostFault::NoPipeline(manage));
+        }
+        if pipeline >= self.tenants[tenant].len() {
+            return Err(PostFault::NoPipeline(manage));
+        }
+        let posts = &mut self.tenants[tenant][pipeline];
+        if let Err(back) = posts.management.put(rt, manage) {
+            return Err(PostFault::Full(back));
+        }
+        posts.worker.unpark();
+        Ok(())
+    }
+
+    /// Posts a result to a pipeline, behind those that wait there. It takes no memory.
+    ///
+    /// `NoPipeline` exactly where there is no such pipeline, and else `Full` only where its queue was full at some moment of the call;
+    /// both hand the result back, and nothing is changed.
+    pub fn result<R: Wait>(
+        &mut self,
+        rt: &R,
+        tenant: TenantId,
+        pipeline: PipelineId,
+        ended: JobResult,
+    ) -> Result<(), PostFault<JobResult>>
+        ensures posts { OnOk result (self.new ≡ with_result tenant.0 pipeline.0 ended self.old) }
+        ensures unchanged { OnErr result (self.new ≡ self.old) }
+        ensures back { IfErr result (HandsBack ended) }
+        ensures judges { Judges (λ ends. ends.results) tenant.0 pipeline.0 self.old.pipelines result }
+    {
+        let tenant = tenant.0 as usize;
+        let pipeline = pipeline.0 as usize;
+        if tenant >= self.tenants.len() {
+            return Err(PostFault::NoPipeline(ended));
+        }
+        if pipeline >= self.tenants[tenant].len() {
+            return Err(PostFault::NoPipeline(ended));
+        }
+        let posts = &mut self.tenants[tenant][pipeline];
+        if let Err(back) = posts.results.put(rt, ended) {
+            return Err(PostFault::Full(back));
+        }
+        posts.worker.unpark();
+        Ok(())
+    }
+
+    /// Asks `serve` to stop. The answer is the cause that counts, this one or that of whoever asked before. `Memory` only where nobody
+    /// is known to have asked, and then nothing is changed.
+    pub fn stop(&mut self, cause: StopCause) -> Result<StopCause, Memory>
+        ensures stops { IfOk result (λ held. Learns self.old.note held self.new.note) }
+        ensures memory { OnErr result ((self.old.note.cause ≡ None) × (self.new ≡ self.old)) }
+        ensures posts { self.new.pipelines ≡ self.old.pipelines }
+    {
+        self.cell.get().request(&mut self.note, cause)
+    }
+}

@@ -1,0 +1,30 @@
+//! Puts into one of several queues.
+ghost use Rattle.std.specs.Prelude.{◌≡◌, ℕ, map, IfErr, OnOk};
+ghost use Rattle.gate_run.specs.Seats.{PutAt, seat_of};
+
+use gate_queue::{EventQueue, Full, Tail};
+use std::sync::Wait;
+
+/// Puts a value into the queue of this number, by the seat of that number. The value comes back where the queue was full, and where
+/// there is none of this number.
+pub(crate) fn put_at<T, R: Wait>(
+    rt: &R,
+    queues: &[EventQueue<T>],
+    tails: &mut Vec<Tail<T>>,
+    number: u32,
+    value: T,
+) -> Result<(), T>
+    requires seats { map (λ tail. tail.queue) tails.old.items ≡ map (λ queue. queue.name) queues.now }
+    ensures puts { OnOk result (PutAt number value tails.old.items tails.new.items) }
+    ensures refused { IfErr result (λ back. (back ≡ value) × (tails.new.items ≡ tails.old.items)) }
+    ensures seats { map seat_of tails.new.items ≡ map seat_of tails.old.items }
+{
+    let place = number as usize;
+    if place >= queues.len() || place >= tails.len() {
+        return Err(value);
+    }
+    match queues[place].put(rt, &mut tails[place], value) {
+        Ok(()) => Ok(()),
+        Err(Full(value)) => Err(value),
+    }
+}

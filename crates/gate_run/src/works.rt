@@ -1,0 +1,105 @@
+//! Works of one kind, each in a thread of its own, which come back in order.
+ghost use Rattle.std.specs.Prelude.{◌≡◌, All, IfOk, map};
+ghost use Rattle.gate_run.specs.Lists.{Pairwise};
+
+use crate::fault::RunFault;
+use std::alloc::Global;
+use std::snapshot::Snapshot;
+use std::sync::Wait;
+use std::thread;
+use std::thread::{Promise, PromisedHandle, Scope, Threads};
+use std::time::Clock;
+
+/// What a thread is started for, and what it hands back.
+pub(crate) trait Work<E> {
+    /// It can be begun.
+    ghost ready: { Self → Type 0 };
+
+    /// It may come to this.
+    ghost comes_to: { Self → E → Type 0 };
+
+    /// Does it.
+    fn work<R: Threads + Wait + Clock + Sync>(self, rt: &R) -> E
+        requires { ready self }
+        ensures { comes_to self result };
+}
+
+/// That a work comes back as what it comes to.
+#[derive(Drop)]
+pub(crate) struct Begun<W> {
+    work: Snapshot<W>,
+}
+
+impl<E, W: Work<E>> Promise<E> for Begun<W> {
+    ghost kept_by = { λ promise end. W.comes_to promise.work.value end };
+}
+
+/// A thread that does a work.
+pub(crate) type Thread<E, W> = PromisedHandle<E, Begun<W>>;
+
+/// Starts a thread for each of these works, in order. Where one can't be started, or its handle finds no memory, the answer is the
+/// fault, and those that were started go on: they are to be told to halt.
+pub(crate) fn start_all<
+    's,
+    S,
+    E: Send + Drop + 's,
+    W: Work<E> + Send + Drop + 's,
+    R: Threads + Wait + Clock + Sync,
+>(
+    scope: &'s Scope<'s, S>,
+    rt: &'s R,
+    alloc: Global,
+    works: Vec<W>,
+) -> Result<Vec<Thread<E, W>>, RunFault>
+    requires { All W.ready works.items }
+    ensures { IfOk result (λ threads. map (λ thread. thread.promise.work.value) threads.items ≡ works.items) }
+{
+    let mut threads = Vec::new(alloc);
+    for work in works {
+        let thread = start(scope, rt, work)?;
+        let Ok(()) = threads.push(thread) else {
+            return Err(RunFault::Memory);
+        };
+    }
+    Ok(threads)
+}
+
+// Starts a thread for a work.
+fn start<
+    's,
+    S,
+    E: Send + Drop + 's,
+    W: Work<E> + Send + Drop + 's,
+    R: Threads + Wait + Clock + Sync,
+>(scope: &'s Scope<'s, S>, rt: &'s R, work: W) -> Result<Thread<E, W>, RunFault>
+    requires { W.ready work }
+    ensures { IfOk result (λ thread. thread.promise.work.value ≡ work) }
+{
+    let promise = Begun {
+        work: Snapshot::of(&work),
+    };
+    let started = scope.spawn_with(
+        promise,
+        move || -> E
+            requires { W.ready work }
+            ensures { W.comes_to work result }
+        { work.work(rt) },
+    );
+    match started {
+        Ok(thread) => Ok(thread),
+        Err(_) => Err(RunFault::Thread),
+    }
+}
+
+/// Waits for each of these threads. `Memory` where their ends find no room.
+pub(crate) fn join_all<E: Drop, W: Work<E>, R: Threads>(
+    rt: &R,
+    threads: Vec<Thread<E, W>>,
+) -> Result<Vec<E>, RunFault>
+    ensures { IfOk result (λ ends. Pairwise W.comes_to (map (λ thread. thread.promise.work.value) threads.items) ends.items) }
+{
+    match thread::join_promised(rt, threads) {
+        Ok(ends) => Ok(ends),
+        Err(_) => Err(RunFault::Memory),
+    }
+}
