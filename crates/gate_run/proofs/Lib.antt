@@ -1,3 +1,7 @@
+pub mod Places
+pub mod Turned
+pub mod Staged
+pub mod Seatings
 pub mod Dispatches
 pub mod Forwards
 pub mod Paired
@@ -6,3 +10,8 @@ pub mod Workings
 pub mod Posting
 pub mod Readings
 pub mod Composed
+pub mod Crosses
+pub mod Evidence
+pub mod Found
+pub mod Promised
+pub mod Returning

@@ -1,6 +1,7 @@
 -- What each thread promised, of all of them.
 use Rattle.std.proofs.Common.{◌≡◌, ◌∙◌, refl, sym, ap, subst, ℕ, zero, suc, ◌+◌, ◌<◌, List, [], ◌∷◌, ◌++◌, length, map, slice_index_or, slice_set, arith}
 use Rattle.std.specs.List.{range_with_len}
+use Rattle.std.specs.Prelude.{All}
 use Rattle.gate_run.specs.Lists.{Pairwise}
 
 module _ {A B : Type 0} (R : A → B → Type 0) where
@@ -85,3 +86,11 @@ made_more {A} {B} f g xs xs' x n was is more =
     map_one : {X : Type 0} (h : X → B) (zs : List X) (z : X) → map h (zs ++ z ∷ []) ≡ map h zs ++ h z ∷ []
     map_one h [] z = refl
     map_one h (w ∷ zs) z = ap (λ us. h w ∷ us) (map_one h zs z)
+
+pub none_left : {A : Type 0} (xs : List A) → length xs ≡ 0 → xs ≡ []
+none_left [] e = refl
+none_left (x ∷ xs) e = absurd (cc)
+
+-- of a list that is used up, what is of all is of what is left
+pub all_behind : {A : Type 0} (x : A) (P : A → Type 0) (xs ys : List A) → ys ≡ x ∷ xs → All P ys → All P xs
+all_behind x P xs ys e all k d low = subst (All P) e all (suc k) d (omega (arith, low))

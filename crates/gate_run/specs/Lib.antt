@@ -1,10 +1,15 @@
 pub mod Dispatchers
 pub mod Feeds
 pub mod Forwarders
+pub mod Gatherings
 pub mod Lists
 pub mod PipelineEnds
 pub mod Ports
 pub mod Readers
+pub mod Seatings
 pub mod Seats
+pub mod Serving
+pub mod Stages
 pub mod Steps
+pub mod Tables
 pub mod Workers

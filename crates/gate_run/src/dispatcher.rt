@@ -7,7 +7,7 @@ ghost use Rattle.gate_run.specs.Dispatchers.{GivenInOrder, HasDispatched, IsDisp
 ghost use Rattle.gate_run.specs.Seats.{seat_of};
 ghost use Rattle.gate_run.specs.Steps.{GoesOn};
 
-use crate::putting::put_at;
+use crate::putting::{PassedOn, put_at};
 use crate::signals::Signals;
 use crate::went::Went;
 use crate::works::Work;
@@ -34,24 +34,20 @@ pub(crate) struct Dispatcher<'a> {
     pub(crate) targets: &'a [EventQueue<PipelineItem>],
     pub(crate) tails: Vec<Tail<PipelineItem>>,
     pub(crate) parker: Parker,
-    pub(crate) signals: &'a Signals,
 }
 
-/// The seats of a tenant's worker that returned.
-#[derive(Drop)]
-pub(crate) struct DispatcherEnd {
-    pub(crate) head: Head<TenantItem>,
-    pub(crate) tails: Vec<Tail<PipelineItem>>,
-}
-
-impl<'a> Work<DispatcherEnd> for Dispatcher<'a> {
+impl<'a> Work<PassedOn<TenantItem, PipelineItem>> for Dispatcher<'a> {
     ghost use Rattle.gate_run.specs.Dispatchers.{CanDispatch};
 
     ghost ready = { λ w. CanDispatch w.tenant.0 w.dispatch w.source.now w.targets.now w.head w.tails.items };
 
     ghost comes_to = { λ w end. HasDispatched (config_of w.dispatch) w.tenant.0 w.source.now w.targets.now end.head end.tails.items };
 
-    fn work<R: Threads + Wait + Clock + Sync>(self, rt: &R) -> DispatcherEnd {
+    fn work<R: Threads + Wait + Clock + Sync>(
+        self,
+        rt: &R,
+        signals: &Signals,
+    ) -> PassedOn<TenantItem, PipelineItem> {
         let Dispatcher {
             alloc,
             tenant,
@@ -61,7 +57,6 @@ impl<'a> Work<DispatcherEnd> for Dispatcher<'a> {
             targets,
             tails,
             parker,
-            signals,
         } = self;
         let mut dispatching = Dispatching {
             tenant,
@@ -212,7 +207,7 @@ impl<'c> Dispatching<'c> {
     }
 
     // The seats.
-    fn end(self) -> DispatcherEnd
+    fn end(self) -> PassedOn<TenantItem, PipelineItem>
         requires pipelines { length self.tails.items ≡ length (pipelines_of (config_of self.dispatch) (tenant_of self.dispatch)) }
         requires dispatches { IsDispatching (config_of self.dispatch) (tenant_of self.dispatch) self }
         ensures head { result.head ≡ self.entry.head }
@@ -222,6 +217,6 @@ impl<'c> Dispatching<'c> {
         each_pipeline_gets_its_own();
         nothing_that_was_gathered_is_lost();
         let Dispatching { head, tails, .. } = self;
-        DispatcherEnd { head, tails }
+        PassedOn { head, tails }
     }
 }

@@ -1,3 +1,4 @@
+use gate_record::Memory;
 use thiserror::Error;
 
 /// Why `serve` gave no answer.
@@ -9,4 +10,10 @@ pub enum RunFault {
     /// A thread couldn't be started.
     #[error("thread")]
     Thread,
+}
+
+impl From<Memory> for RunFault {
+    fn from(_refused: Memory) -> RunFault {
+        RunFault::Memory
+    }
 }

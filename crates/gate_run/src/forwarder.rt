@@ -7,7 +7,7 @@ ghost use Rattle.gate_run.specs.Forwarders.{HasForwarded, IsForwarding, PutInOrd
 ghost use Rattle.gate_run.specs.Seats.{seat_of};
 ghost use Rattle.gate_run.specs.Steps.{GoesOn};
 
-use crate::putting::put_at;
+use crate::putting::{PassedOn, put_at};
 use crate::signals::Signals;
 use crate::went::Went;
 use crate::works::Work;
@@ -34,24 +34,20 @@ pub(crate) struct Forwarder<'a> {
     pub(crate) targets: &'a [EventQueue<TenantItem>],
     pub(crate) tails: Vec<Tail<TenantItem>>,
     pub(crate) parker: Parker,
-    pub(crate) signals: &'a Signals,
 }
 
-/// The seats of a forwarder that returned.
-#[derive(Drop)]
-pub(crate) struct ForwarderEnd {
-    pub(crate) head: Head<ConnEntry>,
-    pub(crate) tails: Vec<Tail<TenantItem>>,
-}
-
-impl<'a> Work<ForwarderEnd> for Forwarder<'a> {
+impl<'a> Work<PassedOn<ConnEntry, TenantItem>> for Forwarder<'a> {
     ghost use Rattle.gate_run.specs.Forwarders.{CanForward};
 
     ghost ready = { λ w. CanForward w.config.now w.conn.0 w.source.now w.targets.now w.head w.tails.items };
 
     ghost comes_to = { λ w end. HasForwarded w.config.now w.conn.0 w.source.now w.targets.now end.head end.tails.items };
 
-    fn work<R: Threads + Wait + Clock + Sync>(self, rt: &R) -> ForwarderEnd {
+    fn work<R: Threads + Wait + Clock + Sync>(
+        self,
+        rt: &R,
+        signals: &Signals,
+    ) -> PassedOn<ConnEntry, TenantItem> {
         let Forwarder {
             alloc,
             config,
@@ -61,7 +57,6 @@ impl<'a> Work<ForwarderEnd> for Forwarder<'a> {
             targets,
             tails,
             parker,
-            signals,
         } = self;
         let mut forwarding = Forwarding {
             conn,
@@ -190,7 +185,7 @@ impl<'c> Forwarding<'c> {
     }
 
     // The seats.
-    fn end(self) -> ForwarderEnd
+    fn end(self) -> PassedOn<ConnEntry, TenantItem>
         requires tenants { length self.tails.items ≡ length (tenants_of (config_of self.hand)) }
         requires forwards { IsForwarding (config_of self.hand) (conn_of self.hand) self }
         ensures head { result.head ≡ self.entry.head }
@@ -199,6 +194,6 @@ impl<'c> Forwarding<'c> {
     {
         each_tenant_gets_its_own();
         let Forwarding { head, tails, .. } = self;
-        ForwarderEnd { head, tails }
+        PassedOn { head, tails }
     }
 }

@@ -93,7 +93,7 @@ fn open_pair<T: Drop>(alloc: Global) -> Result<(PostSeat<T>, InboxSeat<T>), Memo
         return Err(Memory);
     };
     let Some(tail) = tails.pop() else {
-        return Err(Memory);
+        unreachable!()
     };
     let queue = Shared::new(alloc, queue)?;
     let other = queue.share()?;

@@ -1,9 +1,17 @@
-//! Puts into one of several queues.
+//! Threads that put into several queues.
 ghost use Rattle.std.specs.Prelude.{◌≡◌, ℕ, map, IfErr, OnOk};
 ghost use Rattle.gate_run.specs.Seats.{PutAt, seat_of};
 
-use gate_queue::{EventQueue, Full, Tail};
+use gate_queue::{EventQueue, Full, Head, Tail};
 use std::sync::Wait;
+
+/// The seats of a thread that took from one queue and put into several.
+#[derive(Drop)]
+pub(crate) struct PassedOn<A, B> {
+    pub(crate) head: Head<A>,
+    /// By queue.
+    pub(crate) tails: Vec<Tail<B>>,
+}
 
 /// Puts a value into the queue of this number, by the seat of that number. The value comes back where the queue was full, and where
 /// there is none of this number.

@@ -33,7 +33,6 @@ pub(crate) struct Reader<'a, F> {
     pub(crate) cell: &'a StopCell,
     pub(crate) note: StopNote,
     pub(crate) parker: Parker,
-    pub(crate) signals: &'a Signals,
 }
 
 /// A reader that returned.
@@ -52,7 +51,7 @@ impl<'a, F: RecordFeed + Drop> Work<ReaderEnd<F>> for Reader<'a, F> {
 
     ghost comes_to = { λ w end. HasRead (F.to_come w.feed) (F.to_come end.feed) (F.fault_count w.feed) (F.fault_count end.feed) w.tail end.tail end.count end.cause w.note end.note };
 
-    fn work<R: Threads + Wait + Clock + Sync>(self, rt: &R) -> ReaderEnd<F> {
+    fn work<R: Threads + Wait + Clock + Sync>(self, rt: &R, signals: &Signals) -> ReaderEnd<F> {
         accepted_records_are_numbered();
         let Reader {
             conn,
@@ -62,7 +61,6 @@ impl<'a, F: RecordFeed + Drop> Work<ReaderEnd<F>> for Reader<'a, F> {
             cell,
             note,
             parker,
-            signals,
         } = self;
         let mut reading = Reading {
             conn,

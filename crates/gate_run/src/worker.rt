@@ -36,7 +36,6 @@ pub(crate) struct Worker<'a, G> {
     pub(crate) management: InboxSeat<Manage>,
     pub(crate) results: InboxSeat<JobResult>,
     pub(crate) parker: Parker,
-    pub(crate) signals: &'a Signals,
     pub(crate) gate: &'a G,
 }
 
@@ -55,7 +54,7 @@ impl<'a, G: Gate + Sync> Work<WorkerEnd> for Worker<'a, G> {
 
     ghost comes_to = { λ w end. HasWorked w.config.now w.tenant.0 w.pipeline.0 w.head end.head w.management end.management w.results end.results end.state };
 
-    fn work<R: Threads + Wait + Clock + Sync>(self, rt: &R) -> WorkerEnd {
+    fn work<R: Threads + Wait + Clock + Sync>(self, rt: &R, signals: &Signals) -> WorkerEnd {
         let Worker {
             config,
             tenant,
@@ -66,7 +65,6 @@ impl<'a, G: Gate + Sync> Work<WorkerEnd> for Worker<'a, G> {
             management,
             results,
             parker,
-            signals,
             gate,
         } = self;
         let mut working = Working {

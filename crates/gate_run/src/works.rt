@@ -3,6 +3,7 @@ ghost use Rattle.std.specs.Prelude.{◌≡◌, All, IfOk, map};
 ghost use Rattle.gate_run.specs.Lists.{Pairwise};
 
 use crate::fault::RunFault;
+use crate::signals::Signals;
 use std::alloc::Global;
 use std::snapshot::Snapshot;
 use std::sync::Wait;
@@ -19,7 +20,7 @@ pub(crate) trait Work<E> {
     ghost comes_to: { Self → E → Type 0 };
 
     /// Does it.
-    fn work<R: Threads + Wait + Clock + Sync>(self, rt: &R) -> E
+    fn work<R: Threads + Wait + Clock + Sync>(self, rt: &R, signals: &Signals) -> E
         requires { ready self }
         ensures { comes_to self result };
 }
@@ -37,8 +38,8 @@ impl<E, W: Work<E>> Promise<E> for Begun<W> {
 /// A thread that does a work.
 pub(crate) type Thread<E, W> = PromisedHandle<E, Begun<W>>;
 
-/// Starts a thread for each of these works, in order. Where one can't be started, or its handle finds no memory, the answer is the
-/// fault, and those that were started go on: they are to be told to halt.
+/// Starts a thread for each of these works, in order. `Thread` where one can't be started, and `Memory` where its handle finds no
+/// room; then all that run are told to halt.
 pub(crate) fn start_all<
     's,
     S,
@@ -49,6 +50,7 @@ pub(crate) fn start_all<
     scope: &'s Scope<'s, S>,
     rt: &'s R,
     alloc: Global,
+    signals: &'s Signals,
     works: Vec<W>,
 ) -> Result<Vec<Thread<E, W>>, RunFault>
     requires { All W.ready works.items }
@@ -56,8 +58,12 @@ pub(crate) fn start_all<
 {
     let mut threads = Vec::new(alloc);
     for work in works {
-        let thread = start(scope, rt, work)?;
+        let Ok(thread) = start(scope, rt, signals, work) else {
+            signals.halt();
+            return Err(RunFault::Thread);
+        };
         let Ok(()) = threads.push(thread) else {
+            signals.halt();
             return Err(RunFault::Memory);
         };
     }
@@ -71,7 +77,12 @@ fn start<
     E: Send + Drop + 's,
     W: Work<E> + Send + Drop + 's,
     R: Threads + Wait + Clock + Sync,
->(scope: &'s Scope<'s, S>, rt: &'s R, work: W) -> Result<Thread<E, W>, RunFault>
+>(
+    scope: &'s Scope<'s, S>,
+    rt: &'s R,
+    signals: &'s Signals,
+    work: W,
+) -> Result<Thread<E, W>, RunFault>
     requires { W.ready work }
     ensures { IfOk result (λ thread. thread.promise.work.value ≡ work) }
 {
@@ -83,7 +94,7 @@ fn start<
         move || -> E
             requires { W.ready work }
             ensures { W.comes_to work result }
-        { work.work(rt) },
+        { work.work(rt, signals) },
     );
     match started {
         Ok(thread) => Ok(thread),
@@ -91,15 +102,68 @@ fn start<
     }
 }
 
-/// Waits for each of these threads. `Memory` where their ends find no room.
+/// Starts a thread for each of these works, list by list.
+pub(crate) fn start_lists<
+    's,
+    S,
+    E: Send + Drop + 's,
+    W: Work<E> + Send + Drop + 's,
+    R: Threads + Wait + Clock + Sync,
+>(
+    scope: &'s Scope<'s, S>,
+    rt: &'s R,
+    alloc: Global,
+    signals: &'s Signals,
+    lists: Vec<Vec<W>>,
+) -> Result<Vec<Vec<Thread<E, W>>>, RunFault>
+    requires { All (λ works. All W.ready works.items) lists.items }
+    ensures { IfOk result (λ threads. map (λ list. map (λ thread. thread.promise.work.value) list.items) threads.items ≡ map (λ works. works.items) lists.items) }
+{
+    let mut threads = Vec::new(alloc);
+    for works in lists {
+        let list = start_all(scope, rt, alloc, signals, works)?;
+        let Ok(()) = threads.push(list) else {
+            signals.halt();
+            return Err(RunFault::Memory);
+        };
+    }
+    Ok(threads)
+}
+
+/// Waits for each of these threads. `Memory` where what they hand back finds no room; then all that run are told to halt.
 pub(crate) fn join_all<E: Drop, W: Work<E>, R: Threads>(
     rt: &R,
+    signals: &Signals,
     threads: Vec<Thread<E, W>>,
 ) -> Result<Vec<E>, RunFault>
     ensures { IfOk result (λ ends. Pairwise W.comes_to (map (λ thread. thread.promise.work.value) threads.items) ends.items) }
 {
     match thread::join_promised(rt, threads) {
         Ok(ends) => Ok(ends),
-        Err(_) => Err(RunFault::Memory),
+        Err(_) => {
+            signals.halt();
+            Err(RunFault::Memory)
+        }
     }
+}
+
+/// Waits for each of these threads, list by list. `Memory` where what they hand back finds no room; then all that run are told to
+/// halt.
+pub(crate) fn join_lists<E: Drop, W: Work<E>, R: Threads>(
+    rt: &R,
+    alloc: Global,
+    signals: &Signals,
+    lists: Vec<Vec<Thread<E, W>>>,
+) -> Result<Vec<Vec<E>>, RunFault>
+    ensures { IfOk result (λ ends. Pairwise (Pairwise W.comes_to) (map (λ threads. map (λ thread. thread.promise.work.value) threads.items) lists.items) (map (λ list. list.items) ends.items)) }
+{
+    let mut ends = Vec::new(alloc);
+    for threads in lists {
+        let list = join_all(rt, signals, threads)?;
+        let Ok(()) = ends.push(list) else {
+            signals.halt();
+            return Err(RunFault::Memory);
+        };
+    }
+    Ok(ends)
 }

@@ -7,6 +7,6 @@ pub loop-work-preserved : goal.loop-work-preserved
 loop-work-preserved g c =
     let (moved, ready) = c.loop-work.invariant in
     let steps : into_iter_items c.loop-work.work-iterator ≡ c.in-Some.work ∷ into_iter_items c.next.new.self = search rules in (
-      one_moved (λ thread. thread.promise.work.value) c.loop-work.threads.items c.push.new.self.items c.in_ok-thread.thread c.in-Some.work _ _ c.args.works.items moved steps c.in_ok-thread.ensures c.in-Ok.ensures.items,
+      one_moved (λ thread. thread.promise.work.value) c.loop-work.threads.items c.push.new.self.items c.in-Ok.thread c.in-Some.work _ _ c.args.works.items moved steps c.in-Ok.ensures c.in-Ok-push.ensures.items,
       (λ k d low. subst (λ xs. (j : ℕ) (e : _) → j < length xs → g.W.Work.ready (slice_index_or xs j e)) steps ready (suc k) d (omega (arith, low))),
     )

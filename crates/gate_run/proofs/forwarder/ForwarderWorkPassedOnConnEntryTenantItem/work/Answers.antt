@@ -1,7 +1,7 @@
 use Rattle.std.proofs.Common.{rules, refl, ◌∙◌, ap}
 use Rattle.gate_run.proofs.Forwards.{forwarder_ends, forwarding_begins}
 use Rattle.gate_run.proofs.Seated.{fresh_seats, only_queues}
-use Rattle.gate_run.proofs.forwarder.ForwarderWorkForwarderEnd.work.Goals as goal
+use Rattle.gate_run.proofs.forwarder.ForwarderWorkPassedOnConnEntryTenantItem.work.Goals as goal
 
 pub loop-init : goal.loop-init
 loop-init g c = (

@@ -3,7 +3,7 @@ use Rattle.gate_queue.specs.Seats.{IsHeadOf}
 use Rattle.gate_tenant.specs.States.{config_of}
 use Rattle.gate_run.specs.Dispatchers.{IsDispatching}
 use Rattle.gate_run.specs.Seats.{seat_in, seat_of}
-use Rattle.gate_run.proofs.dispatcher.DispatcherWorkDispatcherEnd.work.Given as goal
+use Rattle.gate_run.proofs.dispatcher.DispatcherWorkPassedOnTenantItemPipelineItem.work.Given as goal
 
 abbrev pub invariant-loop : goal.invariant-loop
 invariant-loop g l =

@@ -1,0 +1,69 @@
+-- All that is known of the threads of a run once they were joined and their queues were ended.
+use Rattle.std.proofs.Common.{◌≡◌, ℕ, List, [], ◌∷◌, length, map}
+use Rattle.gate_record.specs.declared.transit.ConnEntry.{ConnEntry}
+use Rattle.gate_record.specs.declared.transit.PipelineItem.{PipelineItem}
+use Rattle.gate_record.specs.declared.transit.TenantItem.{TenantItem}
+use Rattle.gate_config.specs.declared.config.Config.{Config}
+use Rattle.gate_config.specs.Lookups.{connections_of, tenants_of}
+use Rattle.gate_tenant.specs.States.{config_of}
+use Rattle.gate_queue.specs.Seats.{Shape}
+use Rattle.gate_run.specs.declared.dispatcher.Dispatcher.{Dispatcher}
+use Rattle.gate_run.specs.declared.forwarder.Forwarder.{Forwarder}
+use Rattle.gate_run.specs.declared.putting.PassedOn.{PassedOn}
+use Rattle.gate_run.specs.declared.reader.Reader.{Reader}
+use Rattle.gate_run.specs.declared.reader.ReaderEnd.{ReaderEnd}
+use Rattle.gate_run.specs.declared.worker.Worker.{Worker}
+use Rattle.gate_run.specs.declared.worker.WorkerEnd.{WorkerEnd}
+use Rattle.gate_run.specs.Dispatchers.{HasDispatched}
+use Rattle.gate_run.specs.Feeds.{Told}
+use Rattle.gate_run.specs.Forwarders.{HasForwarded}
+use Rattle.gate_run.specs.Lists.{EachAt, Pairwise}
+use Rattle.gate_run.specs.Ports.{InboxEnds}
+use Rattle.gate_run.specs.Readers.{HasRead}
+use Rattle.gate_run.specs.Seatings.{AreWorkersOf, IsDispatcherOf, IsForwarderOf, IsReaderOf}
+use Rattle.gate_run.specs.Stages.{AreLanesSettled, IsStageSettled}
+use Rattle.gate_run.specs.Workers.{HasWorked}
+
+abbrev pub Read : {F : Type 0} → (F → Told) → (F → ℕ) → Reader F → ReaderEnd F → Type 0
+Read to_come faults w end = HasRead (to_come w.feed) (to_come end.feed) (faults w.feed) (faults end.feed) w.tail end.tail end.count end.cause w.note end.note
+
+abbrev pub Forwarded : Forwarder → PassedOn ConnEntry TenantItem → Type 0
+Forwarded w end = HasForwarded w.config.now w.conn.0 w.source.now w.targets.now end.head end.tails.items
+
+abbrev pub Dispatched : Dispatcher → PassedOn TenantItem PipelineItem → Type 0
+Dispatched w end = HasDispatched (config_of w.dispatch) w.tenant.0 w.source.now w.targets.now end.head end.tails.items
+
+abbrev pub Worked : {G : Type 0} → Worker G → WorkerEnd → Type 0
+Worked w end = HasWorked w.config.now w.tenant.0 w.pipeline.0 w.head end.head w.management end.management w.results end.results end.state
+
+pub record Evidence {F : Type 0} (G : Type 0) (config : Config) (to_come : F → Told) (faults : F → ℕ) (feeds : List F) (inbox : List (List InboxEnds)) (cell : ℕ) : Type 0 where
+  pub records : List Shape
+  pub items : List Shape
+  pub triggers : List (List Shape)
+  pub readers : List (Reader F)
+  pub forwarders : List Forwarder
+  pub dispatchers : List Dispatcher
+  pub workers : List (List (Worker G))
+  pub reader_ends : List (ReaderEnd F)
+  pub forwarder_ends : List (PassedOn ConnEntry TenantItem)
+  pub dispatcher_ends : List (PassedOn TenantItem PipelineItem)
+  pub worker_ends : List (List WorkerEnd)
+  pub feed_count : length feeds ≡ length (connections_of config)
+  pub reader_count : length readers ≡ length (connections_of config)
+  pub forwarder_count : length forwarders ≡ length (connections_of config)
+  pub dispatcher_count : length dispatchers ≡ length (tenants_of config)
+  pub worker_count : length workers ≡ length (tenants_of config)
+  pub record_senders : map (λ (queue : Shape). queue.name.senders) records ≡ map (λ (queue : Shape). 1) records
+  pub item_senders : map (λ (queue : Shape). queue.name.senders) items ≡ map (λ (queue : Shape). length (connections_of config)) items
+  pub trigger_senders : map (λ (queues : List Shape). map (λ (queue : Shape). queue.name.senders) queues) triggers ≡ map (λ (queues : List Shape). map (λ (queue : Shape). 1) queues) triggers
+  pub are_readers : EachAt (IsReaderOf faults feeds records cell) readers
+  pub are_forwarders : EachAt (IsForwarderOf config records items) forwarders
+  pub are_dispatchers : EachAt (IsDispatcherOf config items triggers) dispatchers
+  pub are_workers : EachAt (AreWorkersOf config triggers inbox) workers
+  pub have_read : Pairwise (Read to_come faults) readers reader_ends
+  pub have_forwarded : Pairwise Forwarded forwarders forwarder_ends
+  pub have_dispatched : Pairwise Dispatched dispatchers dispatcher_ends
+  pub have_worked : Pairwise (Pairwise Worked) workers worker_ends
+  pub records_settled : IsStageSettled records (map (λ (end : PassedOn ConnEntry TenantItem). end.head) forwarder_ends) (map (λ (end : ReaderEnd F). end.tail) reader_ends ∷ [])
+  pub items_settled : IsStageSettled items (map (λ (end : PassedOn TenantItem PipelineItem). end.head) dispatcher_ends) (map (λ (end : PassedOn ConnEntry TenantItem). end.tails.items) forwarder_ends)
+  pub triggers_settled : AreLanesSettled triggers (map (λ (ends : List WorkerEnd). map (λ (end : WorkerEnd). end.head) ends) worker_ends) (map (λ (end : PassedOn TenantItem PipelineItem). end.tails.items) dispatcher_ends)

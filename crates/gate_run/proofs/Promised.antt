@@ -1,0 +1,435 @@
+-- What is promised of a run, put together from what is known of its threads.
+use Rattle.std.proofs.Common.{◌≡◌, ◌∙◌, refl, sym, ap, subst, ℕ, zero, suc, ◌+◌, ◌<◌, ◌≤◌, List, [], ◌∷◌, ◌++◌, true, false, length, map, Option, Some, None, if◌then◌else◌, add-zero, arith, append-nil}
+use Rattle.std.specs.Prelude.{option_and_then, slice_get, unwrap_or}
+use Rattle.std.specs.List.{cons_option, filter_map, range_with_len}
+use Rattle.std.proofs.lemmas.Bool.{ne_eqb}
+use Rattle.std.proofs.lemmas.Option.{get_or_from_slice_get, slice_get_past, slice_get_within}
+use Rattle.gate_record.specs.declared.record.Record.{Record}
+use Rattle.gate_record.specs.declared.transit.ConnEntry.{ConnEntry}
+use Rattle.gate_record.specs.declared.transit.PipelineItem.{PipelineItem}
+use Rattle.gate_record.specs.declared.transit.PipelineItem.TheVariants as item
+use Rattle.gate_record.specs.declared.transit.TenantItem.{TenantItem}
+use Rattle.gate_record.specs.Prefixes.{IsPrefixOf}
+use Rattle.gate_config.specs.declared.config.Config.{Config}
+use Rattle.gate_config.specs.Lookups.{connections_of, pipelines_of}
+use Rattle.gate_forward.specs.Forwarding.{forwarded}
+use Rattle.gate_tenant.specs.Dispatching.{chosen}
+use Rattle.gate_pipeline.specs.Histories.{AreProcessed, History, TakenIsProcessed, held_items, stamp_in}
+use Rattle.gate_pipeline.specs.States.{State}
+use Rattle.gate_source.specs.Stops.{Note}
+use Rattle.gate_queue.specs.declared.tagged.Tagged.{Tagged}
+use Rattle.gate_queue.specs.Seats.{QueueName, SenderSeat, Shape, TakerSeat}
+use Rattle.gate_queue.specs.States.{AreFrom, IsDelivered}
+use Rattle.gate_queue.specs.Tagged.{values_of}
+use Rattle.gate_core.specs.declared.report.ConnectionReport.{ConnectionReport}
+use Rattle.gate_core.specs.declared.report.EndCause.{EndCause}
+use Rattle.gate_core.specs.declared.report.EndCause.TheVariants as cause
+use Rattle.gate_core.specs.declared.report.PipelineReport.{PipelineReport}
+use Rattle.gate_core.specs.declared.report.RunReport.{RunReport}
+use Rattle.gate_core.specs.History.{number_from, numbers_from, wanted}
+use Rattle.gate_core.specs.Ways.{EachWayDelivers, Way, number_of_item}
+use Rattle.gate_run.specs.declared.putting.PassedOn.{PassedOn}
+use Rattle.gate_run.specs.declared.reader.ReaderEnd.{ReaderEnd}
+use Rattle.gate_run.specs.declared.worker.Worker.{Worker}
+use Rattle.gate_run.specs.declared.worker.WorkerEnd.{WorkerEnd}
+use Rattle.gate_run.specs.Feeds.{Told}
+use Rattle.gate_run.specs.Lists.{Each, EachAt, Pairwise}
+use Rattle.gate_run.specs.Ports.{InboxEnds, InboxView, at_pipeline, pipeline_counts}
+use Rattle.gate_run.specs.Readers.{Means, is_closed}
+use Rattle.gate_run.specs.Seats.{seat_in, seat_of, values}
+use Rattle.gate_run.specs.Seatings.{AreWorkersOf, IsReaderOf}
+use Rattle.gate_run.specs.Gatherings.{inbox_back, knows_as_much, report_of_pipeline, report_of_reader}
+use Rattle.gate_run.specs.Serving.{Delivers, HasEnded, HasProcessed, HaveEnded, Serves, lines_of}
+use Rattle.gate_run.specs.Stages.{IsStageSettled}
+use Rattle.gate_run.proofs.Composed.{OfSenders, of_senders, taken_own, way_of}
+use Rattle.gate_run.proofs.Evidence.{Evidence, Read, Worked}
+use Rattle.gate_run.proofs.Found.{ForwarderAt, LinesOf, There, WorkerAt, alike_here, all_lines, dispatcher_at, find_lines, forwarder_at, from, lines_count, row_of, seat_at, there, three_here, worker_at}
+use Rattle.gate_run.proofs.Paired.{map_length}
+use Rattle.gate_run.proofs.Seated.{map_map}
+use Rattle.gate_run.proofs.Seatings.{here_mapped}
+use Rattle.gate_run.proofs.Places.{as_many, at_here, each_here, the_same}
+
+-- ---- lists of numbers
+
+number_and : (c : ℕ) (x : PipelineItem) (front : List PipelineItem) → cons_option (number_of_item c x) (filter_map (number_of_item c) front) ≡ filter_map (number_of_item c) (x ∷ front)
+number_and c x front = refl
+
+numbered_by : (c : ℕ) (front : List PipelineItem) → filter_map (number_of_item c) front ≡ numbers_from c (filter_map stamp_in front)
+numbered_by c [] = refl
+numbered_by c (item.Event s ∷ front) = ap (λ ns. cons_option (number_from c s.stamp) ns) (numbered_by c front)
+numbered_by c (item.End ∷ front) = numbered_by c front
+
+-- from a sender that isn't there nothing was taken
+none_beyond : {T : Type 0} (n c : ℕ) (xs : List (Tagged T)) → AreFrom n xs → n ≤ c → values_of c xs ≡ []
+none_beyond n c [] of high = refl
+none_beyond n c (x ∷ xs) of high = ap (λ b. if b then x.value ∷ values_of c xs else values_of c xs) (ne_eqb x.sender c (λ e. omega (arith, e, of 0 x (omega arith), high))) ∙ none_beyond n c xs (λ k d low. of (suc k) d (omega (arith, low))) high
+
+nothing_before : {X : Type 0} (xs : List X) → IsPrefixOf xs [] → xs ≡ []
+nothing_before [] is = refl
+nothing_before (x ∷ xs) (rest, e) = absurd (cc)
+
+module _ {F G : Type 0} {config : Config} {to_come : F → Told} {faults : F → ℕ} {feeds : List F} {inbox : List (List InboxEnds)} {cell : ℕ} (E : Evidence {F = F} G config to_come faults feeds inbox cell) where
+  abbrev pub n : ℕ
+  n = length (connections_of config)
+
+  abbrev pub lines : List (List Record)
+  lines = all_lines to_come faults E.readers E.reader_ends E.have_read
+
+  -- ---- what a tenant's queue was given by one connection
+
+  record Sent (t s : ℕ) (d : PassedOn TenantItem PipelineItem) (queue : Shape) : Type 0 where
+    pub end : PassedOn ConnEntry TenantItem
+    pub end_here : slice_get E.forwarder_ends s ≡ Some end
+    pub forwarder : ForwarderAt E s end
+    pub put : List TenantItem
+    pub in_order : IsPrefixOf put (forwarded config t s (values end.head.taken))
+    pub waiting : List (Tagged TenantItem)
+    pub arrived : IsDelivered d.head.taken waiting s put
+
+  sent : (t s : ℕ) (d : PassedOn TenantItem PipelineItem) (queue : Shape) → slice_get E.dispatcher_ends t ≡ Some d → slice_get E.items t ≡ Some queue → s < n → Sent t s d queue
+  sent t s d queue at of_queue low =
+      let f = there E.forwarder_ends s (omega (arith, low, E.forwarder_count, as_many _ E.forwarders E.forwarder_ends E.have_forwarded)) in
+      let forwarder = forwarder_at E s f.one f.here in
+      let seat = seat_at E.items s f.one.tails.items t queue forwarder.did.seats of_queue in
+      let settled = E.items_settled.each s t f.one.tails.items seat.tail queue d.head (here_mapped (λ (end : PassedOn ConnEntry TenantItem). end.tails.items) E.forwarder_ends s f.one f.here) seat.here of_queue
+      (here_mapped (λ (end : PassedOn TenantItem PipelineItem). end.head) E.dispatcher_ends t d at) in
+      record {
+        end = f.one;
+        end_here = f.here;
+        forwarder = forwarder;
+        put = seat.tail.put;
+        in_order = subst (λ (x : SenderSeat TenantItem). IsPrefixOf x.put (forwarded config t s (values f.one.head.taken))) (get_or_from_slice_get f.one.tails.items t seat.tail seat.tail seat.here)
+            (forwarder.did.put t seat.tail (slice_get_within f.one.tails.items t seat.tail seat.here));
+        waiting = settled.waiting;
+        arrived = subst (λ k. IsDelivered d.head.taken settled.waiting k seat.tail.put) seat.sender settled.delivered;
+      }
+
+  -- ---- what a tenant's worker took
+
+  got_from : (t : ℕ) (d : PassedOn TenantItem PipelineItem) (queue : Shape) → slice_get E.dispatcher_ends t ≡ Some d → slice_get E.items t ≡ Some queue → AreFrom n d.head.taken
+  got_from t d queue at of_queue =
+      subst (λ m. AreFrom m d.head.taken) (alike_here (λ (q : Shape). q.name.senders) n E.items t queue E.item_senders of_queue)
+      (E.items_settled.from t queue d.head of_queue (here_mapped (λ (end : PassedOn TenantItem PipelineItem). end.head) E.dispatcher_ends t d at))
+
+  got_own : (t : ℕ) (d : PassedOn TenantItem PipelineItem) (queue : Shape) → slice_get E.dispatcher_ends t ≡ Some d → slice_get E.items t ≡ Some queue → OfSenders d.head.taken
+  got_own t d queue at of_queue = of_senders n d.head.taken (got_from t d queue at of_queue) (λ s low.
+      let by = sent t s d queue at of_queue low in
+      taken_own config t s (values by.end.head.taken) by.put d.head.taken by.waiting by.in_order by.arrived)
+
+  -- ---- the whole way to a pipeline
+
+  -- what its worker took, in order, and what it was given
+  record Taken (t p : ℕ) (d : PassedOn TenantItem PipelineItem) (w : WorkerEnd) : Type 0 where
+    pub worker : WorkerAt E t p w
+    pub matched : List TenantItem
+    pub unmatched : List TenantItem
+    pub took : matched ++ unmatched ≡ values d.head.taken
+    pub given : List PipelineItem
+    pub in_order : IsPrefixOf given (chosen config t p matched)
+    pub waiting : List (Tagged PipelineItem)
+    pub from : AreFrom 1 w.head.taken
+    pub from_waiting : AreFrom 1 waiting
+    pub arrived : IsDelivered w.head.taken waiting 0 given
+
+  taken : (t p : ℕ) (d : PassedOn TenantItem PipelineItem) (list : List WorkerEnd) (w : WorkerEnd) → slice_get E.dispatcher_ends t ≡ Some d → slice_get E.worker_ends t ≡ Some list → slice_get list p ≡ Some w → Taken t p d w
+  taken t p d list w at at' here =
+      let worker = worker_at E t p list w at' here in
+      let dispatcher = dispatcher_at E t d at in
+      let same : dispatcher.targets ≡ worker.queues = the_same dispatcher.targets worker.queues (sym dispatcher.targets_here ∙ worker.queues_here) in
+      let seats : map seat_of d.tails.items ≡ map (seat_in 0) worker.queues = dispatcher.did.seats ∙ ap (map (seat_in 0)) same in
+      let seat = seat_at worker.queues 0 d.tails.items p worker.queue seats worker.queue_here in
+      let given = dispatcher.did.given in
+      let one : worker.queue.name.senders ≡ 1 = alike_here (λ (q : Shape). q.name.senders) 1 worker.queues p worker.queue (rows_here t worker.queues worker.queues_here) worker.queue_here in
+      let lane = three_here (λ (lane : List Shape) (own_heads : List (TakerSeat PipelineItem)) (own_tails : List (SenderSeat PipelineItem)). IsStageSettled lane own_heads (own_tails ∷ []))
+      E.triggers (map (λ (ends : List WorkerEnd). map (λ (end : WorkerEnd). end.head) ends) E.worker_ends) (map (λ (end : PassedOn TenantItem PipelineItem). end.tails.items) E.dispatcher_ends) t worker.queues (map (λ (end : WorkerEnd). end.head) list) d.tails.items
+      E.triggers_settled worker.queues_here (here_mapped (λ (ends : List WorkerEnd). map (λ (end : WorkerEnd). end.head) ends) E.worker_ends t list at') (here_mapped (λ (end : PassedOn TenantItem PipelineItem). end.tails.items) E.dispatcher_ends t d at) in
+      let settled = lane.each 0 p d.tails.items seat.tail worker.queue w.head refl seat.here worker.queue_here (here_mapped (λ (end : WorkerEnd). end.head) list p w here) in
+      record {
+        worker = worker;
+        matched = given.matched;
+        unmatched = given.unmatched;
+        took = given.took;
+        given = seat.tail.put;
+        in_order = subst (λ (x : SenderSeat PipelineItem). IsPrefixOf x.put (chosen config t p given.matched)) (get_or_from_slice_get d.tails.items p seat.tail seat.tail seat.here)
+            (given.put p seat.tail (slice_get_within d.tails.items p seat.tail seat.here));
+        waiting = settled.waiting;
+        from = subst (λ m. AreFrom m w.head.taken) one settled.from;
+        from_waiting = subst (λ m. AreFrom m settled.waiting) one settled.from_waiting;
+        arrived = subst (λ k. IsDelivered w.head.taken settled.waiting k seat.tail.put) seat.sender settled.delivered;
+      }
+    where
+      rows_here : (k : ℕ) (queues : List Shape) → slice_get E.triggers k ≡ Some queues → map (λ (q : Shape). q.name.senders) queues ≡ map (λ (q : Shape). 1) queues
+      rows_here k queues e =
+          let left = here_mapped (λ (qs : List Shape). map (λ (q : Shape). q.name.senders) qs) E.triggers k queues e in
+          let right = here_mapped (λ (qs : List Shape). map (λ (q : Shape). 1) qs) E.triggers k queues e in
+          the_same (map (λ (q : Shape). q.name.senders) queues) (map (λ (q : Shape). 1) queues) (sym left ∙ ap (λ xs. slice_get xs k) E.trigger_senders ∙ right)
+
+  -- what a reader put, and what was taken of it
+  record Put (c : ℕ) (r : ReaderEnd F) (f : PassedOn ConnEntry TenantItem) : Type 0 where
+    pub found : LinesOf to_come faults E.readers E.reader_ends E.have_read c r
+    pub waiting : List (Tagged ConnEntry)
+    pub from : AreFrom 1 f.head.taken
+    pub from_waiting : AreFrom 1 waiting
+    pub arrived : IsDelivered f.head.taken waiting 0 r.tail.put
+
+  put : (c : ℕ) (r : ReaderEnd F) (f : PassedOn ConnEntry TenantItem) → slice_get E.reader_ends c ≡ Some r → slice_get E.forwarder_ends c ≡ Some f → Put c r f
+  put c r f at at' =
+      let found = find_lines to_come faults E.readers E.reader_ends E.have_read c r at in
+      let is = at_here (IsReaderOf faults feeds E.records cell) E.readers c found.reader E.are_readers found.reader_here in
+      let queue = found.reader.queue.now in
+      let one : queue.name.senders ≡ 1 = alike_here (λ (q : Shape). q.name.senders) 1 E.records c queue E.record_senders is.queue in
+      let sender : r.tail.sender ≡ 0 = ap (λ (seat : QueueName × ℕ). seat.1) found.read.seat ∙ ap (λ (tail : SenderSeat ConnEntry). tail.sender) is.can.not_put in
+      let settled = E.records_settled.each 0 c (map (λ (end : ReaderEnd F). end.tail) E.reader_ends) r.tail queue f.head refl (here_mapped (λ (end : ReaderEnd F). end.tail) E.reader_ends c r at) is.queue
+      (here_mapped (λ (end : PassedOn ConnEntry TenantItem). end.head) E.forwarder_ends c f at') in
+      record {
+        found = found;
+        waiting = settled.waiting;
+        from = subst (λ m. AreFrom m f.head.taken) one settled.from;
+        from_waiting = subst (λ m. AreFrom m settled.waiting) one settled.from_waiting;
+        arrived = subst (λ k. IsDelivered f.head.taken settled.waiting k r.tail.put) sender settled.delivered;
+      }
+
+  -- what a pipeline has processed is the first of what its worker took
+  record Processed (t p : ℕ) (w : WorkerEnd) : Type 0 where
+    pub past : History
+    pub now : past.state ≡ w.state
+    pub are : AreProcessed config t p past
+    pub all : values w.head.taken ≡ are.front ++ held_items past.state.held
+
+  processed : TakenIsProcessed → (t p : ℕ) (list : List WorkerEnd) (w : WorkerEnd) → slice_get E.worker_ends t ≡ Some list → slice_get list p ≡ Some w → Processed t p w
+  processed law t p list w at here =
+      let worker = worker_at E t p list w at here in
+      let are = law config t p worker.did.past worker.did.happens in
+      let more = worker.did.triggers in
+      record {
+        past = worker.did.past;
+        now = worker.did.now;
+        are = are;
+        all = ap values (more.behind ∙ ap (λ xs. xs ++ more.taken) worker.fresh) ∙ more.are ∙ are.triggers;
+      }
+
+  -- the way of a connection that is there
+  way_there : (law : TakenIsProcessed) (t p c : ℕ) (d : PassedOn TenantItem PipelineItem) (list : List WorkerEnd) (w : WorkerEnd) (r : ReaderEnd F) (at_d : slice_get E.dispatcher_ends t ≡ Some d) (at_l : slice_get E.worker_ends t ≡ Some list)
+      (at_w : slice_get list p ≡ Some w) (at_r : slice_get E.reader_ends c ≡ Some r) (low : c < n) →
+      Way config t p c (find_lines to_come faults E.readers E.reader_ends E.have_read c r at_r).read.lines (is_closed r.cause) (processed law t p list w at_l at_w).are.front
+  unfolding put
+  way_there law t p c d list w r at_d at_l at_w at_r low =
+      let dispatcher = dispatcher_at E t d at_d in
+      let by = sent t c d dispatcher.queue at_d dispatcher.queue_here low in
+      let given = taken t p d list w at_d at_l at_w in
+      let first = put c r by.end at_r by.end_here in
+      let done = processed law t p list w at_l at_w in
+      way_of config t p c first.found.read.lines (is_closed r.cause) r.tail.put by.end.head.taken first.waiting by.put d.head.taken by.waiting given.matched given.unmatched given.given w.head.taken given.waiting done.are.front (held_items done.past.state.held)
+      first.found.read.put first.from first.from_waiting first.arrived by.in_order (got_own t d dispatcher.queue at_d dispatcher.queue_here) by.arrived given.took given.in_order given.from given.from_waiting given.arrived done.all
+
+  -- the way of one that isn't
+  way_beyond : (law : TakenIsProcessed) (t p c : ℕ) (d : PassedOn TenantItem PipelineItem) (list : List WorkerEnd) (w : WorkerEnd) (at_d : slice_get E.dispatcher_ends t ≡ Some d) (at_l : slice_get E.worker_ends t ≡ Some list)
+      (at_w : slice_get list p ≡ Some w) (high : n ≤ c) → Way config t p c [] false (processed law t p list w at_l at_w).are.front
+  way_beyond law t p c d list w at_d at_l at_w high =
+      let dispatcher = dispatcher_at E t d at_d in
+      let given = taken t p d list w at_d at_l at_w in
+      let done = processed law t p list w at_l at_w in
+      let own = got_own t d dispatcher.queue at_d dispatcher.queue_here in
+      way_of config t p c [] false [] [] [] [] d.head.taken [] given.matched given.unmatched given.given w.head.taken given.waiting done.are.front (held_items done.past.state.held)
+      refl none none refl ([], refl) own (append-nil (values_of c d.head.taken) ∙ none_beyond n c d.head.taken (got_from t d dispatcher.queue at_d dispatcher.queue_here) high) given.took given.in_order given.from given.from_waiting given.arrived done.all
+    where
+      none : AreFrom {T = ConnEntry} 1 []
+      none k x low = absurd (omega (arith, low))
+
+  -- ---- what each pipeline has processed
+
+  past_end : {X : Type 0} (xs : List X) (i : ℕ) → slice_get xs i ≡ None → length xs ≤ i
+  past_end [] i e = omega arith
+  past_end (x ∷ xs) zero e = absurd (cc)
+  past_end (x ∷ xs) (suc i) e = let high = past_end xs i e in omega (arith, high)
+
+  end_count : length E.reader_ends ≡ n
+  end_count = sym (as_many (Read to_come faults) E.readers E.reader_ends E.have_read) ∙ E.reader_count
+
+  lines_there : (c : ℕ) (r : ReaderEnd F) (at : slice_get E.reader_ends c ≡ Some r) → lines_of c lines ≡ (find_lines to_come faults E.readers E.reader_ends E.have_read c r at).read.lines
+  lines_there c r at = ap (λ (o : Option (List Record)). unwrap_or o []) (find_lines to_come faults E.readers E.reader_ends E.have_read c r at).lines_here
+
+  lines_beyond : (c : ℕ) → slice_get E.reader_ends c ≡ None → lines_of c lines ≡ []
+  lines_beyond c at = ap (λ (o : Option (List Record)). unwrap_or o [])
+      (slice_get_past lines c (let high = past_end E.reader_ends c at in omega (arith, high, lines_count to_come faults E.readers E.reader_ends E.have_read)))
+
+  numbers : (law : TakenIsProcessed) (t p c : ℕ) (list : List WorkerEnd) (w : WorkerEnd) (at_l : slice_get E.worker_ends t ≡ Some list) (at_w : slice_get list p ≡ Some w) →
+      filter_map (number_of_item c) (processed law t p list w at_l at_w).are.front ≡ numbers_from c w.state.done
+  numbers law t p c list w at_l at_w =
+      let done = processed law t p list w at_l at_w in
+      numbered_by c done.are.front ∙ ap (numbers_from c) done.are.stamps ∙ ap (λ (s : State). numbers_from c s.done) done.now
+
+  in_order_by : (law : TakenIsProcessed) → EachWayDelivers → (t p c : ℕ) (d : PassedOn TenantItem PipelineItem) (list : List WorkerEnd) (w : WorkerEnd) → slice_get E.dispatcher_ends t ≡ Some d → (at_l : slice_get E.worker_ends t ≡ Some list) →
+      (at_w : slice_get list p ≡ Some w) (o : Option (ReaderEnd F)) → slice_get E.reader_ends c ≡ o → IsPrefixOf (numbers_from c w.state.done) (wanted config t p c (lines_of c lines))
+  in_order_by law ways t p c d list w at_d at_l at_w (Some r) at =
+      let front = (processed law t p list w at_l at_w).are.front in
+      let low = slice_get_within E.reader_ends c r at in
+      let way = way_there law t p c d list w r at_d at_l at_w at (omega (arith, low, end_count)) in
+      subst (λ xs. IsPrefixOf xs (wanted config t p c (lines_of c lines))) (numbers law t p c list w at_l at_w)
+      (subst (λ ls. IsPrefixOf (filter_map (number_of_item c) front) (wanted config t p c ls)) (sym (lines_there c r at)) (ways.in_order config t p c _ _ front way))
+  in_order_by law ways t p c d list w at_d at_l at_w None at =
+      let front = (processed law t p list w at_l at_w).are.front in
+      let high = past_end E.reader_ends c at in
+      let way = way_beyond law t p c d list w at_d at_l at_w (omega (arith, high, end_count)) in
+      subst (λ xs. IsPrefixOf xs (wanted config t p c (lines_of c lines))) (numbers law t p c list w at_l at_w)
+      (subst (λ ls. IsPrefixOf (filter_map (number_of_item c) front) (wanted config t p c ls)) (sym (lines_beyond c at)) (ways.in_order config t p c [] false front way))
+
+  whole_by : (law : TakenIsProcessed) → EachWayDelivers → (t p c : ℕ) (d : PassedOn TenantItem PipelineItem) (list : List WorkerEnd) (w : WorkerEnd) → slice_get E.dispatcher_ends t ≡ Some d → (at_l : slice_get E.worker_ends t ≡ Some list) →
+      (at_w : slice_get list p ≡ Some w) (o : Option (ReaderEnd F)) → slice_get E.reader_ends c ≡ o → w.state.finished ≡ true → numbers_from c w.state.done ≡ wanted config t p c (lines_of c lines)
+  whole_by law ways t p c d list w at_d at_l at_w (Some r) at finished =
+      let done = processed law t p list w at_l at_w in
+      let low = slice_get_within E.reader_ends c r at in
+      let inside : c < n = omega (arith, low, end_count) in
+      let way = way_there law t p c d list w r at_d at_l at_w at inside in
+      sym (numbers law t p c list w at_l at_w)
+      ∙ ways.whole config t p c _ _ done.are.front inside way (done.are.ends ∙ ap (λ (s : State). s.finished) done.now ∙ finished)
+      ∙ ap (wanted config t p c) (sym (lines_there c r at))
+  whole_by law ways t p c d list w at_d at_l at_w None at finished =
+      let none = lines_beyond c at in
+      nothing_before (numbers_from c w.state.done) (subst (λ ls. IsPrefixOf (numbers_from c w.state.done) (wanted config t p c ls)) none (in_order_by law ways t p c d list w at_d at_l at_w None at))
+      ∙ ap (wanted config t p c) (sym none)
+
+  -- the worker of the tenant of a list of pipelines
+  tenant_of_list : (t : ℕ) (list : List WorkerEnd) → slice_get E.worker_ends t ≡ Some list → There E.dispatcher_ends t
+  tenant_of_list t list at =
+      let low = slice_get_within E.worker_ends t list at in
+      there E.dispatcher_ends t (omega (arith, low, as_many _ E.workers E.worker_ends E.have_worked, E.worker_count, E.dispatcher_count, as_many _ E.dispatchers E.dispatcher_ends E.have_dispatched))
+
+  abbrev pub reported : List (List PipelineReport)
+  reported = map (λ (ends : List WorkerEnd). map (λ (end : WorkerEnd). report_of_pipeline end.state) ends) E.worker_ends
+
+  -- the pipeline's worker that a report is of
+  record Reported (t p : ℕ) (pipeline : PipelineReport) : Type 0 where
+    pub list : List WorkerEnd
+    pub list_here : slice_get E.worker_ends t ≡ Some list
+    pub end : WorkerEnd
+    pub here : slice_get list p ≡ Some end
+    pub is : report_of_pipeline end.state ≡ pipeline
+
+  find_report : (t p : ℕ) (pipeline : PipelineReport) → at_pipeline t p reported ≡ Some pipeline → Reported t p pipeline
+  find_report t p pipeline at =
+      let row = row_of reported t p pipeline at in
+      let list = from (λ (ends : List WorkerEnd). map (λ (end : WorkerEnd). report_of_pipeline end.state) ends) E.worker_ends t row.row row.row_here in
+      let end = from (λ (end : WorkerEnd). report_of_pipeline end.state) list.one p pipeline (ap (λ xs. slice_get xs p) list.is ∙ row.here) in
+      record { list = list.one; list_here = list.here; end = end.one; here = end.here; is = end.is }
+
+  pub delivers : TakenIsProcessed → EachWayDelivers → Delivers config lines reported
+  delivers law ways = record {
+    in_order = λ t p c pipeline at.
+        let f = find_report t p pipeline at in
+        let d = tenant_of_list t f.list f.list_here in
+        subst (λ (x : PipelineReport). IsPrefixOf (numbers_from c x.done) (wanted config t p c (lines_of c lines))) f.is (in_order_by law ways t p c d.one f.list f.end d.here f.list_here f.here (slice_get E.reader_ends c) refl);
+    whole = λ t p c pipeline at finished.
+        let f = find_report t p pipeline at in
+        let d = tenant_of_list t f.list f.list_here in
+        ap (λ (x : PipelineReport). numbers_from c x.done) (sym f.is)
+        ∙ whole_by law ways t p c d.one f.list f.end d.here f.list_here f.here (slice_get E.reader_ends c) refl (ap (λ (x : PipelineReport). x.finished) f.is ∙ finished);
+  }
+
+  -- ---- what each connection's reader did
+
+  means_kept : (cause : EndCause) (before after : Told) (own : List Record) (f f' : ℕ) (note note' : Note) → knows_as_much note note' → Means cause before after own f f' note → Means cause before after own f f' note'
+  means_kept cause.Ended before after own f f' note note' knows means = means
+  means_kept cause.Failed before after own f f' note note' knows means = means
+  means_kept cause.Stopped before after own f f' note note' knows means = knows means
+  means_kept cause.Memory before after own f f' note note' knows means = means
+  means_kept cause.Unclosed before after own f f' note note' knows means = means
+
+  abbrev pub back : List F
+  back = map (λ (end : ReaderEnd F). end.feed) E.reader_ends
+
+  abbrev pub counted : List ConnectionReport
+  counted = map report_of_reader E.reader_ends
+
+  pub have_ended : (note : Note) → Each (λ (end : ReaderEnd F). knows_as_much end.note note) E.reader_ends → HaveEnded to_come faults feeds back lines counted note
+  have_ended note knows = record {
+    feeds_back = map_length (λ (end : ReaderEnd F). end.feed) E.reader_ends ∙ end_count ∙ sym E.feed_count;
+    all_lines = lines_count to_come faults E.readers E.reader_ends E.have_read ∙ end_count ∙ sym E.feed_count;
+    all_reports = map_length report_of_reader E.reader_ends ∙ end_count ∙ sym E.feed_count;
+    each = λ c feed feed' own report at at' here here'.
+        let r = from (λ (end : ReaderEnd F). end.feed) E.reader_ends c feed' at' in
+        let found = find_lines to_come faults E.readers E.reader_ends E.have_read c r.one r.here in
+        let is = at_here (IsReaderOf faults feeds E.records cell) E.readers c found.reader E.are_readers found.reader_here in
+        let read = found.read in
+        let same : found.reader.feed ≡ feed = the_same found.reader.feed feed (sym is.feed ∙ at) in
+        let lines_same : read.lines ≡ own = the_same read.lines own (sym found.lines_here ∙ here) in
+        let report_same : report_of_reader r.one ≡ report = the_same (report_of_reader r.one) report (sym (here_mapped report_of_reader E.reader_ends c r.one r.here) ∙ here') in
+        subst (λ x. HasEnded (to_come x) (to_come feed') (faults x) (faults feed') own report note) same
+        (subst (λ x. HasEnded (to_come found.reader.feed) (to_come x) (faults found.reader.feed) (faults x) own report note) r.is
+        (subst (λ x. HasEnded (to_come found.reader.feed) (to_come r.one.feed) (faults found.reader.feed) (faults r.one.feed) x report note) lines_same
+        (subst (λ x. HasEnded (to_come found.reader.feed) (to_come r.one.feed) (faults found.reader.feed) (faults r.one.feed) read.lines x note) report_same
+        (record { first = read.first; accepted = read.counted; means = means_kept r.one.cause _ _ read.lines _ _ r.one.note note (each_here (λ (end : ReaderEnd F). knows_as_much end.note note) E.reader_ends c r.one knows r.here) read.means }))));
+  }
+
+  -- ---- what each pipeline's worker took from the inbox
+
+  abbrev pub kept : List (List State)
+  kept = map (λ (ends : List WorkerEnd). map (λ (end : WorkerEnd). end.state) ends) E.worker_ends
+
+  abbrev pub inbox_kept : List (List InboxEnds)
+  inbox_kept = map (λ (ends : List WorkerEnd). map inbox_back ends) E.worker_ends
+
+  pub processes : TakenIsProcessed → (t p : ℕ) (ends ends' : InboxEnds) (state : State) → at_pipeline t p inbox ≡ Some ends → at_pipeline t p inbox_kept ≡ Some ends' → at_pipeline t p kept ≡ Some state → HasProcessed config t p ends ends' state
+  processes law t p ends ends' state at at' here =
+      let row = row_of kept t p state here in
+      let list = from (λ (es : List WorkerEnd). map (λ (end : WorkerEnd). end.state) es) E.worker_ends t row.row row.row_here in
+      let end = from (λ (e : WorkerEnd). e.state) list.one p state (ap (λ xs. slice_get xs p) list.is ∙ row.here) in
+      let w = worker_at E t p list.one end.one list.here end.here in
+      let before : w.ends ≡ ends = the_same w.ends ends (sym w.ends_here ∙ at) in
+      let after_here : at_pipeline t p inbox_kept ≡ Some (inbox_back end.one) =
+      ap (option_and_then (λ (xs : List InboxEnds). slice_get xs p)) (here_mapped (λ (es : List WorkerEnd). map inbox_back es) E.worker_ends t list.one list.here) ∙ here_mapped inbox_back list.one p end.one end.here in
+      let after : inbox_back end.one ≡ ends' = the_same (inbox_back end.one) ends' (sym after_here ∙ at') in
+      subst (λ x. HasProcessed config t p ends ends' x) end.is
+      (subst (λ x. HasProcessed config t p ends x end.one.state) after
+      (subst (λ x. HasProcessed config t p x (inbox_back end.one) end.one.state) before
+      (record { past = w.did.past; now = w.did.now; processed = law config t p w.did.past w.did.happens; management = w.did.management; results = w.did.results })))
+
+  -- ---- as many pipelines as there are
+
+  module _ (count : ℕ → ℕ) where
+    each_counted : (a : ℕ) (P : ℕ → List (Worker G) → Type 0) → ((k : ℕ) (ws : List (Worker G)) → P k ws → length ws ≡ count (a + k)) → (lists : List (List (Worker G))) → EachAt P lists → map length lists ≡ map count (range_with_len a (length lists))
+    each_counted a P is [] all = refl
+    each_counted a P is (ws ∷ lists) all = (λ i. (is 0 ws all.0 ∙ ap count (add-zero a)) i ∷ each_counted (a + 1) (λ k. P (suc k)) (λ k xs q. is (suc k) xs q ∙ ap count (omega arith)) lists all.1 i)
+
+  as_long : {A B : Type 0} (R : A → B → Type 0) (xs : List (List A)) (ys : List (List B)) → Pairwise (Pairwise R) xs ys → map length xs ≡ map length ys
+  as_long R [] [] all = refl
+  as_long R [] (y ∷ ys) all = absurd all
+  as_long R (x ∷ xs) [] all = absurd all
+  as_long R (x ∷ xs) (y ∷ ys) all = (λ i. as_many R x y all.0 i ∷ as_long R xs ys all.1 i)
+
+  mapped_lengths : {A B : Type 0} (f : A → B) (xss : List (List A)) → map length (map (λ (xs : List A). map f xs) xss) ≡ map length xss
+  mapped_lengths f [] = refl
+  mapped_lengths f (xs ∷ xss) = (λ i. map_length f xs i ∷ mapped_lengths f xss i)
+
+  worker_counts : map length E.worker_ends ≡ pipeline_counts config
+  worker_counts =
+      sym (as_long Worked E.workers E.worker_ends E.have_worked)
+      ∙ each_counted (λ t. length (pipelines_of config t)) 0 (AreWorkersOf config E.triggers inbox) (λ k ws (are : AreWorkersOf config E.triggers inbox k ws). are.count ∙ ap (λ m. length (pipelines_of config m)) (omega arith)) E.workers E.are_workers
+      ∙ ap (λ m. map (λ t. length (pipelines_of config t)) (range_with_len 0 m)) E.worker_count
+
+  pub pipelines_counted : map length kept ≡ pipeline_counts config
+  pipelines_counted = mapped_lengths (λ (end : WorkerEnd). end.state) E.worker_ends ∙ worker_counts
+
+  pub inbox_counted : map length inbox_kept ≡ pipeline_counts config
+  inbox_counted = mapped_lengths inbox_back E.worker_ends ∙ worker_counts
+
+  reports_kept : (xss : List (List WorkerEnd)) → map (λ (ends : List WorkerEnd). map (λ (end : WorkerEnd). report_of_pipeline end.state) ends) xss ≡ map (map report_of_pipeline) (map (λ (ends : List WorkerEnd). map (λ (end : WorkerEnd). end.state) ends) xss)
+  reports_kept [] = refl
+  reports_kept (ends ∷ xss) = (λ i. sym (map_map report_of_pipeline (λ (end : WorkerEnd). end.state) ends) i ∷ reports_kept xss i)
+
+  -- ---- all of it
+
+  pub serves : TakenIsProcessed → EachWayDelivers → (feeds' : List F) (before after : InboxView) (report : RunReport) (pipelines : List (List State)) → before.pipelines ≡ inbox →
+      feeds' ≡ back → report.connections ≡ counted → report.pipelines ≡ reported → pipelines ≡ kept → after.pipelines ≡ inbox_kept → after.note.cell ≡ before.note.cell →
+      Each (λ (end : ReaderEnd F). knows_as_much end.note after.note) E.reader_ends → Serves config to_come faults feeds feeds' before after report pipelines
+  serves law ways feeds' before after report pipelines was fed connections done states inboxes cells knows = record {
+    lines = lines;
+    connections = subst (λ xs. HaveEnded to_come faults feeds xs lines report.connections after.note) (sym fed) (subst (λ xs. HaveEnded to_come faults feeds back lines xs after.note) (sym connections) (have_ended after.note knows));
+    delivers = subst (Delivers config lines) (sym done) (delivers law ways);
+    reports = done ∙ reports_kept E.worker_ends ∙ ap (map (map report_of_pipeline)) (sym states);
+    processes = λ t p ends ends' state at at' here. processes law t p ends ends' state
+        (ap (at_pipeline t p) (sym was) ∙ at) (ap (at_pipeline t p) (sym inboxes) ∙ at') (ap (at_pipeline t p) (sym states) ∙ here);
+    counts = ap (map length) states ∙ pipelines_counted;
+    inbox_counts = ap (map length) inboxes ∙ inbox_counted;
+    cell = cells;
+  }

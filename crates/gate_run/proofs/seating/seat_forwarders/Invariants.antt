@@ -1,0 +1,12 @@
+use Rattle.std.specs.Prelude.{◌≡◌, drop, length, vec_items}
+use Rattle.std.specs.Vec.Iter.{into_iter_items}
+use Rattle.gate_run.specs.Lists.{EachAt}
+use Rattle.gate_run.specs.Seatings.{IsForwarderOf}
+use Rattle.gate_run.proofs.seating.seat_forwarders.Given as goal
+
+abbrev pub invariant-loop-number : goal.invariant-loop-number
+invariant-loop-number l =
+    (length (vec_items l.forwarders) ≡ l.number)
+    × (into_iter_items l.heads ≡ drop l.number l.fn.heads.items)
+    × (into_iter_items l.tails ≡ drop l.number l.fn.tails.items)
+    × EachAt (IsForwarderOf l.config l.sources l.targets) (vec_items l.forwarders)

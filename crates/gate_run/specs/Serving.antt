@@ -1,0 +1,64 @@
+-- What is promised of the running threads once they have returned.
+use Rattle.std.specs.Prelude.{◌≡◌, ℕ, List, [], true, Some, length, map, slice_get, unwrap_or}
+use Rattle.gate_record.specs.declared.record.Record.{Record}
+use Rattle.gate_record.specs.Prefixes.{IsPrefixOf}
+use Rattle.gate_config.specs.declared.config.Config.{Config}
+use Rattle.gate_pipeline.specs.Histories.{AreProcessed, History}
+use Rattle.gate_pipeline.specs.States.{State}
+use Rattle.gate_core.specs.declared.report.ConnectionReport.{ConnectionReport}
+use Rattle.gate_core.specs.declared.report.PipelineReport.{PipelineReport}
+use Rattle.gate_core.specs.declared.report.RunReport.{RunReport}
+use Rattle.gate_core.specs.History.{numbers_from, wanted}
+use Rattle.gate_source.specs.Stops.{Note}
+use Rattle.gate_run.specs.Feeds.{AreFirst, Told}
+use Rattle.gate_run.specs.Gatherings.{report_of_pipeline}
+use Rattle.gate_run.specs.Ports.{InboxEnds, InboxView, at_pipeline, pipeline_counts}
+use Rattle.gate_run.specs.Readers.{Means}
+use Rattle.gate_run.specs.Workers.{TookMore}
+
+-- the records of connection c
+abbrev pub lines_of : ℕ → List (List Record) → List Record
+lines_of c lines = unwrap_or (slice_get lines c) []
+
+-- These records of a connection were accepted, and its report says how many there are and why there are no more. They are the
+-- first of those that its feed had still to tell; before and after, by what it tells and by how many faults it has answered.
+pub record HasEnded (before after : Told) (faults faults' : ℕ) (lines : List Record) (report : ConnectionReport) (note : Note) : Type 0 where
+  pub first : AreFirst lines before
+  pub accepted : report.accepted ≡ length lines
+  pub means : Means report.cause before after lines faults faults' note
+
+-- The feeds came back in order, one for each connection, and so each connection has ended.
+pub record HaveEnded {F : Type 0} (to_come : F → Told) (faults : F → ℕ) (feeds feeds' : List F) (lines : List (List Record)) (reports : List ConnectionReport) (note : Note) : Type 0 where
+  pub feeds_back : length feeds' ≡ length feeds
+  pub all_lines : length lines ≡ length feeds
+  pub all_reports : length reports ≡ length feeds
+  pub each : (c : ℕ) (feed feed' : F) (own : List Record) (report : ConnectionReport) → slice_get feeds c ≡ Some feed → slice_get feeds' c ≡ Some feed' → slice_get lines c ≡ Some own → slice_get reports c ≡ Some report →
+      HasEnded (to_come feed) (to_come feed') (faults feed) (faults feed') own report note
+
+-- What each pipeline has processed of the accepted records is, connection by connection, a prefix of what is wanted of them, and all
+-- of it where the pipeline is finished.
+pub record Delivers (config : Config) (lines : List (List Record)) (pipelines : List (List PipelineReport)) : Type 0 where
+  pub in_order : (t p c : ℕ) (pipeline : PipelineReport) → at_pipeline t p pipelines ≡ Some pipeline → IsPrefixOf (numbers_from c pipeline.done) (wanted config t p c (lines_of c lines))
+  pub whole : (t p c : ℕ) (pipeline : PipelineReport) → at_pipeline t p pipelines ≡ Some pipeline → pipeline.finished ≡ true → numbers_from c pipeline.done ≡ wanted config t p c (lines_of c lines)
+
+-- A pipeline has processed what its worker took, of management events and results just what the inbox's seats took meanwhile.
+pub record HasProcessed (config : Config) (t p : ℕ) (before after : InboxEnds) (state : State) : Type 0 where
+  pub past : History
+  pub now : past.state ≡ state
+  pub processed : AreProcessed config t p past
+  pub management : TookMore before.management past.management after.management
+  pub results : TookMore before.results past.results after.results
+
+-- All that is promised of a run that has returned: of the feeds and the inbox, before and after, of its report, and of the pipelines
+-- that come back.
+pub record Serves {F : Type 0} (config : Config) (to_come : F → Told) (faults : F → ℕ) (feeds feeds' : List F) (inbox inbox' : InboxView) (report : RunReport) (pipelines : List (List State)) : Type 0 where
+  -- the records that each connection accepted
+  pub lines : List (List Record)
+  pub connections : HaveEnded to_come faults feeds feeds' lines report.connections inbox'.note
+  pub delivers : Delivers config lines report.pipelines
+  pub reports : report.pipelines ≡ map (map report_of_pipeline) pipelines
+  pub processes : (t p : ℕ) (ends ends' : InboxEnds) (state : State) → at_pipeline t p inbox.pipelines ≡ Some ends → at_pipeline t p inbox'.pipelines ≡ Some ends' → at_pipeline t p pipelines ≡ Some state → HasProcessed config t p ends ends' state
+  -- a pipeline for each of the configuration
+  pub counts : map length pipelines ≡ pipeline_counts config
+  pub inbox_counts : map length inbox'.pipelines ≡ pipeline_counts config
+  pub cell : inbox'.note.cell ≡ inbox.note.cell

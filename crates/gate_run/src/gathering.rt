@@ -1,0 +1,189 @@
+//! What threads handed back, by what becomes of it.
+ghost use Rattle.std.specs.Prelude.{◌≡◌, IfOk, map};
+ghost use Rattle.gate_source.specs.Stops.{IsNoteOf};
+ghost use Rattle.gate_run.specs.Gatherings.{knows_as_much, report_of_reader, inbox_back, report_of_pipeline};
+ghost use Rattle.gate_run.specs.Lists.{Each};
+ghost use Rattle.gate_run.specs.PipelineEnds.{inbox_of};
+
+use crate::posts::PipelineInbox;
+use crate::putting::PassedOn;
+use crate::reader::ReaderEnd;
+use crate::worker::WorkerEnd;
+use gate_core::{ConnectionReport, PipelineReport};
+use gate_pipeline::Pipeline;
+use gate_queue::{Head, Tail};
+use gate_record::{ConnEntry, Memory, PipelineItem, Sequence, TenantItem};
+use gate_source::{StopCell, StopNote};
+use std::alloc::Global;
+
+/// What the threads of a run handed back.
+#[derive(Drop)]
+pub(crate) struct Ends<F> {
+    /// By connection number.
+    pub(crate) readers: Vec<ReaderEnd<F>>,
+    pub(crate) forwarders: Vec<PassedOn<ConnEntry, TenantItem>>,
+    /// By tenant number.
+    pub(crate) dispatchers: Vec<PassedOn<TenantItem, PipelineItem>>,
+    /// By tenant number and pipeline number.
+    pub(crate) workers: Vec<Vec<WorkerEnd>>,
+}
+
+/// What readers handed back, by connection number; and a note of their cell that knows a cause to stop if one of theirs does.
+#[derive(Drop)]
+pub(crate) struct Readings<F> {
+    pub(crate) feeds: Vec<F>,
+    pub(crate) tails: Vec<Tail<ConnEntry>>,
+    pub(crate) connections: Sequence<ConnectionReport>,
+    pub(crate) note: StopNote,
+}
+
+/// Gathers what readers handed back. A note that knows a cause takes the place of the one that is given.
+pub(crate) fn gather_readers<F: Drop>(
+    alloc: Global,
+    cell: &StopCell,
+    ends: Vec<ReaderEnd<F>>,
+    note: StopNote,
+) -> Result<Readings<F>, Memory>
+    requires note { IsNoteOf cell.now note }
+    requires notes { Each (λ end. IsNoteOf cell.now end.note) ends.items }
+    ensures feeds { IfOk result (λ back. back.feeds.items ≡ map (λ end. end.feed) ends.items) }
+    ensures tails { IfOk result (λ back. back.tails.items ≡ map (λ end. end.tail) ends.items) }
+    ensures connections { IfOk result (λ back. back.connections ≡ map report_of_reader ends.items) }
+    ensures note { IfOk result (λ back. IsNoteOf cell.now back.note) }
+    ensures knows { IfOk result (λ back. Each (λ end. knows_as_much end.note back.note) ends.items) }
+{
+    let mut feeds = Vec::new(alloc);
+    let mut tails = Vec::new(alloc);
+    let mut connections = Sequence::empty(alloc);
+    let mut note = note;
+    for end in ends {
+        let ReaderEnd {
+            feed,
+            tail,
+            note: mut own,
+            count,
+            cause,
+        } = end;
+        feeds.push(feed)?;
+        tails.push(tail)?;
+        connections.push(ConnectionReport {
+            accepted: count,
+            cause,
+        })?;
+        if cell.seen(&mut own).is_some() {
+            note = own;
+        }
+    }
+    Ok(Readings {
+        feeds,
+        tails,
+        connections,
+        note,
+    })
+}
+
+/// Gathers the seats of threads that took from one queue and put into several.
+pub(crate) fn gather_seats<A: Drop, B: Drop>(
+    alloc: Global,
+    ends: Vec<PassedOn<A, B>>,
+) -> Result<(Vec<Head<A>>, Vec<Vec<Tail<B>>>), Memory>
+    ensures heads { IfOk result (λ seats. seats.0.items ≡ map (λ end. end.head) ends.items) }
+    ensures tails { IfOk result (λ seats. map (λ row. row.items) seats.1.items ≡ map (λ end. end.tails.items) ends.items) }
+{
+    let mut heads = Vec::new(alloc);
+    let mut tails = Vec::new(alloc);
+    for end in ends {
+        heads.push(end.head)?;
+        tails.push(end.tails)?;
+    }
+    Ok((heads, tails))
+}
+
+/// What the pipelines' workers handed back, by tenant number and pipeline number.
+#[derive(Drop)]
+pub(crate) struct Workings {
+    pub(crate) heads: Vec<Vec<Head<PipelineItem>>>,
+    pub(crate) pipelines: Vec<Vec<Pipeline>>,
+    pub(crate) inbox: Vec<Vec<PipelineInbox>>,
+    pub(crate) reports: Sequence<Sequence<PipelineReport>>,
+}
+
+/// Gathers what the pipelines' workers handed back.
+pub(crate) fn gather_workers(alloc: Global, lists: Vec<Vec<WorkerEnd>>) -> Result<Workings, Memory>
+    ensures heads { IfOk result (λ back. map (λ row. row.items) back.heads.items ≡ map (λ ends. map (λ end. end.head) ends.items) lists.items) }
+    ensures pipelines { IfOk result (λ back. map (λ row. row.items) back.pipelines.items ≡ map (λ ends. map (λ end. end.state) ends.items) lists.items) }
+    ensures inbox { IfOk result (λ back. map (λ row. map inbox_of row.items) back.inbox.items ≡ map (λ ends. map inbox_back ends.items) lists.items) }
+    ensures reports { IfOk result (λ back. back.reports ≡ map (λ ends. map (λ end. report_of_pipeline end.state) ends.items) lists.items) }
+{
+    let mut heads = Vec::new(alloc);
+    let mut pipelines = Vec::new(alloc);
+    let mut inbox = Vec::new(alloc);
+    let mut reports = Sequence::empty(alloc);
+    for ends in lists {
+        let TenantWorkings {
+            heads: own_heads,
+            pipelines: own_pipelines,
+            inbox: own_inbox,
+            reports: own_reports,
+        } = gather_tenant(alloc, ends)?;
+        heads.push(own_heads)?;
+        pipelines.push(own_pipelines)?;
+        inbox.push(own_inbox)?;
+        reports.push(own_reports)?;
+    }
+    Ok(Workings {
+        heads,
+        pipelines,
+        inbox,
+        reports,
+    })
+}
+
+// The same of one tenant, by pipeline number.
+#[derive(Drop)]
+struct TenantWorkings {
+    heads: Vec<Head<PipelineItem>>,
+    pipelines: Vec<Pipeline>,
+    inbox: Vec<PipelineInbox>,
+    reports: Sequence<PipelineReport>,
+}
+
+// Gathers what the workers of a tenant's pipelines handed back.
+fn gather_tenant(alloc: Global, ends: Vec<WorkerEnd>) -> Result<TenantWorkings, Memory>
+    ensures heads { IfOk result (λ back. back.heads.items ≡ map (λ end. end.head) ends.items) }
+    ensures pipelines { IfOk result (λ back. back.pipelines.items ≡ map (λ end. end.state) ends.items) }
+    ensures inbox { IfOk result (λ back. map inbox_of back.inbox.items ≡ map inbox_back ends.items) }
+    ensures reports { IfOk result (λ back. back.reports ≡ map (λ end. report_of_pipeline end.state) ends.items) }
+{
+    let mut heads = Vec::new(alloc);
+    let mut pipelines = Vec::new(alloc);
+    let mut inbox = Vec::new(alloc);
+    let mut reports = Sequence::empty(alloc);
+    for end in ends {
+        let WorkerEnd {
+            state,
+            head,
+            management,
+            results,
+            parker,
+        } = end;
+        let done = state.done().to_vec(alloc)?;
+        reports.push(PipelineReport {
+            done: Sequence::new(done),
+            finished: state.finished(),
+        })?;
+        heads.push(head)?;
+        pipelines.push(state)?;
+        inbox.push(PipelineInbox {
+            management,
+            results,
+            parker,
+        })?;
+    }
+    Ok(TenantWorkings {
+        heads,
+        pipelines,
+        inbox,
+        reports,
+    })
+}

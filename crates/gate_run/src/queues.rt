@@ -1,0 +1,105 @@
+//! The queues of a run, from connections to pipelines.
+ghost use Rattle.std.specs.Prelude.{◌≡◌, ◌<◌, ◌∷◌, [], IfOk, length, map};
+ghost use Rattle.gate_config.specs.Lookups.{connections_of, tenants_of};
+ghost use Rattle.gate_run.specs.Ports.{pipeline_counts};
+ghost use Rattle.gate_run.specs.Seats.{fresh_head, fresh_tail};
+ghost use Rattle.gate_run.specs.Stages.{IsOpenStage};
+
+use crate::stage::{Stage, open_stage};
+use gate_config::Config;
+use gate_queue::{EventQueue, Head, Tail};
+use gate_record::{ConnEntry, Memory, PipelineItem, TenantId, TenantItem};
+use std::alloc::Global;
+
+/// Stages with one sender each, and all their seats, by stage and queue.
+#[derive(Drop)]
+pub(crate) struct Lanes<T> {
+    pub(crate) queues: Vec<Vec<EventQueue<T>>>,
+    pub(crate) heads: Vec<Vec<Head<T>>>,
+    pub(crate) tails: Vec<Vec<Tail<T>>>,
+}
+
+/// A queue of one sender for each connection: all queues, then their takers' seats and their senders'.
+pub(crate) fn open_records(
+    alloc: Global,
+    places: usize,
+    config: &Config,
+) -> Result<
+    (
+        Vec<EventQueue<ConnEntry>>,
+        Vec<Head<ConnEntry>>,
+        Vec<Tail<ConnEntry>>,
+    ),
+    Memory,
+>
+    requires places { 0 < places }
+    ensures { IfOk result (λ opened. IsOpenStage (length (connections_of config.now)) 1 opened.0.items opened.1.items (opened.2.items ∷ [])) }
+{
+    open_lane(alloc, places, config.connections().len())
+}
+
+/// A queue for each tenant, into which each connection's forwarder puts.
+pub(crate) fn open_items(
+    alloc: Global,
+    places: usize,
+    config: &Config,
+) -> Result<Stage<TenantItem>, Memory>
+    requires places { 0 < places }
+    ensures { IfOk result (λ stage. IsOpenStage (length (tenants_of config.now)) (length (connections_of config.now)) stage.queues.items stage.heads.items (map (λ row. row.items) stage.tails.items)) }
+{
+    open_stage(
+        alloc,
+        places,
+        config.tenants().len(),
+        config.connections().len(),
+    )
+}
+
+/// A trigger queue of one sender for each pipeline, by tenant.
+pub(crate) fn open_triggers(
+    alloc: Global,
+    places: usize,
+    config: &Config,
+) -> Result<Lanes<PipelineItem>, Memory>
+    requires places { 0 < places }
+    ensures counts { IfOk result (λ lanes. map (λ queues. length queues.items) lanes.queues.items ≡ pipeline_counts config.now) }
+    ensures senders { IfOk result (λ lanes. map (λ queues. map (λ queue. queue.name.senders) queues.items) lanes.queues.items ≡ map (λ queues. map (λ queue. 1) queues.items) lanes.queues.items) }
+    ensures heads { IfOk result (λ lanes. map (λ row. row.items) lanes.heads.items ≡ map (λ queues. map fresh_head queues.items) lanes.queues.items) }
+    ensures tails { IfOk result (λ lanes. map (λ row. row.items) lanes.tails.items ≡ map (λ queues. map (fresh_tail 0) queues.items) lanes.queues.items) }
+{
+    let mut queues = Vec::new(alloc);
+    let mut heads = Vec::new(alloc);
+    let mut tails = Vec::new(alloc);
+    for number in 0..config.tenants().len() {
+        let count = config.pipelines(TenantId(number as u32)).len();
+        let (lane, own_heads, own_tails) = open_lane(alloc, places, count)?;
+        queues.push(lane)?;
+        heads.push(own_heads)?;
+        tails.push(own_tails)?;
+    }
+    Ok(Lanes {
+        queues,
+        heads,
+        tails,
+    })
+}
+
+// So many queues of one sender: all queues, then their takers' seats and their senders'.
+fn open_lane<T: Drop>(
+    alloc: Global,
+    places: usize,
+    count: usize,
+) -> Result<(Vec<EventQueue<T>>, Vec<Head<T>>, Vec<Tail<T>>), Memory>
+    requires places { 0 < places }
+    ensures { IfOk result (λ opened. IsOpenStage count 1 opened.0.items opened.1.items (opened.2.items ∷ [])) }
+{
+    let Stage {
+        queues,
+        heads,
+        mut tails,
+    } = open_stage(alloc, places, count, 1)?;
+    let Some(own) = tails.pop() else {
+        unreachable!()
+    };
+    Ok((queues, heads, own))
+}

@@ -1,0 +1,219 @@
+//! The threads of a run before they begin, each with its seats, and what wakes them.
+ghost use Rattle.std.specs.Prelude.{◌≡◌, ◌-◌, ◌<◌, ◌^◌, All, IfOk, length, map};
+ghost use Rattle.std.specs.List.{range_with_len};
+ghost use Rattle.gate_config.specs.Lookups.{connections_of, pipelines_of, tenants_of};
+ghost use Rattle.gate_run.specs.Lists.{EachAt};
+ghost use Rattle.gate_run.specs.PipelineEnds.{inbox_of};
+ghost use Rattle.gate_run.specs.Ports.{pipeline_counts};
+ghost use Rattle.gate_run.specs.Seatings.{AreWorkersOf, IsDispatcherOf, IsForwarderOf, IsReaderOf, IsWorkerOf};
+ghost use Rattle.gate_run.specs.Seats.{fresh_head, fresh_tail};
+
+use crate::dispatcher::Dispatcher;
+use crate::feed::RecordFeed;
+use crate::forwarder::Forwarder;
+use crate::lists::next_of;
+use crate::posts::PipelineInbox;
+use crate::reader::Reader;
+use crate::worker::Worker;
+use crossbeam_utils::sync::{Parker, Unparker};
+use gate_config::Config;
+use gate_pipeline::Pipeline;
+use gate_queue::{EventQueue, Head, Tail};
+use gate_record::{ConnEntry, ConnId, Memory, PipelineId, PipelineItem, TenantId, TenantItem};
+use gate_source::StopCell;
+use gate_tenant::Dispatch;
+use std::alloc::Global;
+
+/// A reader for each connection.
+pub(crate) fn seat_readers<'a, F: RecordFeed + Drop>(
+    alloc: Global,
+    config: &Config,
+    feeds: Vec<F>,
+    queues: &'a [EventQueue<ConnEntry>],
+    tails: Vec<Tail<ConnEntry>>,
+    cell: &'a StopCell,
+) -> Result<(Vec<Reader<'a, F>>, Vec<Unparker>), Memory>
+    requires feeds { length feeds.items ≡ length (connections_of config.now) }
+    requires few { All (λ feed. F.fault_count feed < 2 ^ 64 - 1) feeds.items }
+    requires queues { length queues.now ≡ length (connections_of config.now) }
+    requires tails { tails.items ≡ map (fresh_tail 0) queues.now }
+    ensures count { IfOk result (λ made. length made.0.items ≡ length (connections_of config.now)) }
+    ensures readers { IfOk result (λ made. EachAt (IsReaderOf F.fault_count feeds.items queues.entry.now cell.entry.now) made.0.items) }
+{
+    let mut feeds = feeds.into_iter();
+    let mut tails = tails.into_iter();
+    let mut readers = Vec::new(alloc);
+    let mut wakers = Vec::new(alloc);
+    for number in 0..config.connections().len() {
+        let parker = Parker::new(alloc)?;
+        wakers.push(parker.unparker().clone()?)?;
+        readers.push(Reader {
+            conn: ConnId(number as u32),
+            feed: next_of(&mut feeds),
+            queue: &queues[number],
+            tail: next_of(&mut tails),
+            cell,
+            note: cell.note(),
+            parker,
+        })?;
+    }
+    Ok((readers, wakers))
+}
+
+/// A forwarder for each connection.
+pub(crate) fn seat_forwarders<'a>(
+    alloc: Global,
+    config: &'a Config,
+    sources: &'a [EventQueue<ConnEntry>],
+    heads: Vec<Head<ConnEntry>>,
+    targets: &'a [EventQueue<TenantItem>],
+    tails: Vec<Vec<Tail<TenantItem>>>,
+) -> Result<(Vec<Forwarder<'a>>, Vec<Unparker>), Memory>
+    requires sources { length sources.now ≡ length (connections_of config.now) }
+    requires heads { heads.items ≡ map fresh_head sources.now }
+    requires targets { length targets.now ≡ length (tenants_of config.now) }
+    requires tails { map (λ row. row.items) tails.items ≡ map (λ c. map (fresh_tail c) targets.now) (range_with_len 0 (length (connections_of config.now))) }
+    ensures count { IfOk result (λ made. length made.0.items ≡ length (connections_of config.entry.now)) }
+    ensures forwarders { IfOk result (λ made. EachAt (IsForwarderOf config.entry.now sources.entry.now targets.entry.now) made.0.items) }
+{
+    let mut heads = heads.into_iter();
+    let mut tails = tails.into_iter();
+    let mut forwarders = Vec::new(alloc);
+    let mut wakers = Vec::new(alloc);
+    for number in 0..config.connections().len() {
+        let parker = Parker::new(alloc)?;
+        wakers.push(parker.unparker().clone()?)?;
+        forwarders.push(Forwarder {
+            alloc,
+            config,
+            conn: ConnId(number as u32),
+            source: &sources[number],
+            head: next_of(&mut heads),
+            targets,
+            tails: next_of(&mut tails),
+            parker,
+        })?;
+    }
+    Ok((forwarders, wakers))
+}
+
+/// A worker for each tenant.
+pub(crate) fn seat_dispatchers<'a>(
+    alloc: Global,
+    config: &'a Config,
+    sources: &'a [EventQueue<TenantItem>],
+    heads: Vec<Head<TenantItem>>,
+    targets: &'a [Vec<EventQueue<PipelineItem>>],
+    tails: Vec<Vec<Tail<PipelineItem>>>,
+) -> Result<(Vec<Dispatcher<'a>>, Vec<Unparker>), Memory>
+    requires sources { length sources.now ≡ length (tenants_of config.now) }
+    requires heads { heads.items ≡ map fresh_head sources.now }
+    requires targets { map (λ queues. length queues.items) targets.now ≡ pipeline_counts config.now }
+    requires tails { map (λ row. row.items) tails.items ≡ map (λ queues. map (fresh_tail 0) queues.items) targets.now }
+    ensures count { IfOk result (λ made. length made.0.items ≡ length (tenants_of config.entry.now)) }
+    ensures dispatchers { IfOk result (λ made. EachAt (IsDispatcherOf config.entry.now sources.entry.now (map (λ queues. queues.items) targets.entry.now)) made.0.items) }
+{
+    let mut heads = heads.into_iter();
+    let mut tails = tails.into_iter();
+    let mut dispatchers = Vec::new(alloc);
+    let mut wakers = Vec::new(alloc);
+    for number in 0..config.tenants().len() {
+        let tenant = TenantId(number as u32);
+        let parker = Parker::new(alloc)?;
+        wakers.push(parker.unparker().clone()?)?;
+        dispatchers.push(Dispatcher {
+            alloc,
+            tenant,
+            dispatch: Dispatch::new(alloc, config, tenant)?,
+            source: &sources[number],
+            head: next_of(&mut heads),
+            targets: targets[number].as_slice(),
+            tails: next_of(&mut tails),
+            parker,
+        })?;
+    }
+    Ok((dispatchers, wakers))
+}
+
+/// A worker for each pipeline, by tenant.
+pub(crate) fn seat_workers<'a, G>(
+    alloc: Global,
+    config: &'a Config,
+    sources: &'a [Vec<EventQueue<PipelineItem>>],
+    heads: Vec<Vec<Head<PipelineItem>>>,
+    inbox: Vec<Vec<PipelineInbox>>,
+    gate: &'a G,
+) -> Result<(Vec<Vec<Worker<'a, G>>>, Vec<Vec<Unparker>>), Memory>
+    requires sources { map (λ queues. length queues.items) sources.now ≡ pipeline_counts config.now }
+    requires heads { map (λ row. row.items) heads.items ≡ map (λ queues. map fresh_head queues.items) sources.now }
+    requires inbox { map (λ row. length row.items) inbox.items ≡ pipeline_counts config.now }
+    ensures count { IfOk result (λ made. length made.0.items ≡ length (tenants_of config.entry.now)) }
+    ensures workers { IfOk result (λ made. EachAt (AreWorkersOf config.entry.now (map (λ queues. queues.items) sources.entry.now) (map (λ row. map inbox_of row.items) inbox.items)) (map (λ row. row.items) made.0.items)) }
+{
+    let mut heads = heads.into_iter();
+    let mut inbox = inbox.into_iter();
+    let mut workers = Vec::new(alloc);
+    let mut wakers = Vec::new(alloc);
+    for number in 0..config.tenants().len() {
+        let tenant = TenantId(number as u32);
+        let own_heads = next_of(&mut heads);
+        let own_inbox = next_of(&mut inbox);
+        let (own, woken) = seat_pipelines(
+            alloc,
+            config,
+            tenant,
+            sources[number].as_slice(),
+            own_heads,
+            own_inbox,
+            gate,
+        )?;
+        workers.push(own)?;
+        wakers.push(woken)?;
+    }
+    Ok((workers, wakers))
+}
+
+// A worker for each pipeline of a tenant.
+fn seat_pipelines<'a, G>(
+    alloc: Global,
+    config: &'a Config,
+    tenant: TenantId,
+    sources: &'a [EventQueue<PipelineItem>],
+    heads: Vec<Head<PipelineItem>>,
+    inbox: Vec<PipelineInbox>,
+    gate: &'a G,
+) -> Result<(Vec<Worker<'a, G>>, Vec<Unparker>), Memory>
+    requires sources { length sources.now ≡ length (pipelines_of config.now tenant.0) }
+    requires heads { heads.items ≡ map fresh_head sources.now }
+    requires inbox { length inbox.items ≡ length (pipelines_of config.now tenant.0) }
+    ensures count { IfOk result (λ made. length made.0.items ≡ length (pipelines_of config.entry.now tenant.0)) }
+    ensures workers { IfOk result (λ made. EachAt (IsWorkerOf config.entry.now tenant.0 sources.entry.now (map inbox_of inbox.items)) made.0.items) }
+{
+    let mut heads = heads.into_iter();
+    let mut inbox = inbox.into_iter();
+    let mut workers = Vec::new(alloc);
+    let mut wakers = Vec::new(alloc);
+    for number in 0..config.pipelines(tenant).len() {
+        let pipeline = PipelineId(number as u32);
+        let place = next_of(&mut inbox);
+        let PipelineInbox {
+            management,
+            results,
+            parker,
+        } = place;
+        wakers.push(parker.unparker().clone()?)?;
+        workers.push(Worker {
+            config,
+            tenant,
+            pipeline,
+            state: Pipeline::new(alloc, config, tenant, pipeline),
+            source: &sources[number],
+            head: next_of(&mut heads),
+            management,
+            results,
+            parker,
+            gate,
+        })?;
+    }
+    Ok((workers, wakers))
+}
