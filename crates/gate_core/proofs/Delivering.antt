@@ -29,6 +29,7 @@ use Rattle.gate_pipeline.specs.Histories.{is_end}
 use Rattle.gate_core.specs.Ways.{EachWayDelivers, Way, mark, number_of_item}
 use Rattle.gate_core.proofs.Arrivals.{brought, by_items, wanted_arrive}
 use Rattle.gate_core.proofs.Maps.{filter_map_none}
+use Rattle.gate_core.proofs.Readings.{genuine}
 
 -- ---- an end mark that was taken is the last of all
 
@@ -260,4 +261,5 @@ pub each_way_delivers : EachWayDelivers
 each_way_delivers = record {
   in_order = λ config t p c records closed taken way. prefix config t p c records closed taken way;
   whole = λ config t p c records closed taken inside way fin. whole config t p c records closed taken way fin inside;
+  genuine = λ config t p c records closed taken way. genuine config t p c records closed taken way;
 }

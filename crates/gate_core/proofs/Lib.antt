@@ -17,6 +17,7 @@ pub mod Makings
 pub mod Maps
 pub mod Outcomes
 pub mod Processing
+pub mod Readings
 pub mod Pushes
 pub mod Refusals
 pub mod Reported

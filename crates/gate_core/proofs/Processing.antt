@@ -28,7 +28,8 @@ use Rattle.gate_core.specs.Promises.{Keeps, Processes, no_items}
 use Rattle.gate_core.specs.States.{State, TenantState, items_at}
 use Rattle.gate_tenant.specs.Dispatching.{is_from}
 use Rattle.gate_core.proofs.Fits.{after_push, waiting_ended, waiting_items, waiting_managed}
-use Rattle.gate_core.proofs.Genuine.{AllOf, IsAsked, ItemIs, TriggerIs, all_at, all_from, all_front, asked_are, chosen_are, forwarded_are}
+use Rattle.gate_core.proofs.Genuine.{IsAsked, IsGenuine, asked_are, genuine_forwarded}
+use Rattle.gate_core.proofs.Readings.{AllOf, ItemIs, TriggerIs, all_at, all_from, all_front, chosen_are}
 use Rattle.gate_core.proofs.Delivering.{head_same, tail_same}
 use Rattle.gate_core.proofs.Outcomes.{all_chosen}
 use Rattle.gate_core.proofs.Streams.{Holds, PipeHolds, TenantHolds, pipe_of}
@@ -69,20 +70,20 @@ module _ (own : EachGetsItsOwn) (lossless : NothingIsLost) (config : Config) (h 
   abbrev worked : PipeHolds config h t p there.past.given pipe
   worked = there.pipes p pipe seat
 
-  all_taken : AllOf (ItemIs h) (there.past.taken ++ ten.queue)
+  all_taken : AllOf (ItemIs (IsGenuine h)) (there.past.taken ++ ten.queue)
   all_taken =
-      all_from (ItemIs h) (there.past.taken ++ ten.queue)
-      (λ c. all_front (ItemIs h) (filter (is_from c) (there.past.taken ++ ten.queue)) _ (subst (AllOf (ItemIs h)) (sym (there.ways c)) (forwarded_are config t h c)))
+      all_from (ItemIs (IsGenuine h)) (there.past.taken ++ ten.queue)
+      (λ c. all_front (ItemIs (IsGenuine h)) (filter (is_from c) (there.past.taken ++ ten.queue)) _ (subst (AllOf (ItemIs (IsGenuine h))) (sym (there.ways c)) (genuine_forwarded config t h c)))
 
-  all_matched : AllOf (ItemIs h) there.past.done
+  all_matched : AllOf (ItemIs (IsGenuine h)) there.past.done
   all_matched =
-      all_front (ItemIs h) there.past.done there.past.state.gathered
-      (subst (AllOf (ItemIs h)) (sym (lossless config t there.past there.happens)) (all_front (ItemIs h) there.past.taken ten.queue all_taken))
+      all_front (ItemIs (IsGenuine h)) there.past.done there.past.state.gathered
+      (subst (AllOf (ItemIs (IsGenuine h))) (sym (lossless config t there.past there.happens)) (all_front (ItemIs (IsGenuine h)) there.past.taken ten.queue all_taken))
 
-  all_triggers : AllOf (TriggerIs h) worked.taken
+  all_triggers : AllOf (TriggerIs (IsGenuine h)) worked.taken
   all_triggers =
-      all_front (TriggerIs h) worked.taken (waiting_items pipe ++ items_for p there.past.state.items)
-      (subst (AllOf (TriggerIs h)) (sym (all_chosen own lossless config h state holds t p 0 ten pipe at seat)) (chosen_are config t p h there.past.done all_matched))
+      all_front (TriggerIs (IsGenuine h)) worked.taken (waiting_items pipe ++ items_for p there.past.state.items)
+      (subst (AllOf (TriggerIs (IsGenuine h))) (sym (all_chosen own lossless config h state holds t p 0 ten pipe at seat)) (chosen_are (IsGenuine h) config t p there.past.done all_matched))
 
   pub asked_there : (i : ℕ) (stamp : Option Stamp) (a : Action) → slice_get (triggered t p h) i ≡ Some (stamp, a) → asked_by config t p h stamp ≡ Some a
   asked_there i stamp a e =

@@ -198,11 +198,15 @@ abbrev pub asked_of : Config → ℕ → ℕ → Stamp → Reading → Option Ac
 asked_of config t p stamp (reading.Event event) = Some (trigger_of config t p (record { stamp = stamp; event = event }))
 asked_of config t p stamp (reading.Nothing why) = None
 
--- the action that the accepted record of this stamp asks for, where there is a stamp
+-- the action that the record of this stamp asks for, where there is a stamp and its record is among those that its connection
+-- accepted
+abbrev pub asked_among : Config → ℕ → ℕ → (ℕ → List Record) → Option Stamp → Option Action
+asked_among config t p records None = None
+asked_among config t p records (Some stamp) =
+    option_and_then (λ (line : Record). asked_of config t p stamp (reading_of line)) (slice_get (records stamp.conn.0) stamp.number)
+
 abbrev pub asked_by : Config → ℕ → ℕ → History → Option Stamp → Option Action
-asked_by config t p history None = None
-asked_by config t p history (Some stamp) =
-    option_and_then (λ (line : Record). asked_of config t p stamp (reading_of line)) (slice_get (accepted stamp.conn.0 history) stamp.number)
+asked_by config t p history stamp = asked_among config t p (λ c. accepted c history) stamp
 
 -- the management events and the results among them
 abbrev pub managed : ℕ → ℕ → History → List Manage

@@ -1,7 +1,8 @@
 -- The way of a connection's records to a pipeline, as a whole: what is forwarded, then chosen, is what is wanted; and in its
 -- parts, wherever they are.
-use Rattle.std.specs.Prelude.{◌≡◌, ◌<◌, ℕ, List, [], ◌∷◌, ◌++◌, Bool, true, false, Option, None, length, take}
+use Rattle.std.specs.Prelude.{◌≡◌, ◌<◌, ℕ, List, [], ◌∷◌, ◌++◌, Bool, true, false, Option, Some, None, length, slice_get, take}
 use Rattle.std.specs.List.{filter, filter_map, list_any}
+use Rattle.gate_record.specs.declared.reading.Reading.TheVariants as reading
 use Rattle.gate_record.specs.declared.record.Record.{Record}
 use Rattle.gate_record.specs.Entries.{entries_of}
 use Rattle.gate_record.specs.declared.transit.ConnEntry.{ConnEntry}
@@ -9,6 +10,8 @@ use Rattle.gate_record.specs.declared.transit.ConnEntry.TheVariants as entry
 use Rattle.gate_record.specs.declared.transit.TenantItem.{TenantItem}
 use Rattle.gate_record.specs.declared.transit.PipelineItem.{PipelineItem}
 use Rattle.gate_record.specs.declared.transit.PipelineItem.TheVariants as item
+use Rattle.gate_record.specs.declared.transit.Stamped.{Stamped}
+use Rattle.gate_record.specs.Reading.{reading_of}
 use Rattle.gate_config.specs.declared.config.Config.{Config}
 use Rattle.gate_config.specs.Lookups.{connections_of}
 use Rattle.gate_forward.specs.Forwarding.{forwarded}
@@ -51,9 +54,18 @@ pub record Way (config : Config) (t p c : ℕ) (records : List Record) (closed :
   pub chooses : taken ++ untaken ≡ chosen config t p matched
   pub forwards : filter (is_from c) (matched ++ unmatched) ++ unsent ≡ forwarded config t c (entries_of records ++ mark closed)
 
--- On each way the numbers of what was taken are a prefix of those that are wanted, and all of them once the end mark was taken.
+-- among these records, the one with the number of this event's stamp reads as the event
+pub record IsReadFrom (records : List Record) (s : Stamped) : Type 0 where
+  pub line : Record
+  pub there : slice_get records s.stamp.number ≡ Some line
+  pub reads : reading_of line ≡ reading.Event s.event
+
+-- On each way the numbers of what was taken are a prefix of those that are wanted, and all of them once the end mark was taken;
+-- and each event of the connection that was taken is what the record with its number reads as.
 pub record EachWayDelivers : Type 0 where
   pub in_order : (config : Config) (t p c : ℕ) (records : List Record) (closed : Bool) (taken : List PipelineItem) → Way config t p c records closed taken →
       IsPrefixOf (filter_map (number_of_item c) taken) (wanted config t p c records)
   pub whole : (config : Config) (t p c : ℕ) (records : List Record) (closed : Bool) (taken : List PipelineItem) → c < length (connections_of config) → Way config t p c records closed taken →
       list_any is_end taken ≡ true → filter_map (number_of_item c) taken ≡ wanted config t p c records
+  pub genuine : (config : Config) (t p c : ℕ) (records : List Record) (closed : Bool) (taken : List PipelineItem) → Way config t p c records closed taken →
+      (i : ℕ) (s : Stamped) → slice_get taken i ≡ Some (item.Event s) → s.stamp.conn.0 ≡ c → IsReadFrom records s

@@ -5,7 +5,6 @@ use Rattle.gate_record.specs.declared.transit.PipelineItem.{PipelineItem}
 use Rattle.gate_record.specs.declared.transit.TenantItem.{TenantItem}
 use Rattle.gate_config.specs.declared.config.Config.{Config}
 use Rattle.gate_config.specs.Lookups.{connections_of, tenants_of}
-use Rattle.gate_tenant.specs.States.{config_of}
 use Rattle.gate_queue.specs.Seats.{Shape}
 use Rattle.gate_run.specs.declared.dispatcher.Dispatcher.{Dispatcher}
 use Rattle.gate_run.specs.declared.forwarder.Forwarder.{Forwarder}
@@ -14,27 +13,12 @@ use Rattle.gate_run.specs.declared.reader.Reader.{Reader}
 use Rattle.gate_run.specs.declared.reader.ReaderEnd.{ReaderEnd}
 use Rattle.gate_run.specs.declared.worker.Worker.{Worker}
 use Rattle.gate_run.specs.declared.worker.WorkerEnd.{WorkerEnd}
-use Rattle.gate_run.specs.Dispatchers.{HasDispatched}
-use Rattle.gate_run.specs.Feeds.{Told}
-use Rattle.gate_run.specs.Forwarders.{HasForwarded}
+use Rattle.gate_source.specs.Feeds.{Told}
 use Rattle.gate_run.specs.Lists.{EachAt, Pairwise}
 use Rattle.gate_run.specs.Ports.{InboxEnds}
-use Rattle.gate_run.specs.Readers.{HasRead}
 use Rattle.gate_run.specs.Seatings.{AreWorkersOf, IsDispatcherOf, IsForwarderOf, IsReaderOf}
 use Rattle.gate_run.specs.Stages.{AreLanesSettled, IsStageSettled}
-use Rattle.gate_run.specs.Workers.{HasWorked}
-
-abbrev pub Read : {F : Type 0} → (F → Told) → (F → ℕ) → Reader F → ReaderEnd F → Type 0
-Read to_come faults w end = HasRead (to_come w.feed) (to_come end.feed) (faults w.feed) (faults end.feed) w.tail end.tail end.count end.cause w.note end.note
-
-abbrev pub Forwarded : Forwarder → PassedOn ConnEntry TenantItem → Type 0
-Forwarded w end = HasForwarded w.config.now w.conn.0 w.source.now w.targets.now end.head end.tails.items
-
-abbrev pub Dispatched : Dispatcher → PassedOn TenantItem PipelineItem → Type 0
-Dispatched w end = HasDispatched (config_of w.dispatch) w.tenant.0 w.source.now w.targets.now end.head end.tails.items
-
-abbrev pub Worked : {G : Type 0} → Worker G → WorkerEnd → Type 0
-Worked w end = HasWorked w.config.now w.tenant.0 w.pipeline.0 w.head end.head w.management end.management w.results end.results end.state
+use Rattle.gate_run.specs.Works.{Dispatched, Forwarded, Read, Worked}
 
 pub record Evidence {F : Type 0} (G : Type 0) (config : Config) (to_come : F → Told) (faults : F → ℕ) (feeds : List F) (inbox : List (List InboxEnds)) (cell : ℕ) : Type 0 where
   pub records : List Shape

@@ -15,3 +15,5 @@ pub mod Evidence
 pub mod Found
 pub mod Promised
 pub mod Returning
+pub mod Sendings
+pub mod Whole

@@ -81,6 +81,13 @@ as_many R [] (y ∷ ys) all = absurd all
 as_many R (x ∷ xs) [] all = absurd all
 as_many R (x ∷ xs) (y ∷ ys) all = ap suc (as_many R xs ys all.1)
 
+-- in lists of lists
+pub as_long : {A B : Type 0} (R : A → B → Type 0) (xs : List (List A)) (ys : List (List B)) → Pairwise (Pairwise R) xs ys → map length xs ≡ map length ys
+as_long R [] [] all = refl
+as_long R [] (y ∷ ys) all = absurd all
+as_long R (x ∷ xs) [] all = absurd all
+as_long R (x ∷ xs) (y ∷ ys) all = (λ i. as_many R x y all.0 i ∷ as_long R xs ys all.1 i)
+
 -- ---- what is left of a list
 
 -- the next of what is left from a place on stands there

@@ -4,18 +4,23 @@ use Rattle.std.specs.Prelude.{option_and_then, slice_get, unwrap_or}
 use Rattle.std.specs.List.{cons_option, filter_map, range_with_len}
 use Rattle.std.proofs.lemmas.Bool.{ne_eqb}
 use Rattle.std.proofs.lemmas.Option.{get_or_from_slice_get, slice_get_past, slice_get_within}
+use Rattle.gate_record.specs.declared.ids.Stamp.{Stamp}
 use Rattle.gate_record.specs.declared.record.Record.{Record}
 use Rattle.gate_record.specs.declared.transit.ConnEntry.{ConnEntry}
 use Rattle.gate_record.specs.declared.transit.PipelineItem.{PipelineItem}
 use Rattle.gate_record.specs.declared.transit.PipelineItem.TheVariants as item
+use Rattle.gate_record.specs.declared.transit.Stamped.{Stamped}
 use Rattle.gate_record.specs.declared.transit.TenantItem.{TenantItem}
 use Rattle.gate_record.specs.Prefixes.{IsPrefixOf}
+use Rattle.gate_record.specs.Reading.{reading_of}
 use Rattle.gate_config.specs.declared.config.Config.{Config}
 use Rattle.gate_config.specs.Lookups.{connections_of, pipelines_of}
 use Rattle.gate_forward.specs.Forwarding.{forwarded}
 use Rattle.gate_tenant.specs.Dispatching.{chosen}
-use Rattle.gate_pipeline.specs.Histories.{AreProcessed, History, TakenIsProcessed, held_items, stamp_in}
+use Rattle.gate_items.specs.declared.action.Action.{Action}
+use Rattle.gate_pipeline.specs.Histories.{AreProcessed, History, TakenIsProcessed, asking, held_items, stamp_in, triggering}
 use Rattle.gate_pipeline.specs.States.{State}
+use Rattle.gate_pipeline.specs.Triggers.{trigger_of}
 use Rattle.gate_source.specs.Stops.{Note}
 use Rattle.gate_queue.specs.declared.tagged.Tagged.{Tagged}
 use Rattle.gate_queue.specs.Seats.{QueueName, SenderSeat, Shape, TakerSeat}
@@ -26,14 +31,14 @@ use Rattle.gate_core.specs.declared.report.EndCause.{EndCause}
 use Rattle.gate_core.specs.declared.report.EndCause.TheVariants as cause
 use Rattle.gate_core.specs.declared.report.PipelineReport.{PipelineReport}
 use Rattle.gate_core.specs.declared.report.RunReport.{RunReport}
-use Rattle.gate_core.specs.History.{number_from, numbers_from, wanted}
-use Rattle.gate_core.specs.Ways.{EachWayDelivers, Way, number_of_item}
+use Rattle.gate_core.specs.History.{asked_among, asked_of, number_from, numbers_from, wanted}
+use Rattle.gate_core.specs.Ways.{EachWayDelivers, IsReadFrom, Way, number_of_item}
 use Rattle.gate_run.specs.declared.putting.PassedOn.{PassedOn}
 use Rattle.gate_run.specs.declared.reader.ReaderEnd.{ReaderEnd}
 use Rattle.gate_run.specs.declared.worker.Worker.{Worker}
 use Rattle.gate_run.specs.declared.worker.WorkerEnd.{WorkerEnd}
-use Rattle.gate_run.specs.Feeds.{Told}
-use Rattle.gate_run.specs.Lists.{Each, EachAt, Pairwise}
+use Rattle.gate_source.specs.Feeds.{Told}
+use Rattle.gate_run.specs.Lists.{Each, EachAt}
 use Rattle.gate_run.specs.Ports.{InboxEnds, InboxView, at_pipeline, pipeline_counts}
 use Rattle.gate_run.specs.Readers.{Means, is_closed}
 use Rattle.gate_run.specs.Seats.{seat_in, seat_of, values}
@@ -41,13 +46,14 @@ use Rattle.gate_run.specs.Seatings.{AreWorkersOf, IsReaderOf}
 use Rattle.gate_run.specs.Gatherings.{inbox_back, knows_as_much, report_of_pipeline, report_of_reader}
 use Rattle.gate_run.specs.Serving.{Delivers, HasEnded, HasProcessed, HaveEnded, Serves, lines_of}
 use Rattle.gate_run.specs.Stages.{IsStageSettled}
+use Rattle.gate_run.specs.Works.{Read, Worked}
 use Rattle.gate_run.proofs.Composed.{OfSenders, of_senders, taken_own, way_of}
-use Rattle.gate_run.proofs.Evidence.{Evidence, Read, Worked}
+use Rattle.gate_run.proofs.Evidence.{Evidence}
 use Rattle.gate_run.proofs.Found.{ForwarderAt, LinesOf, There, WorkerAt, alike_here, all_lines, dispatcher_at, find_lines, forwarder_at, from, lines_count, row_of, seat_at, there, three_here, worker_at}
 use Rattle.gate_run.proofs.Paired.{map_length}
 use Rattle.gate_run.proofs.Seated.{map_map}
 use Rattle.gate_run.proofs.Seatings.{here_mapped}
-use Rattle.gate_run.proofs.Places.{as_many, at_here, each_here, the_same}
+use Rattle.gate_run.proofs.Places.{as_long, as_many, at_here, each_here, the_same}
 
 -- ---- lists of numbers
 
@@ -67,6 +73,18 @@ none_beyond n c (x ∷ xs) of high = ap (λ b. if b then x.value ∷ values_of c
 nothing_before : {X : Type 0} (xs : List X) → IsPrefixOf xs [] → xs ≡ []
 nothing_before [] is = refl
 nothing_before (x ∷ xs) (rest, e) = absurd (cc)
+
+-- what is asked for of events that are read from records is what those records ask for
+asked_in : (config : Config) (t p : ℕ) (records : ℕ → List Record) (front : List PipelineItem) → ((i : ℕ) (s : Stamped) → slice_get front i ≡ Some (item.Event s) → IsReadFrom (records s.stamp.conn.0) s) →
+    (i : ℕ) (stamp : Option Stamp) (a : Action) → slice_get (filter_map (asking config t p) front) i ≡ Some (stamp, a) → asked_among config t p records stamp ≡ Some a
+asked_in config t p records [] read i stamp a e = absurd (cc)
+asked_in config t p records (item.Event s ∷ front) read zero stamp a e =
+    let is = read 0 s refl in
+    let same : (Some s.stamp, trigger_of config t p s) ≡ (stamp, a) = the_same (Some s.stamp, trigger_of config t p s) (stamp, a) e in
+    subst (λ (one : Option Stamp × Action). asked_among config t p records one.0 ≡ Some one.1) same
+    (ap (λ (o : Option Record). option_and_then (λ (line : Record). asked_of config t p s.stamp (reading_of line)) o) is.there ∙ ap (asked_of config t p s.stamp) is.reads)
+asked_in config t p records (item.Event s ∷ front) read (suc i) stamp a e = asked_in config t p records front (λ k x at. read (suc k) x at) i stamp a e
+asked_in config t p records (item.End ∷ front) read i stamp a e = asked_in config t p records front (λ k x at. read (suc k) x at) i stamp a e
 
 module _ {F G : Type 0} {config : Config} {to_come : F → Told} {faults : F → ℕ} {feeds : List F} {inbox : List (List InboxEnds)} {cell : ℕ} (E : Evidence {F = F} G config to_come faults feeds inbox cell) where
   abbrev pub n : ℕ
@@ -369,20 +387,52 @@ module _ {F G : Type 0} {config : Config} {to_come : F → Told} {faults : F →
   abbrev pub inbox_kept : List (List InboxEnds)
   inbox_kept = map (λ (ends : List WorkerEnd). map inbox_back ends) E.worker_ends
 
-  pub processes : TakenIsProcessed → (t p : ℕ) (ends ends' : InboxEnds) (state : State) → at_pipeline t p inbox ≡ Some ends → at_pipeline t p inbox_kept ≡ Some ends' → at_pipeline t p kept ≡ Some state → HasProcessed config t p ends ends' state
-  processes law t p ends ends' state at at' here =
+  -- each event that was processed is what the record of its stamp reads as
+  read_by : (law : TakenIsProcessed) → EachWayDelivers → (t p c : ℕ) (d : PassedOn TenantItem PipelineItem) (list : List WorkerEnd) (w : WorkerEnd) → slice_get E.dispatcher_ends t ≡ Some d → (at_l : slice_get E.worker_ends t ≡ Some list) →
+      (at_w : slice_get list p ≡ Some w) (o : Option (ReaderEnd F)) → slice_get E.reader_ends c ≡ o → (i : ℕ) (s : Stamped) → slice_get (processed law t p list w at_l at_w).are.front i ≡ Some (item.Event s) → s.stamp.conn.0 ≡ c → IsReadFrom (lines_of c lines) s
+  read_by law ways t p c d list w at_d at_l at_w (Some r) at i s here same =
+      let front = (processed law t p list w at_l at_w).are.front in
+      let low = slice_get_within E.reader_ends c r at in
+      let way = way_there law t p c d list w r at_d at_l at_w at (omega (arith, low, end_count)) in
+      subst (λ ls. IsReadFrom ls s) (sym (lines_there c r at)) (ways.genuine config t p c _ _ front way i s here same)
+  read_by law ways t p c d list w at_d at_l at_w None at i s here same =
+      let front = (processed law t p list w at_l at_w).are.front in
+      let high = past_end E.reader_ends c at in
+      let way = way_beyond law t p c d list w at_d at_l at_w (omega (arith, high, end_count)) in
+      subst (λ ls. IsReadFrom ls s) (sym (lines_beyond c at)) (ways.genuine config t p c [] false front way i s here same)
+
+  -- so each trigger is what that record asks for
+  asked : (law : TakenIsProcessed) → EachWayDelivers → (t p : ℕ) (d : PassedOn TenantItem PipelineItem) (list : List WorkerEnd) (w : WorkerEnd) → slice_get E.dispatcher_ends t ≡ Some d → (at_l : slice_get E.worker_ends t ≡ Some list) →
+      (at_w : slice_get list p ≡ Some w) (i : ℕ) (stamp : Option Stamp) (a : Action) → slice_get (filter_map triggering (processed law t p list w at_l at_w).past.processed) i ≡ Some (stamp, a) → asked_among config t p (λ c. lines_of c lines) stamp ≡ Some a
+  asked law ways t p d list w at_d at_l at_w i stamp a here =
+      let done = processed law t p list w at_l at_w in
+      asked_in config t p (λ c. lines_of c lines) done.are.front
+      (λ k s at. read_by law ways t p s.stamp.conn.0 d list w at_d at_l at_w (slice_get E.reader_ends s.stamp.conn.0) refl k s at refl)
+      i stamp a (ap (λ (xs : List (Option Stamp × Action)). slice_get xs i) (sym done.are.asked_for) ∙ here)
+
+  pub processes : TakenIsProcessed → EachWayDelivers → (t p : ℕ) (ends ends' : InboxEnds) (state : State) → at_pipeline t p inbox ≡ Some ends → at_pipeline t p inbox_kept ≡ Some ends' → at_pipeline t p kept ≡ Some state → HasProcessed config t p lines ends ends' state
+  unfolding processed
+  processes law ways t p ends ends' state at at' here =
       let row = row_of kept t p state here in
       let list = from (λ (es : List WorkerEnd). map (λ (end : WorkerEnd). end.state) es) E.worker_ends t row.row row.row_here in
       let end = from (λ (e : WorkerEnd). e.state) list.one p state (ap (λ xs. slice_get xs p) list.is ∙ row.here) in
       let w = worker_at E t p list.one end.one list.here end.here in
+      let d = tenant_of_list t list.one list.here in
       let before : w.ends ≡ ends = the_same w.ends ends (sym w.ends_here ∙ at) in
       let after_here : at_pipeline t p inbox_kept ≡ Some (inbox_back end.one) =
       ap (option_and_then (λ (xs : List InboxEnds). slice_get xs p)) (here_mapped (λ (es : List WorkerEnd). map inbox_back es) E.worker_ends t list.one list.here) ∙ here_mapped inbox_back list.one p end.one end.here in
       let after : inbox_back end.one ≡ ends' = the_same (inbox_back end.one) ends' (sym after_here ∙ at') in
-      subst (λ x. HasProcessed config t p ends ends' x) end.is
-      (subst (λ x. HasProcessed config t p ends x end.one.state) after
-      (subst (λ x. HasProcessed config t p x (inbox_back end.one) end.one.state) before
-      (record { past = w.did.past; now = w.did.now; processed = law config t p w.did.past w.did.happens; management = w.did.management; results = w.did.results })))
+      subst (λ x. HasProcessed config t p lines ends ends' x) end.is
+      (subst (λ x. HasProcessed config t p lines ends x end.one.state) after
+      (subst (λ x. HasProcessed config t p lines x (inbox_back end.one) end.one.state) before
+      (record {
+        past = w.did.past;
+        now = w.did.now;
+        processed = law config t p w.did.past w.did.happens;
+        triggers = asked law ways t p d.one list.one end.one d.here list.here end.here;
+        management = w.did.management;
+        results = w.did.results;
+      })))
 
   -- ---- as many pipelines as there are
 
@@ -390,12 +440,6 @@ module _ {F G : Type 0} {config : Config} {to_come : F → Told} {faults : F →
     each_counted : (a : ℕ) (P : ℕ → List (Worker G) → Type 0) → ((k : ℕ) (ws : List (Worker G)) → P k ws → length ws ≡ count (a + k)) → (lists : List (List (Worker G))) → EachAt P lists → map length lists ≡ map count (range_with_len a (length lists))
     each_counted a P is [] all = refl
     each_counted a P is (ws ∷ lists) all = (λ i. (is 0 ws all.0 ∙ ap count (add-zero a)) i ∷ each_counted (a + 1) (λ k. P (suc k)) (λ k xs q. is (suc k) xs q ∙ ap count (omega arith)) lists all.1 i)
-
-  as_long : {A B : Type 0} (R : A → B → Type 0) (xs : List (List A)) (ys : List (List B)) → Pairwise (Pairwise R) xs ys → map length xs ≡ map length ys
-  as_long R [] [] all = refl
-  as_long R [] (y ∷ ys) all = absurd all
-  as_long R (x ∷ xs) [] all = absurd all
-  as_long R (x ∷ xs) (y ∷ ys) all = (λ i. as_many R x y all.0 i ∷ as_long R xs ys all.1 i)
 
   mapped_lengths : {A B : Type 0} (f : A → B) (xss : List (List A)) → map length (map (λ (xs : List A). map f xs) xss) ≡ map length xss
   mapped_lengths f [] = refl
@@ -427,9 +471,9 @@ module _ {F G : Type 0} {config : Config} {to_come : F → Told} {faults : F →
     connections = subst (λ xs. HaveEnded to_come faults feeds xs lines report.connections after.note) (sym fed) (subst (λ xs. HaveEnded to_come faults feeds back lines xs after.note) (sym connections) (have_ended after.note knows));
     delivers = subst (Delivers config lines) (sym done) (delivers law ways);
     reports = done ∙ reports_kept E.worker_ends ∙ ap (map (map report_of_pipeline)) (sym states);
-    processes = λ t p ends ends' state at at' here. processes law t p ends ends' state
+    processes = λ t p ends ends' state at at' here. processes law ways t p ends ends' state
         (ap (at_pipeline t p) (sym was) ∙ at) (ap (at_pipeline t p) (sym inboxes) ∙ at') (ap (at_pipeline t p) (sym states) ∙ here);
     counts = ap (map length) states ∙ pipelines_counted;
-    inbox_counts = ap (map length) inboxes ∙ inbox_counted;
+    inbox_for = ap (map length) inboxes ∙ inbox_counted;
     cell = cells;
   }

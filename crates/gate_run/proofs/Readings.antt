@@ -11,8 +11,8 @@ use Rattle.gate_source.specs.Stops.{Note}
 use Rattle.gate_core.specs.declared.report.EndCause.{EndCause}
 use Rattle.gate_core.specs.declared.report.EndCause.TheVariants.{Unclosed, Ended, Stopped, Failed, Memory}
 use Rattle.gate_core.specs.Ways.{mark}
-use Rattle.gate_run.specs.declared.feed.FeedStep.TheVariants as step
-use Rattle.gate_run.specs.Feeds.{AreAll, AreFirst, Leaves, Steps, Told}
+use Rattle.gate_source.specs.declared.feed.FeedStep.TheVariants as step
+use Rattle.gate_source.specs.Feeds.{AreAll, AreFirst, Leaves, Steps, Told}
 use Rattle.gate_run.specs.Readers.{Closes, CutsShort, HasRead, IsReading, Means, is_closed}
 use Rattle.gate_run.specs.Seats.{seat_of}
 
@@ -21,20 +21,20 @@ leaves_first None mid lines left = tt
 leaves_first (Some all) mid lines (rest, is, whole) = (rest, whole)
 
 leaves_more : (before mid after : Told) (lines : List Record) (line : Record) → Leaves before lines mid → Steps mid (step.Got line) after → Leaves before (lines ++ line ∷ []) after
-leaves_more None mid after lines line left steps = subst (λ m. Steps m (step.Got line) after) left steps
+leaves_more None mid after lines line left steps = tt
 leaves_more (Some all) mid after lines line (rest, is, whole) steps =
     let (more, first, left) = subst (λ m. Steps m (step.Got line) after) is steps in
     (more, left, append_assoc lines (line ∷ []) more ∙ ap (λ xs. lines ++ xs) (sym first) ∙ whole)
 
 leaves_same : (before mid after : Told) (lines : List Record) → Leaves before lines mid → Steps mid step.Pending after → Leaves before lines after
-leaves_same None mid after lines left steps = subst (λ m. Steps m step.Pending after) left steps
+leaves_same None mid after lines left steps = tt
 leaves_same (Some all) mid after lines (rest, is, whole) steps = (rest, subst (λ m. Steps m step.Pending after) is steps, whole)
 
-leaves_none : (before mid after : Told) (lines : List Record) → Leaves before lines mid → Steps mid step.Ended after → AreAll lines before × AreAll [] after
-leaves_none None mid after lines left steps = (tt, subst (AreAll []) (sym (subst (λ m. Steps m step.Ended after) left steps)) tt)
+leaves_none : (before mid after : Told) (lines : List Record) → Leaves before lines mid → Steps mid step.Ended after → AreAll lines before after
+leaves_none None mid after lines left steps = tt
 leaves_none (Some all) mid after lines (rest, is, whole) steps =
     let (none, left) = subst (λ m. Steps m step.Ended after) is steps in
-    (sym (append-nil lines) ∙ ap (λ xs. lines ++ xs) (sym none) ∙ whole, subst (AreAll []) (sym left) refl)
+    (sym (append-nil lines) ∙ ap (λ xs. lines ++ xs) (sym none) ∙ whole, left)
 
 pub reading_begins : (before : Told) (tail : SenderSeat ConnEntry) (source : State) → source.seat ≡ tail → source.count ≡ 0 → IsReading before before tail source
 reading_begins before tail source seat count = record {
@@ -44,7 +44,7 @@ reading_begins before tail source seat count = record {
 }
   where
     by : (told : Told) → Leaves told [] told
-    by None = refl
+    by None = tt
     by (Some all) = (all, refl, refl)
 
 -- one more record was accepted

@@ -1,10 +1,10 @@
 pub mod Dispatchers
-pub mod Feeds
 pub mod Forwarders
 pub mod Gatherings
 pub mod Lists
 pub mod PipelineEnds
 pub mod Ports
+pub mod Queues
 pub mod Readers
 pub mod Seatings
 pub mod Seats
@@ -13,3 +13,4 @@ pub mod Stages
 pub mod Steps
 pub mod Tables
 pub mod Workers
+pub mod Works

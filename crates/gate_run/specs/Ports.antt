@@ -75,9 +75,14 @@ pub record AreOpened (ends : PostEnds) (inbox : InboxEnds) : Type 0 where
 abbrev pub pipeline_counts : Config → List ℕ
 pipeline_counts config = map (λ t. length (pipelines_of config t)) (range_with_len 0 (length (tenants_of config)))
 
+-- an inbox with a place for each pipeline of a configuration
+abbrev pub IsInboxFor : Config → InboxView → Type 0
+IsInboxFor config inbox = map length inbox.pipelines ≡ pipeline_counts config
+
 -- The posts and the inbox of a configuration: both have one end each of the queues of each pipeline, and a note of one stop cell.
 pub record ArePosts (config : Config) (posts : PostsView) (inbox : InboxView) : Type 0 where
   pub tenants : map length posts.pipelines ≡ pipeline_counts config
+  pub inbox_for : IsInboxFor config inbox
   pub opened : Pairwise (Pairwise AreOpened) posts.pipelines inbox.pipelines
   pub cell : posts.note.cell ≡ inbox.note.cell
   pub knows_none : (posts.note.cause ≡ None) × (inbox.note.cause ≡ None)

@@ -10,7 +10,7 @@ use Rattle.gate_source.specs.Stops.{IsNoteOf, Note}
 use Rattle.gate_core.specs.declared.report.EndCause.{EndCause}
 use Rattle.gate_core.specs.declared.report.EndCause.TheVariants.{Unclosed, Ended, Stopped, Failed, Memory}
 use Rattle.gate_core.specs.Ways.{mark}
-use Rattle.gate_run.specs.Feeds.{AreAll, AreFirst, Leaves, Told}
+use Rattle.gate_source.specs.Feeds.{AreAll, AreFirst, Leaves, Told}
 use Rattle.gate_run.specs.Seats.{fresh_tail, seat_of}
 
 -- a reader can begin: nothing was put by its seat, its note is one of the cell's, and its feed has answered few faults
@@ -49,7 +49,7 @@ pub record IsReading (before after : Told) (tail : SenderSeat ConnEntry) (source
 -- What each cause of a reader's end says: where the feed ended, all of its records were accepted and none is to come; it answered
 -- a fault; a stop was asked for, and the note knows it.
 abbrev pub Means : EndCause → (before after : Told) → List Record → (faults faults' : ℕ) → Note → Type 0
-Means Ended before after lines faults faults' note = AreAll lines before × AreAll [] after
+Means Ended before after lines faults faults' note = AreAll lines before after
 Means Failed before after lines faults faults' note = faults < faults'
 Means Stopped before after lines faults faults' note = is_some note.cause ≡ true
 Means Memory before after lines faults faults' note = Unit {0}

@@ -1,18 +1,21 @@
 -- What is promised of the running threads once they have returned.
-use Rattle.std.specs.Prelude.{◌≡◌, ℕ, List, [], true, Some, length, map, slice_get, unwrap_or}
+use Rattle.std.specs.Prelude.{◌≡◌, ℕ, List, [], true, Option, Some, length, map, slice_get, unwrap_or}
+use Rattle.std.specs.List.{filter_map}
+use Rattle.gate_record.specs.declared.ids.Stamp.{Stamp}
 use Rattle.gate_record.specs.declared.record.Record.{Record}
 use Rattle.gate_record.specs.Prefixes.{IsPrefixOf}
 use Rattle.gate_config.specs.declared.config.Config.{Config}
-use Rattle.gate_pipeline.specs.Histories.{AreProcessed, History}
+use Rattle.gate_items.specs.declared.action.Action.{Action}
+use Rattle.gate_pipeline.specs.Histories.{AreProcessed, History, triggering}
 use Rattle.gate_pipeline.specs.States.{State}
 use Rattle.gate_core.specs.declared.report.ConnectionReport.{ConnectionReport}
 use Rattle.gate_core.specs.declared.report.PipelineReport.{PipelineReport}
 use Rattle.gate_core.specs.declared.report.RunReport.{RunReport}
-use Rattle.gate_core.specs.History.{numbers_from, wanted}
+use Rattle.gate_core.specs.History.{asked_among, numbers_from, wanted}
 use Rattle.gate_source.specs.Stops.{Note}
-use Rattle.gate_run.specs.Feeds.{AreFirst, Told}
+use Rattle.gate_source.specs.Feeds.{AreFirst, Told}
 use Rattle.gate_run.specs.Gatherings.{report_of_pipeline}
-use Rattle.gate_run.specs.Ports.{InboxEnds, InboxView, at_pipeline, pipeline_counts}
+use Rattle.gate_run.specs.Ports.{InboxEnds, InboxView, IsInboxFor, at_pipeline, pipeline_counts}
 use Rattle.gate_run.specs.Readers.{Means}
 use Rattle.gate_run.specs.Workers.{TookMore}
 
@@ -41,11 +44,13 @@ pub record Delivers (config : Config) (lines : List (List Record)) (pipelines : 
   pub in_order : (t p c : ℕ) (pipeline : PipelineReport) → at_pipeline t p pipelines ≡ Some pipeline → IsPrefixOf (numbers_from c pipeline.done) (wanted config t p c (lines_of c lines))
   pub whole : (t p c : ℕ) (pipeline : PipelineReport) → at_pipeline t p pipelines ≡ Some pipeline → pipeline.finished ≡ true → numbers_from c pipeline.done ≡ wanted config t p c (lines_of c lines)
 
--- A pipeline has processed what its worker took, of management events and results just what the inbox's seats took meanwhile.
-pub record HasProcessed (config : Config) (t p : ℕ) (before after : InboxEnds) (state : State) : Type 0 where
+-- A pipeline has processed what its worker took: as triggers what the accepted records of their stamps ask for, and of management
+-- events and results just what the inbox's seats took meanwhile.
+pub record HasProcessed (config : Config) (t p : ℕ) (lines : List (List Record)) (before after : InboxEnds) (state : State) : Type 0 where
   pub past : History
   pub now : past.state ≡ state
   pub processed : AreProcessed config t p past
+  pub triggers : (i : ℕ) (stamp : Option Stamp) (action : Action) → slice_get (filter_map triggering past.processed) i ≡ Some (stamp, action) → asked_among config t p (λ c. lines_of c lines) stamp ≡ Some action
   pub management : TookMore before.management past.management after.management
   pub results : TookMore before.results past.results after.results
 
@@ -57,8 +62,8 @@ pub record Serves {F : Type 0} (config : Config) (to_come : F → Told) (faults 
   pub connections : HaveEnded to_come faults feeds feeds' lines report.connections inbox'.note
   pub delivers : Delivers config lines report.pipelines
   pub reports : report.pipelines ≡ map (map report_of_pipeline) pipelines
-  pub processes : (t p : ℕ) (ends ends' : InboxEnds) (state : State) → at_pipeline t p inbox.pipelines ≡ Some ends → at_pipeline t p inbox'.pipelines ≡ Some ends' → at_pipeline t p pipelines ≡ Some state → HasProcessed config t p ends ends' state
+  pub processes : (t p : ℕ) (ends ends' : InboxEnds) (state : State) → at_pipeline t p inbox.pipelines ≡ Some ends → at_pipeline t p inbox'.pipelines ≡ Some ends' → at_pipeline t p pipelines ≡ Some state → HasProcessed config t p lines ends ends' state
   -- a pipeline for each of the configuration
   pub counts : map length pipelines ≡ pipeline_counts config
-  pub inbox_counts : map length inbox'.pipelines ≡ pipeline_counts config
+  pub inbox_for : IsInboxFor config inbox'
   pub cell : inbox'.note.cell ≡ inbox.note.cell

@@ -1,5 +1,5 @@
-//! That a configuration may cross threads. The check doesn't find it by itself, since a built pattern is too large for its search: so
-//! each type below is shown to cross by what it is made of.
+//! That works may be given to threads, as far as the check doesn't find it by itself: a built pattern is too large for its search, so
+//! each type below, up to a configuration, is shown to cross by what it is made of.
 ghost use denote.Param.Send.{IsSend, IsSync};
 ghost use Rattle.regex_hir.specs.contracts.hir.Hir as hir_type;
 ghost use Rattle.regex.specs.contracts.string.regex.Regex as regex_type;
@@ -16,6 +16,11 @@ use regex_hir::Hir;
 fn crosses<T: Send + Sync>()
     ensures send { IsSend T.row }
     ensures sync { IsSync T.row }
+{}
+
+/// Of a type that threads may share, that they may.
+pub(crate) fn is_shared<T: Sync>()
+    ensures { IsSync T.row }
 {}
 
 fn hir_crosses()

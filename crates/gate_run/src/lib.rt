@@ -4,7 +4,6 @@
 mod crossing;
 mod dispatcher;
 mod fault;
-mod feed;
 mod forwarder;
 mod gate;
 mod gathering;
@@ -14,6 +13,7 @@ mod posts;
 mod putting;
 mod queues;
 mod reader;
+mod running;
 mod seating;
 mod serving;
 mod signals;
@@ -23,6 +23,7 @@ mod worker;
 mod works;
 
 pub use fault::RunFault;
-pub use feed::{FeedStep, RecordFeed};
 pub use gate::Gate;
+pub use gate_source::{FeedStep, ReaderFeed, RecordFeed};
 pub use posts::{Inbox, PostFault, Posts};
+pub use serving::{Served, serve, serve_over};

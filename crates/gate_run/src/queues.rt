@@ -2,6 +2,7 @@
 ghost use Rattle.std.specs.Prelude.{◌≡◌, ◌<◌, ◌∷◌, [], IfOk, length, map};
 ghost use Rattle.gate_config.specs.Lookups.{connections_of, tenants_of};
 ghost use Rattle.gate_run.specs.Ports.{pipeline_counts};
+ghost use Rattle.gate_run.specs.Queues.{AreOpen};
 ghost use Rattle.gate_run.specs.Seats.{fresh_head, fresh_tail};
 ghost use Rattle.gate_run.specs.Stages.{IsOpenStage};
 
@@ -11,16 +12,74 @@ use gate_queue::{EventQueue, Head, Tail};
 use gate_record::{ConnEntry, Memory, PipelineItem, TenantId, TenantItem};
 use std::alloc::Global;
 
-/// Stages with one sender each, and all their seats, by stage and queue.
+/// The queues of a run.
 #[derive(Drop)]
-pub(crate) struct Lanes<T> {
-    pub(crate) queues: Vec<Vec<EventQueue<T>>>,
-    pub(crate) heads: Vec<Vec<Head<T>>>,
-    pub(crate) tails: Vec<Vec<Tail<T>>>,
+pub(crate) struct Queues {
+    /// By connection number: into which its reader puts, and from which its forwarder takes.
+    pub(crate) records: Vec<EventQueue<ConnEntry>>,
+    /// By tenant number: into which each forwarder puts, and from which the tenant's worker takes.
+    pub(crate) items: Vec<EventQueue<TenantItem>>,
+    /// By tenant number and pipeline number: into which the tenant's worker puts, and from which the pipeline's worker takes.
+    pub(crate) triggers: Vec<Vec<EventQueue<PipelineItem>>>,
 }
 
-/// A queue of one sender for each connection: all queues, then their takers' seats and their senders'.
-pub(crate) fn open_records(
+/// All seats in the queues of a run: the takers' by queue, and the senders' by thread.
+#[derive(Drop)]
+pub(crate) struct QueueSeats {
+    pub(crate) record_heads: Vec<Head<ConnEntry>>,
+    pub(crate) record_tails: Vec<Tail<ConnEntry>>,
+    pub(crate) item_heads: Vec<Head<TenantItem>>,
+    pub(crate) item_tails: Vec<Vec<Tail<TenantItem>>>,
+    pub(crate) trigger_heads: Vec<Vec<Head<PipelineItem>>>,
+    pub(crate) trigger_tails: Vec<Vec<Tail<PipelineItem>>>,
+}
+
+/// Opens the queues of a run, each of so many places.
+pub(crate) fn open_queues(
+    alloc: Global,
+    places: usize,
+    config: &Config,
+) -> Result<(Queues, QueueSeats), Memory>
+    requires places { 0 < places }
+    ensures { IfOk result (λ opened. AreOpen config.now opened.0 opened.1) }
+{
+    let (records, record_heads, record_tails) = open_records(alloc, places, config)?;
+    let Stage {
+        queues: items,
+        heads: item_heads,
+        tails: item_tails,
+    } = open_items(alloc, places, config)?;
+    let Lanes {
+        queues: triggers,
+        heads: trigger_heads,
+        tails: trigger_tails,
+    } = open_triggers(alloc, places, config)?;
+    let queues = Queues {
+        records,
+        items,
+        triggers,
+    };
+    let seats = QueueSeats {
+        record_heads,
+        record_tails,
+        item_heads,
+        item_tails,
+        trigger_heads,
+        trigger_tails,
+    };
+    Ok((queues, seats))
+}
+
+// Stages with one sender each, and all their seats, by stage and queue.
+#[derive(Drop)]
+struct Lanes<T> {
+    queues: Vec<Vec<EventQueue<T>>>,
+    heads: Vec<Vec<Head<T>>>,
+    tails: Vec<Vec<Tail<T>>>,
+}
+
+// A queue of one sender for each connection: all queues, then their takers' seats and their senders'.
+fn open_records(
     alloc: Global,
     places: usize,
     config: &Config,
@@ -38,12 +97,8 @@ pub(crate) fn open_records(
     open_lane(alloc, places, config.connections().len())
 }
 
-/// A queue for each tenant, into which each connection's forwarder puts.
-pub(crate) fn open_items(
-    alloc: Global,
-    places: usize,
-    config: &Config,
-) -> Result<Stage<TenantItem>, Memory>
+// A queue for each tenant, into which each connection's forwarder puts.
+fn open_items(alloc: Global, places: usize, config: &Config) -> Result<Stage<TenantItem>, Memory>
     requires places { 0 < places }
     ensures { IfOk result (λ stage. IsOpenStage (length (tenants_of config.now)) (length (connections_of config.now)) stage.queues.items stage.heads.items (map (λ row. row.items) stage.tails.items)) }
 {
@@ -55,8 +110,8 @@ pub(crate) fn open_items(
     )
 }
 
-/// A trigger queue of one sender for each pipeline, by tenant.
-pub(crate) fn open_triggers(
+// A trigger queue of one sender for each pipeline, by tenant.
+fn open_triggers(
     alloc: Global,
     places: usize,
     config: &Config,

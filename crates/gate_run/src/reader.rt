@@ -6,7 +6,6 @@ ghost use Rattle.gate_source.specs.Stops.{IsNoteOf};
 ghost use Rattle.gate_core.specs.declared.report.EndCause.TheVariants as cause;
 ghost use Rattle.gate_run.specs.Readers.{CanRead, Closes, CutsShort, HasRead};
 
-use crate::feed::{FeedStep, RecordFeed};
 use crate::naps::Naps;
 use crate::signals::Signals;
 use crate::works::Work;
@@ -15,7 +14,8 @@ use gate_core::EndCause;
 use gate_queue::{EventQueue, Tail};
 use gate_record::{ConnEntry, ConnId, Record};
 use gate_source::{
-    ClosedSource, OfferFault, Source, StopCell, StopNote, accepted_records_are_numbered,
+    ClosedSource, FeedStep, OfferFault, RecordFeed, Source, StopCell, StopNote,
+    accepted_records_are_numbered,
 };
 use std::sync::Wait;
 use std::thread::Threads;

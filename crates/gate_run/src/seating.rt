@@ -9,7 +9,6 @@ ghost use Rattle.gate_run.specs.Seatings.{AreWorkersOf, IsDispatcherOf, IsForwar
 ghost use Rattle.gate_run.specs.Seats.{fresh_head, fresh_tail};
 
 use crate::dispatcher::Dispatcher;
-use crate::feed::RecordFeed;
 use crate::forwarder::Forwarder;
 use crate::lists::next_of;
 use crate::posts::PipelineInbox;
@@ -20,7 +19,7 @@ use gate_config::Config;
 use gate_pipeline::Pipeline;
 use gate_queue::{EventQueue, Head, Tail};
 use gate_record::{ConnEntry, ConnId, Memory, PipelineId, PipelineItem, TenantId, TenantItem};
-use gate_source::StopCell;
+use gate_source::{RecordFeed, StopCell};
 use gate_tenant::Dispatch;
 use std::alloc::Global;
 

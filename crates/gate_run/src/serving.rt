@@ -1,34 +1,124 @@
-//! The end of a run: what threads that have returned handed back, and what waits in their queues.
-ghost use Rattle.std.specs.Prelude.{◌≡◌, ◌∷◌, [], IfOk, length, map};
+//! A whole run: its queues are opened, its threads work, and what they hand back is put together.
+ghost use Rattle.std.specs.Prelude.{◌≡◌, ◌∷◌, ◌-◌, ◌<◌, ◌^◌, [], All, IfOk, length, map};
 ghost use Rattle.std.specs.List.{range_with_len};
+ghost use Rattle.gate_config.specs.Lookups.{connections_of};
 ghost use Rattle.gate_source.specs.Stops.{IsNoteOf};
 ghost use Rattle.gate_run.specs.Gatherings.{inbox_back, knows_as_much, report_of_pipeline, report_of_reader};
 ghost use Rattle.gate_run.specs.Lists.{Each};
+ghost use Rattle.gate_run.specs.Ports.{IsInboxFor};
 ghost use Rattle.gate_run.specs.Seats.{seat_in, seat_of};
+ghost use Rattle.gate_run.specs.Serving.{Serves};
 ghost use Rattle.gate_run.specs.Stages.{AreLanesSettled, IsStageSettled};
 
+use crate::fault::RunFault;
+use crate::gate::Gate;
 use crate::gathering::{Ends, Readings, Workings, gather_readers, gather_seats, gather_workers};
 use crate::posts::Inbox;
+use crate::queues::{Queues, open_queues};
+use crate::running::run_between;
 use crate::stage::{settle_lane, settle_lanes, settle_stage};
-use gate_core::RunReport;
-use gate_pipeline::Pipeline;
+use gate_config::Config;
+use gate_core::{PLACES, RunReport, each_way_delivers};
+use gate_pipeline::{Pipeline, what_was_taken_is_processed};
 use gate_queue::EventQueue;
 use gate_record::{ConnEntry, Memory, PipelineItem, Shared, TenantItem};
-use gate_source::{StopCell, StopNote};
+use gate_source::{RecordFeed, StopCell, StopNote};
 use std::alloc::Global;
 use std::sync::Wait;
+use std::thread::Threads;
+use std::time::Clock;
 
 /// What a run hands back.
 #[derive(Drop)]
-pub(crate) struct Served<F> {
+pub struct Served<F> {
     /// How many records of each connection were accepted and why there were no more, and what each pipeline has processed.
-    pub(crate) report: RunReport,
+    pub report: RunReport,
     /// The pipelines, by tenant number and pipeline number.
-    pub(crate) pipelines: Vec<Vec<Pipeline>>,
+    pub pipelines: Vec<Vec<Pipeline>>,
     /// The feeds, by connection number.
-    pub(crate) feeds: Vec<F>,
+    pub feeds: Vec<F>,
     /// The inbox, for a next run.
-    pub(crate) inbox: Inbox,
+    pub inbox: Inbox,
+}
+
+/// Runs a configuration until all that its feeds have is processed, or a stop was asked for, or memory was refused: a reader and a
+/// forwarder for each connection, a worker for each tenant and one for each pipeline, each in a thread of its own, with queues of
+/// 4,096 places between them. It waits for all of them.
+///
+/// `feeds` are those of the connections, by connection number, each of which has answered fewer than 2^64 - 1 faults; `inbox` was
+/// opened on this configuration. Each pipeline begins with nothing in it. `gate` is told of each pipeline by its worker.
+///
+/// Where it answers, what each pipeline has processed of a connection is a prefix of what its rules select of the records that were
+/// accepted from that connection, in order, and all of it where the pipeline is finished; and it has processed the management events
+/// and results that its worker took from the inbox, in order. That it answers isn't promised: a feed may have records for ever, and a
+/// gate may wait for ever.
+///
+/// `Memory` where it was refused before the threads began, or for what they hand back, and `Thread` where a thread couldn't be started;
+/// then the threads that run are told to halt and are waited for, and feeds and inbox are lost. Where memory is refused to a thread
+/// all return early, and that is no fault: the report has the cause `Memory`, and pipelines may not be finished.
+pub fn serve<'c, F: RecordFeed + Drop + Send, G: Gate + Sync, R: Threads + Wait + Clock + Sync>(
+    rt: &R,
+    alloc: Global,
+    config: &'c Config,
+    feeds: Vec<F>,
+    inbox: Inbox,
+    gate: &'c G,
+) -> Result<Served<F>, RunFault>
+    requires feeds { length feeds.items ≡ length (connections_of config.now) }
+    requires few { All (λ feed. F.fault_count feed < 2 ^ 64 - 1) feeds.items }
+    requires inbox { IsInboxFor config.now inbox }
+    ensures { IfOk result (λ served. Serves config.entry.now F.to_come F.fault_count feeds.items served.feeds.items inbox served.inbox served.report (map (λ row. row.items) served.pipelines.items)) }
+{
+    serve_over(rt, alloc, PLACES, config, feeds, inbox, gate)
+}
+
+/// The same with queues of so many places, at least one, between the threads. Those of the inbox are as they were opened.
+pub fn serve_over<
+    'c,
+    F: RecordFeed + Drop + Send,
+    G: Gate + Sync,
+    R: Threads + Wait + Clock + Sync,
+>(
+    rt: &R,
+    alloc: Global,
+    places: usize,
+    config: &'c Config,
+    feeds: Vec<F>,
+    inbox: Inbox,
+    gate: &'c G,
+) -> Result<Served<F>, RunFault>
+    requires places { 0 < places }
+    requires feeds { length feeds.items ≡ length (connections_of config.now) }
+    requires few { All (λ feed. F.fault_count feed < 2 ^ 64 - 1) feeds.items }
+    requires inbox { IsInboxFor config.now inbox }
+    ensures { IfOk result (λ served. Serves config.entry.now F.to_come F.fault_count feeds.items served.feeds.items inbox served.inbox served.report (map (λ row. row.items) served.pipelines.items)) }
+{
+    each_way_delivers();
+    what_was_taken_is_processed();
+    let Inbox {
+        tenants,
+        cell,
+        note,
+    } = inbox;
+    let (queues, seats) = open_queues(alloc, places, config)?;
+    let ends = run_between(
+        rt,
+        alloc,
+        config,
+        &queues,
+        seats,
+        feeds,
+        tenants,
+        cell.get(),
+        gate,
+    )?;
+    let Queues {
+        records,
+        items,
+        triggers,
+    } = queues;
+    let served = finish(rt, alloc, records, items, triggers, ends, cell, note)?;
+    Ok(served)
 }
 
 /// Ends the queues of threads that have returned, and gathers what they handed back. `Memory` where there is none for that.

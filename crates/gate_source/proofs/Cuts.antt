@@ -47,14 +47,14 @@ last_unfinished line rest clear =
 -- ---- any text
 
 -- a text is a line that hasn't ended, or one that has and a text
-data Cut : List ℕ → Type 0 where
+pub data Cut : List ℕ → Type 0 where
   ends : {line : List ℕ} → HasNoFeed line → Cut line
   follows : (line : List ℕ) {rest : List ℕ} → HasNoFeed line → Cut rest → Cut (line ++ 10 ∷ rest)
 
-nothing : HasNoFeed []
+pub nothing : HasNoFeed []
 nothing = All-nil (λ byte. is_line_feed byte ≡ false)
 
-one_more : (byte : ℕ) (line : List ℕ) → is_line_feed byte ≡ false → HasNoFeed line → HasNoFeed (byte ∷ line)
+pub one_more : (byte : ℕ) (line : List ℕ) → is_line_feed byte ≡ false → HasNoFeed line → HasNoFeed (byte ∷ line)
 one_more byte line clear all = All-cons (λ b. is_line_feed b ≡ false) byte line clear all
 
 cut_one : (byte : ℕ) {bytes : List ℕ} → is_line_feed byte ≡ false → Cut bytes → Cut (byte ∷ bytes)
@@ -65,7 +65,7 @@ cut_by : (b : Bool) (byte : ℕ) {bytes : List ℕ} → is_line_feed byte ≡ b 
 cut_by true byte {bytes} is rest = subst (λ x. Cut (x ∷ bytes)) (sym (eqb-true byte 10 is)) (follows [] nothing rest)
 cut_by false byte is rest = cut_one byte is rest
 
-cut : (bytes : List ℕ) → Cut bytes
+pub cut : (bytes : List ℕ) → Cut bytes
 cut [] = ends nothing
 cut (byte ∷ bytes) = cut_by (is_line_feed byte) byte refl (cut bytes)
 

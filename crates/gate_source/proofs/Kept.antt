@@ -15,11 +15,11 @@ use Rattle.gate_source.proofs.Cuts.{all_unfinished, ended_more, last_unfinished,
 
 -- ---- a line that is too long
 
-above : (n m : ℕ) (b : Bool) → nat_lt n m ≡ b → n < m → b ≡ true
+pub above : (n m : ℕ) (b : Bool) → nat_lt n m ≡ b → n < m → b ≡ true
 above n m true e h = refl
 above n m false e h = let high : m ≤ n = ltb-false n m e in absurd (omega (arith, high, h))
 
-oversize : (line : List ℕ) → MAX_LINE < length line → record_of_line line ≡ Some Oversize
+pub oversize : (line : List ℕ) → MAX_LINE < length line → record_of_line line ≡ Some Oversize
 oversize [] h = absurd (omega (arith, h))
 oversize (byte ∷ bytes) h = ap (λ b. cond b (Some Oversize) (Some (Line (byte ∷ bytes)))) (above MAX_LINE (length (byte ∷ bytes)) (nat_lt MAX_LINE (length (byte ∷ bytes))) refl h)
 
@@ -46,12 +46,12 @@ stripped_front line = take_by (slice_index line (length line - 1) == 13) line
 
 -- ---- what is kept
 
-longer : (line more : List ℕ) → nat_lt (MAX_LINE + 1) (length line) ≡ true → nat_lt (MAX_LINE + 1) (length (line ++ more)) ≡ true
+pub longer : (line more : List ℕ) → nat_lt (MAX_LINE + 1) (length line) ≡ true → nat_lt (MAX_LINE + 1) (length (line ++ more)) ≡ true
 longer line more e =
     let long : MAX_LINE + 1 < length line = ltb-true _ _ e in
     above (MAX_LINE + 1) (length (line ++ more)) _ refl (omega (arith, long, length-append line more))
 
-none_kept : (line : List ℕ) → nat_lt (MAX_LINE + 1) (length line) ≡ true → None ≡ kept_of line
+pub none_kept : (line : List ℕ) → nat_lt (MAX_LINE + 1) (length line) ≡ true → None ≡ kept_of line
 none_kept line e = ap (λ b. cond b None (Some line)) (sym e)
 
 with_by : (b : Bool) (line more : List ℕ) → nat_lt (MAX_LINE + 1) (length line) ≡ b → kept_with (cond b None (Some line)) more ≡ kept_of (line ++ more)

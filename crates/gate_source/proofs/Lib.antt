@@ -1,4 +1,5 @@
 pub mod Cuts
 pub mod Kept
 pub mod Numbers
+pub mod Reading
 pub mod Whole

@@ -1,4 +1,6 @@
 pub mod Cuttings
+pub mod Feeds
 pub mod Sources
 pub mod Splitting
 pub mod Stops
+pub mod Streams

@@ -7,15 +7,19 @@
 //! may wait.
 #![tactic(auto)]
 
+mod feed;
 mod laws;
 mod lines;
+mod reader_feed;
 mod source;
 mod split;
 mod stop;
 
+pub use feed::{FeedStep, RecordFeed};
 pub use laws::{
     accepted_records_are_numbered, the_cutting_does_not_matter, the_lines_that_ended_are_given,
 };
+pub use reader_feed::ReaderFeed;
 pub use source::{ClosedSource, MOST_RECORDS, OfferFault, Source};
 pub use split::LineSplit;
 pub use stop::{StopCause, StopCell, StopNote};

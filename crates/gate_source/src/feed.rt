@@ -1,6 +1,6 @@
 //! Where a connection's records come from.
 ghost use Rattle.std.specs.Prelude.{◌≡◌, ◌-◌, ◌<◌, ◌^◌, ℕ};
-ghost use Rattle.gate_run.specs.Feeds.{Steps, Told, faults_after};
+ghost use Rattle.gate_source.specs.Feeds.{Steps, Told, faults_after};
 
 use gate_record::Record;
 use std::sync::Wait;

@@ -1,17 +1,18 @@
 -- What feeds give.
 use Rattle.std.specs.Prelude.{◌≡◌, ℕ, ◌+◌, List, [], ◌∷◌, ◌++◌, Option, Some, None}
 use Rattle.gate_record.specs.declared.record.Record.{Record}
-use Rattle.gate_run.specs.declared.feed.FeedStep.{FeedStep}
-use Rattle.gate_run.specs.declared.feed.FeedStep.TheVariants.{Got, Pending, Ended, Fault, Memory}
+use Rattle.gate_source.specs.declared.feed.FeedStep.{FeedStep}
+use Rattle.gate_source.specs.declared.feed.FeedStep.TheVariants.{Got, Pending, Ended, Fault, Memory}
 
 -- The records that are still to come, where the feed tells them
 abbrev pub Told : Type 0
 Told = Option (List Record)
 
 -- What a step leaves of the records that are to come: a record is the first of them, while nothing comes they stay, and a feed
--- that ended has none. After a fault, or where memory was refused, nothing is said of them.
+-- that ended has none. After a fault, or where memory was refused, nothing is said of them, and nothing of a feed that doesn't
+-- tell them.
 abbrev pub Steps : Told → FeedStep → Told → Type 0
-Steps None step after = after ≡ None
+Steps None step after = Unit {0}
 Steps (Some lines) (Got line) after = (rest : List Record) × (lines ≡ line ∷ rest) × (after ≡ Some rest)
 Steps (Some lines) Pending after = after ≡ Some lines
 Steps (Some lines) Ended after = (lines ≡ []) × (after ≡ Some [])
@@ -31,12 +32,12 @@ abbrev pub AreFirst : List Record → Told → Type 0
 AreFirst lines None = Unit {0}
 AreFirst lines (Some all) = (rest : List Record) × (lines ++ rest ≡ all)
 
--- these are all of them
-abbrev pub AreAll : List Record → Told → Type 0
-AreAll lines None = Unit {0}
-AreAll lines (Some all) = lines ≡ all
+-- these are all of them, and none is still to come
+abbrev pub AreAll : List Record → (before after : Told) → Type 0
+AreAll lines None after = Unit {0}
+AreAll lines (Some all) after = (lines ≡ all) × (after ≡ Some [])
 
 -- these came, and what is left is still to come
 abbrev pub Leaves : Told → List Record → Told → Type 0
-Leaves None lines after = after ≡ None
+Leaves None lines after = Unit {0}
 Leaves (Some all) lines after = (rest : List Record) × (after ≡ Some rest) × (lines ++ rest ≡ all)

@@ -1,0 +1,72 @@
+//! A run whose feeds have nothing for a while.
+use crate::documents::configuration;
+use crate::running::{Silent, processed};
+use anyhow::{Context, Result, bail};
+use gate_config::{Config, read_config};
+use gate_run::{FeedStep, Posts, RecordFeed, serve};
+use std::alloc::Global;
+use std::sync::Wait;
+use std::thread;
+use std::thread::Threads;
+use std::time::{Clock, Duration};
+
+// How many connections wait.
+const CONNECTIONS: u32 = 4;
+
+/// A feed without records, which waits before it says so.
+#[derive(Drop)]
+struct Blocked<C> {
+    clock: C,
+    seconds: u64,
+}
+
+impl<C: Clock> RecordFeed for Blocked<C> {
+    ghost use Rattle.std.specs.Prelude.{None};
+
+    ghost to_come = { λ feed. None };
+
+    ghost fault_count = { λ feed. 0 };
+
+    fn next<R: Wait>(&mut self, _rt: &R) -> FeedStep {
+        thread::sleep(&self.clock, Duration::from_secs(self.seconds));
+        FeedStep::Ended
+    }
+
+    fn faults(&self) -> u64 {
+        0
+    }
+}
+
+/// Runs connections whose feeds block for so many seconds and then end.
+pub fn wait<R: Threads + Wait + Clock + Sync, C: Clock + Copy + Drop + Send>(
+    rt: &R,
+    alloc: Global,
+    clock: C,
+    seconds: u64,
+) -> Result<u64> {
+    let document = configuration(alloc, CONNECTIONS)?;
+    let config = read_config(alloc, document.as_bytes())
+        .ok()
+        .context("the configuration")?;
+    let mut feeds = Vec::new(alloc);
+    for _ in 0..CONNECTIONS {
+        feeds.push(Blocked { clock, seconds })?;
+    }
+    run_feeds(rt, alloc, &config, feeds)
+}
+
+fn run_feeds<R: Threads + Wait + Clock + Sync, C: Clock + Drop + Send>(
+    rt: &R,
+    alloc: Global,
+    config: &Config,
+    feeds: Vec<Blocked<C>>,
+) -> Result<u64> {
+    if feeds.len() != config.connections().len() {
+        bail!("a feed for each connection");
+    }
+    let (_posts, inbox) = Posts::open(alloc, config).ok().context("memory")?;
+    let served = serve(rt, alloc, config, feeds, inbox, &Silent)
+        .ok()
+        .context("the run")?;
+    processed(&served.report)
+}

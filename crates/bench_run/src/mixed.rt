@@ -1,0 +1,163 @@
+//! Eight feeds of records of three kinds and five projects, and the configuration that selects among them.
+use crate::documents::comma_before;
+use gate_record::{Memory, Record, Sequence};
+use gate_run::{FeedStep, RecordFeed};
+use std::alloc::{AllocError, Global};
+use std::sync::Wait;
+
+pub const CONNECTIONS: u32 = 8;
+
+pub const TENANTS: u32 = 4;
+
+/// How many records each connection has.
+pub const RECORDS: u32 = 25_000;
+
+// How many changes have events, by turns.
+const CHANGES: u32 = 31;
+
+// The pipelines of a tenant, each with its manager and with the pattern of the events that it selects.
+const PIPELINES: [(&str, &str, &str); 4] = [
+    ("check", "independent", "patchset-created"),
+    ("gate", "dependent", "comment-added"),
+    ("post", "independent", "change-merged"),
+    ("all", "independent", "."),
+];
+
+// The kinds of events, by turns: one that each pipeline but the last selects.
+const KINDS: [&str; 3] = ["patchset-created", "comment-added", "change-merged"];
+
+/// Whether a tenant lists a connection.
+pub fn lists(tenant: u32, connection: u32) -> bool {
+    connection % TENANTS != tenant
+}
+
+/// Whether pipeline `pipeline` of a tenant selects record `number` of a connection: the projects go by turns, one of each
+/// tenant and one that all list.
+pub fn selects(tenant: u32, pipeline: u32, connection: u32, number: u32) -> bool {
+    let project = number % (TENANTS + 1);
+    let is_kind = pipeline == 3 || number % 3 == pipeline;
+    lists(tenant, connection) && is_kind && (project == tenant || project == TENANTS)
+}
+
+/// A feed of such records, with moments between them at which it has none. It never fails.
+#[derive(Drop)]
+pub struct Mixed {
+    alloc: Global,
+    next: u32,
+    /// How often it has still none before the next one.
+    pending: u32,
+}
+
+impl Mixed {
+    pub fn new(alloc: Global, connection: u32) -> Mixed {
+        Mixed {
+            alloc,
+            next: 0,
+            pending: connection,
+        }
+    }
+}
+
+// Record `number` of each connection.
+fn record(alloc: Global, number: u32) -> Result<Record, Memory> {
+    let kind = KINDS[(number % 3) as usize];
+    let project = number % (TENANTS + 1);
+    let change = number % CHANGES;
+    let patchset = number / CHANGES;
+    let line = format!(in alloc;
+        "{{\"type\":\"{kind}\",\"change\":{{\"project\":\"p{project}\",\"branch\":\"master\",\"number\":{change}}},\"patchSet\":{{\"number\":{patchset}}}}}"
+    )?;
+    Ok(Record::Line(Sequence::new(line.into_bytes())))
+}
+
+impl RecordFeed for Mixed {
+    ghost use Rattle.std.specs.Prelude.{None};
+
+    ghost to_come = { λ feed. None };
+
+    ghost fault_count = { λ feed. 0 };
+
+    fn next<R: Wait>(&mut self, _rt: &R) -> FeedStep {
+        if self.pending > 0 {
+            self.pending -= 1;
+            return FeedStep::Pending;
+        }
+        let number = self.next;
+        if number >= RECORDS {
+            return FeedStep::Ended;
+        }
+        self.next = number + 1;
+        self.pending = u32::from(number % 1009 == 7);
+        match record(self.alloc, number) {
+            Ok(record) => FeedStep::Got(record),
+            Err(_) => FeedStep::Memory,
+        }
+    }
+
+    fn faults(&self) -> u64 {
+        0
+    }
+}
+
+/// Their configuration.
+pub fn configuration(alloc: Global) -> Result<String, AllocError> {
+    let mut tenants = String::new(alloc);
+    let mut config = String::new(alloc);
+    for tenant in 0..TENANTS {
+        let comma = comma_before(tenant);
+        let source = source(alloc, tenant)?;
+        let items = items(alloc, tenant)?;
+        write!(
+            tenants,
+            "{comma}{{\"name\":\"t{tenant}\",\"source\":{{{source}}}}}"
+        )?;
+        write!(config, "{comma}\"t{tenant}\":[{items}]")?;
+    }
+    format!(in alloc; "{{\"tenants\":[{tenants}],\"config\":{{{config}}}}}")
+}
+
+// The connections that a tenant lists, with their projects.
+fn source(alloc: Global, tenant: u32) -> Result<String, AllocError> {
+    let mut members = String::new(alloc);
+    for connection in 0..CONNECTIONS {
+        if lists(tenant, connection) {
+            let comma = if members.is_empty() { "" } else { "," };
+            write!(
+                members,
+                "{comma}\"c{connection}\":{{\"untrusted-projects\":[\"p{tenant}\",\"p{TENANTS}\"]}}"
+            )?;
+        }
+    }
+    Ok(members)
+}
+
+// The pipelines of a tenant, and its projects, which have a job in two of them.
+fn items(alloc: Global, tenant: u32) -> Result<String, AllocError> {
+    let mut items = String::new(alloc);
+    for (name, manager, pattern) in PIPELINES {
+        let trigger = trigger(alloc, pattern)?;
+        write!(
+            items,
+            "{{\"pipeline\":{{\"name\":\"{name}\",\"manager\":\"{manager}\",\"trigger\":{{{trigger}}}}}}},"
+        )?;
+    }
+    for (comma, project) in [("", tenant), (",", TENANTS)] {
+        write!(
+            items,
+            "{comma}{{\"project\":{{\"name\":\"p{project}\",\"check\":{{\"jobs\":[\"build\"]}},\"gate\":{{\"jobs\":[\"build\"]}}}}}}"
+        )?;
+    }
+    Ok(items)
+}
+
+fn trigger(alloc: Global, pattern: &str) -> Result<String, AllocError> {
+    let mut members = String::new(alloc);
+    for connection in 0..CONNECTIONS {
+        let comma = comma_before(connection);
+        write!(
+            members,
+            "{comma}\"c{connection}\":[{{\"event\":\"{pattern}\"}}]"
+        )?;
+    }
+    Ok(members)
+}

@@ -1,0 +1,77 @@
+//! Runs in threads.
+use crate::documents::configuration;
+use crate::repeated::Repeated;
+use anyhow::{Context, Result, bail};
+use gate_config::{Config, read_config};
+use gate_core::RunReport;
+use gate_pipeline::Pipeline;
+use gate_record::{PipelineId, TenantId};
+use gate_run::{Gate, Posts, RecordFeed, serve};
+use std::alloc::Global;
+use std::sync::Wait;
+use std::thread::Threads;
+use std::time::Clock;
+
+/// A gate that does nothing.
+#[derive(Drop)]
+pub struct Silent;
+
+impl Gate for Silent {
+    fn before<R: Wait>(
+        &self,
+        _rt: &R,
+        _tenant: TenantId,
+        _pipeline: PipelineId,
+        _state: &Pipeline,
+    ) {}
+
+    fn last<R: Wait>(&self, _rt: &R, _tenant: TenantId, _pipeline: PipelineId, _state: &Pipeline) {}
+}
+
+/// Runs so many connections with so many records each, and says how many trigger events were processed.
+pub fn serve_all<R: Threads + Wait + Clock + Sync>(
+    rt: &R,
+    alloc: Global,
+    connections: u32,
+    records: u32,
+) -> Result<u64> {
+    let document = configuration(alloc, connections)?;
+    let config = read_config(alloc, document.as_bytes())
+        .ok()
+        .context("the configuration")?;
+    let mut feeds = Vec::new(alloc);
+    for _ in 0..connections {
+        feeds.push(Repeated::new(alloc, records).ok().context("memory")?)?;
+    }
+    run_feeds(rt, alloc, &config, feeds)
+}
+
+fn run_feeds<R: Threads + Wait + Clock + Sync>(
+    rt: &R,
+    alloc: Global,
+    config: &Config,
+    feeds: Vec<Repeated>,
+) -> Result<u64> {
+    if feeds.len() != config.connections().len() {
+        bail!("a feed for each connection");
+    }
+    let (_posts, inbox) = Posts::open(alloc, config).ok().context("memory")?;
+    let served = serve(rt, alloc, config, feeds, inbox, &Silent)
+        .ok()
+        .context("the run")?;
+    processed(&served.report)
+}
+
+/// How many trigger events were processed by pipelines that are all finished.
+pub fn processed(report: &RunReport) -> Result<u64> {
+    let mut processed = 0u64;
+    for tenant in report.pipelines.as_slice() {
+        for pipeline in tenant.as_slice() {
+            if !pipeline.finished {
+                bail!("a pipeline isn't finished");
+            }
+            processed = processed.saturating_add(pipeline.done.len() as u64);
+        }
+    }
+    Ok(processed)
+}

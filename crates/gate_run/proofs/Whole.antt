@@ -1,0 +1,114 @@
+-- A whole run, from how its queues were opened and what its threads did: what ends them, and all that is known.
+use Rattle.std.proofs.Common.{◌≡◌, ◌∙◌, sym, ap, ℕ, List, [], ◌∷◌, length, map, Some}
+use Rattle.std.specs.Prelude.{Result, Ok, Err, IfOk, slice_get}
+use Rattle.std.specs.List.{range_with_len}
+use Rattle.gate_record.specs.declared.transit.PipelineItem.{PipelineItem}
+use Rattle.gate_record.specs.declared.transit.TenantItem.{TenantItem}
+use Rattle.gate_config.specs.declared.config.Config.{Config}
+use Rattle.gate_config.specs.Lookups.{connections_of, pipelines_of, tenants_of}
+use Rattle.gate_source.specs.Stops.{IsNoteOf}
+use Rattle.gate_queue.specs.Seats.{Shape}
+use Rattle.gate_run.specs.declared.gathering.Ends.{Ends}
+use Rattle.gate_run.specs.declared.putting.PassedOn.{PassedOn}
+use Rattle.gate_run.specs.declared.queues.QueueSeats.{QueueSeats}
+use Rattle.gate_run.specs.declared.queues.Queues.{Queues}
+use Rattle.gate_run.specs.declared.reader.Reader.{Reader}
+use Rattle.gate_source.specs.Feeds.{Told}
+use Rattle.gate_run.specs.Lists.{Each}
+use Rattle.gate_run.specs.Ports.{InboxEnds}
+use Rattle.gate_run.specs.Queues.{AreOpen}
+use Rattle.gate_run.specs.Seatings.{IsReaderOf}
+use Rattle.gate_run.specs.Seats.{seat_in, seat_of}
+use Rattle.gate_run.specs.Stages.{AreLanesSettled, IsStageSettled}
+use Rattle.gate_run.specs.Works.{Forwarded, HaveRun}
+use Rattle.gate_run.proofs.Evidence.{Evidence}
+use Rattle.gate_run.proofs.Paired.{map_length}
+use Rattle.gate_run.proofs.Places.{as_many}
+use Rattle.gate_run.proofs.Returning.{dispatcher_heads, dispatcher_tails, forwarder_heads, forwarder_tails, notes_back, tails_back, worker_heads}
+use Rattle.gate_run.proofs.Seated.{map_map}
+use Rattle.gate_run.proofs.Seatings.{as_many_of, count_here}
+use Rattle.gate_run.proofs.Staged.{lanes_as, range_length}
+
+pub if_ok : {T E : Type 0} {A B C D Z : T → Type 0} (r : Result T E) → ((x : T) → A x → B x → C x → D x → Z x) → IfOk r A → IfOk r B → IfOk r C → IfOk r D → IfOk r Z
+if_ok (Ok x) f a b c d = f x a b c d
+if_ok (Err e) f a b c d = a
+
+module _ {F : Type 0} (G : Type 0) (config : Config) (to_come : F → Told) (faults : F → ℕ) (feeds : List F) (inbox : List (List InboxEnds)) (cell : ℕ) (queues : Queues) (seats : QueueSeats) (ends : Ends F) (O : AreOpen config queues seats) (H : HaveRun G config to_come faults feeds inbox cell queues ends) where
+  abbrev pub lanes : List (List Shape)
+  lanes = map (λ lane. lane.items) queues.triggers.items
+
+  pub notes : Each (λ end. IsNoteOf cell end.note) ends.readers.items
+  notes = notes_back to_come faults cell (IsReaderOf faults feeds queues.records.items cell) (λ c (w : Reader F) (is : IsReaderOf faults feeds queues.records.items cell c w). is.can.note_of ∙ is.of_cell) H.readers ends.readers.items H.are_readers H.have_read
+
+  pub record_heads : map (λ end. end.head.queue) ends.forwarders.items ≡ map (λ queue. queue.name) queues.records.items
+  record_heads = forwarder_heads config queues.records.items queues.items.items H.forwarders ends.forwarders.items H.are_forwarders H.have_forwarded (H.forwarder_count ∙ sym O.records.many)
+
+  pub record_tails : map (λ end. seat_of end.tail) ends.readers.items ≡ map (seat_in 0) queues.records.items
+  record_tails = tails_back to_come faults feeds queues.records.items cell H.readers ends.readers.items H.are_readers H.have_read (H.reader_count ∙ sym O.records.many)
+
+  pub item_senders : map (λ queue. queue.name.senders) queues.items.items ≡ map (λ queue. length ends.forwarders.items) queues.items.items
+  item_senders = O.items.of_senders ∙ ap (λ n. map (λ (queue : Shape). n) queues.items.items) (sym H.forwarder_count ∙ as_many Forwarded H.forwarders ends.forwarders.items H.have_forwarded)
+
+  pub item_heads : map (λ end. end.head.queue) ends.dispatchers.items ≡ map (λ queue. queue.name) queues.items.items
+  item_heads = dispatcher_heads config queues.items.items lanes H.dispatchers ends.dispatchers.items H.are_dispatchers H.have_dispatched (H.dispatcher_count ∙ sym O.items.many)
+
+  pub item_tails : map (λ end. map seat_of end.tails.items) ends.forwarders.items ≡ map (λ s. map (seat_in s) queues.items.items) (range_with_len 0 (length ends.forwarders.items))
+  item_tails = forwarder_tails config queues.records.items queues.items.items H.forwarders ends.forwarders.items H.are_forwarders H.have_forwarded
+
+  lane_count : length lanes ≡ length (tenants_of config)
+  lane_count =
+      map_length (λ lane. lane.items) queues.triggers.items
+      ∙ as_many_of (λ lane. length lane.items) (λ t. length (pipelines_of config t)) queues.triggers.items (range_with_len 0 (length (tenants_of config))) O.trigger_counts
+      ∙ range_length 0 (length (tenants_of config))
+
+  lane_wide : (t : ℕ) (lane : List Shape) → slice_get lanes t ≡ Some lane → length lane ≡ length (pipelines_of config t)
+  lane_wide t lane at = count_here length (λ k. length (pipelines_of config k)) lanes (length (tenants_of config)) t lane (map_map length (λ lane. lane.items) queues.triggers.items ∙ O.trigger_counts) at
+
+  pub trigger_heads : map (λ list. map (λ end. end.head.queue) list.items) ends.workers.items ≡ map (λ lane. map (λ queue. queue.name) lane.items) queues.triggers.items
+  trigger_heads =
+      sym (map_map (map (λ end. end.head.queue)) (λ list. list.items) ends.workers.items)
+      ∙ worker_heads config lanes inbox H.workers (map (λ list. list.items) ends.workers.items) H.are_workers H.have_worked (H.worker_count ∙ sym lane_count) lane_wide
+      ∙ map_map (map (λ (queue : Shape). queue.name)) (λ lane. lane.items) queues.triggers.items
+
+  pub trigger_tails : map (λ end. map seat_of end.tails.items) ends.dispatchers.items ≡ map (λ lane. map (seat_in 0) lane.items) queues.triggers.items
+  trigger_tails =
+      dispatcher_tails config queues.items.items lanes H.dispatchers ends.dispatchers.items H.are_dispatchers H.have_dispatched (H.dispatcher_count ∙ sym lane_count)
+      ∙ map_map (map (seat_in 0)) (λ lane. lane.items) queues.triggers.items
+
+  abbrev pub evidence : length feeds ≡ length (connections_of config)
+      → IsStageSettled queues.records.items (map (λ end. end.head) ends.forwarders.items) (map (λ end. end.tail) ends.readers.items ∷ [])
+      → IsStageSettled queues.items.items (map (λ end. end.head) ends.dispatchers.items) (map (λ end. end.tails.items) ends.forwarders.items)
+      → AreLanesSettled lanes (map (λ list. map (λ end. end.head) list.items) ends.workers.items) (map (λ end. end.tails.items) ends.dispatchers.items)
+      → Evidence G config to_come faults feeds inbox cell
+  evidence fed records_settled items_settled triggers_settled = record {
+    records = queues.records.items;
+    items = queues.items.items;
+    triggers = lanes;
+    readers = H.readers;
+    forwarders = H.forwarders;
+    dispatchers = H.dispatchers;
+    workers = H.workers;
+    reader_ends = ends.readers.items;
+    forwarder_ends = ends.forwarders.items;
+    dispatcher_ends = ends.dispatchers.items;
+    worker_ends = map (λ list. list.items) ends.workers.items;
+    feed_count = fed;
+    reader_count = H.reader_count;
+    forwarder_count = H.forwarder_count;
+    dispatcher_count = H.dispatcher_count;
+    worker_count = H.worker_count;
+    record_senders = O.records.of_senders;
+    item_senders = O.items.of_senders;
+    trigger_senders = map_map (map (λ (queue : Shape). queue.name.senders)) (λ lane. lane.items) queues.triggers.items ∙ O.trigger_senders ∙ sym (map_map (map (λ (queue : Shape). 1)) (λ lane. lane.items) queues.triggers.items);
+    are_readers = H.are_readers;
+    are_forwarders = H.are_forwarders;
+    are_dispatchers = H.are_dispatchers;
+    are_workers = H.are_workers;
+    have_read = H.have_read;
+    have_forwarded = H.have_forwarded;
+    have_dispatched = H.have_dispatched;
+    have_worked = H.have_worked;
+    records_settled = records_settled;
+    items_settled = items_settled;
+    triggers_settled = lanes_as lanes _ _ (map (λ (end : PassedOn TenantItem PipelineItem). end.tails.items) ends.dispatchers.items) (sym (map_map (map (λ end. end.head)) (λ list. list.items) ends.workers.items)) triggers_settled;
+  }

@@ -1,0 +1,162 @@
+//! All threads of a run at once.
+ghost use Rattle.std.specs.Prelude.{◌≡◌, ◌-◌, ◌<◌, ◌^◌, All, IfOk, length, map};
+ghost use Rattle.gate_config.specs.Lookups.{connections_of};
+ghost use Rattle.gate_run.specs.Lists.{Pairwise};
+ghost use Rattle.gate_run.specs.PipelineEnds.{inbox_of};
+ghost use Rattle.gate_run.specs.Ports.{pipeline_counts};
+ghost use Rattle.gate_run.specs.Queues.{AreOpen};
+ghost use Rattle.gate_run.specs.Works.{Dispatched, Forwarded, HaveRun, Read, ReadyToDispatch, ReadyToForward, ReadyToRead, ReadyToWork, Worked};
+
+use crate::crossing::{config_crosses, is_shared};
+use crate::dispatcher::Dispatcher;
+use crate::fault::RunFault;
+use crate::forwarder::Forwarder;
+use crate::gate::Gate;
+use crate::gathering::Ends;
+use crate::posts::PipelineInbox;
+use crate::queues::{QueueSeats, Queues};
+use crate::reader::Reader;
+use crate::seating::{seat_dispatchers, seat_forwarders, seat_readers, seat_workers};
+use crate::signals::Signals;
+use crate::worker::Worker;
+use crate::works::{join_all, join_lists, start_all, start_lists};
+use gate_config::Config;
+use gate_source::{RecordFeed, StopCell};
+use std::alloc::Global;
+use std::sync::Wait;
+use std::sync::atomic::AtomicBool;
+use std::thread;
+use std::thread::Threads;
+use std::time::Clock;
+
+/// Seats a thread for each connection's reader and forwarder, each tenant's worker and each pipeline's, runs them all, and waits for
+/// them: what they handed back. `Memory` and `Thread` as those that run them.
+pub(crate) fn run_between<
+    'a,
+    F: RecordFeed + Drop + Send,
+    G: Gate + Sync,
+    R: Threads + Wait + Clock + Sync,
+>(
+    rt: &R,
+    alloc: Global,
+    config: &'a Config,
+    queues: &'a Queues,
+    seats: QueueSeats,
+    feeds: Vec<F>,
+    inbox: Vec<Vec<PipelineInbox>>,
+    cell: &'a StopCell,
+    gate: &'a G,
+) -> Result<Ends<F>, RunFault>
+    requires seats { AreOpen config.now queues.now seats }
+    requires feeds { length feeds.items ≡ length (connections_of config.now) }
+    requires few { All (λ feed. F.fault_count feed < 2 ^ 64 - 1) feeds.items }
+    requires inbox { map (λ row. length row.items) inbox.items ≡ pipeline_counts config.now }
+    ensures { IfOk result (λ ends. HaveRun G config.entry.now F.to_come F.fault_count feeds.items (map (λ row. map inbox_of row.items) inbox.items) cell.entry.now queues.entry.now ends) }
+{
+    let QueueSeats {
+        record_heads,
+        record_tails,
+        item_heads,
+        item_tails,
+        trigger_heads,
+        trigger_tails,
+    } = seats;
+    let (readers, reader_wakers) = seat_readers(
+        alloc,
+        config,
+        feeds,
+        &queues.records,
+        record_tails,
+        cell,
+    )?;
+    let (forwarders, forwarder_wakers) = seat_forwarders(
+        alloc,
+        config,
+        &queues.records,
+        record_heads,
+        &queues.items,
+        item_tails,
+    )?;
+    let (dispatchers, dispatcher_wakers) = seat_dispatchers(
+        alloc,
+        config,
+        &queues.items,
+        item_heads,
+        &queues.triggers,
+        trigger_tails,
+    )?;
+    let (workers, worker_wakers) = seat_workers(
+        alloc,
+        config,
+        &queues.triggers,
+        trigger_heads,
+        inbox,
+        gate,
+    )?;
+    let signals = Signals {
+        halted: AtomicBool::new(false),
+        readers: reader_wakers,
+        forwarders: forwarder_wakers,
+        dispatchers: dispatcher_wakers,
+        workers: worker_wakers,
+    };
+    run_works(
+        rt,
+        alloc,
+        &signals,
+        readers,
+        forwarders,
+        dispatchers,
+        workers,
+    )
+}
+
+// Starts a thread for each of these works, and waits for all of them: what they handed back. `Thread` where one can't be started, and
+// `Memory` where there is no room for a thread's handle or for what threads hand back; then those that run are told to halt, and are
+// waited for.
+fn run_works<'a, F: RecordFeed + Drop + Send, G: Gate + Sync, R: Threads + Wait + Clock + Sync>(
+    rt: &R,
+    alloc: Global,
+    signals: &Signals,
+    readers: Vec<Reader<'a, F>>,
+    forwarders: Vec<Forwarder<'a>>,
+    dispatchers: Vec<Dispatcher<'a>>,
+    workers: Vec<Vec<Worker<'a, G>>>,
+) -> Result<Ends<F>, RunFault>
+    requires readers { All (ReadyToRead F.fault_count) readers.items }
+    requires forwarders { All ReadyToForward forwarders.items }
+    requires dispatchers { All ReadyToDispatch dispatchers.items }
+    requires workers { All (λ list. All ReadyToWork list.items) workers.items }
+    ensures readers { IfOk result (λ ends. Pairwise (Read F.to_come F.fault_count) readers.entry.items ends.readers.items) }
+    ensures forwarders { IfOk result (λ ends. Pairwise Forwarded forwarders.entry.items ends.forwarders.items) }
+    ensures dispatchers { IfOk result (λ ends. Pairwise Dispatched dispatchers.entry.items ends.dispatchers.items) }
+    ensures workers { IfOk result (λ ends. Pairwise (Pairwise Worked) (map (λ list. list.items) workers.entry.items) (map (λ list. list.items) ends.workers.items)) }
+{
+    thread::scope(
+        thread::scope_env(),
+        rt,
+        move |scope| -> Result<Ends<F>, RunFault>
+            requires readers { All (ReadyToRead F.fault_count) readers.items }
+            requires forwarders { All ReadyToForward forwarders.items }
+            requires dispatchers { All ReadyToDispatch dispatchers.items }
+            requires workers { All (λ list. All ReadyToWork list.items) workers.items }
+            ensures readers { IfOk result (λ ends. Pairwise (Read F.to_come F.fault_count) readers.entry.items ends.readers.items) }
+            ensures forwarders { IfOk result (λ ends. Pairwise Forwarded forwarders.entry.items ends.forwarders.items) }
+            ensures dispatchers { IfOk result (λ ends. Pairwise Dispatched dispatchers.entry.items ends.dispatchers.items) }
+            ensures workers { IfOk result (λ ends. Pairwise (Pairwise Worked) (map (λ list. list.items) workers.entry.items) (map (λ list. list.items) ends.workers.items)) }
+        {
+            config_crosses();
+            is_shared::<G>();
+            let readers = start_all(scope, rt, alloc, signals, readers)?;
+            let forwarders = start_all(scope, rt, alloc, signals, forwarders)?;
+            let dispatchers = start_all(scope, rt, alloc, signals, dispatchers)?;
+            let workers = start_lists(scope, rt, alloc, signals, workers)?;
+            Ok(Ends {
+                readers: join_all(rt, signals, readers)?,
+                forwarders: join_all(rt, signals, forwarders)?,
+                dispatchers: join_all(rt, signals, dispatchers)?,
+                workers: join_lists(rt, alloc, signals, workers)?,
+            })
+        },
+    )
+}

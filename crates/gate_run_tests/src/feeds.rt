@@ -1,0 +1,96 @@
+//! Feeds of records that they have, and that they tell.
+use crate::gates::Meeting;
+use gate_record::{Memory, Queue, Record, Sequence};
+use gate_run::{FeedStep, RecordFeed};
+use std::alloc::Global;
+use std::sync::Wait;
+
+/// A feed that never fails.
+#[derive(Drop)]
+pub(crate) struct Feed<'a> {
+    records: Queue<Record>,
+    /// Where it comes, and waits for others, before its first record.
+    first: Option<&'a Meeting>,
+    /// Until all have come here it has nothing more, and doesn't end.
+    last: Option<&'a Meeting>,
+}
+
+impl<'a> Feed<'a> {
+    pub(crate) fn of(alloc: Global, lines: &[&str]) -> Result<Feed<'a>, Memory> {
+        let mut records = Queue::new(alloc);
+        for line in lines {
+            records.push(record(alloc, line)?)?;
+        }
+        Ok(Feed {
+            records,
+            first: None,
+            last: None,
+        })
+    }
+
+    pub(crate) fn repeated(alloc: Global, line: &str, count: u32) -> Result<Feed<'a>, Memory> {
+        let mut records = Queue::new(alloc);
+        for _ in 0..count {
+            records.push(record(alloc, line)?)?;
+        }
+        Ok(Feed {
+            records,
+            first: None,
+            last: None,
+        })
+    }
+
+    /// The same feed, which waits at a meeting before its first record.
+    pub(crate) fn meets(self, meeting: &'a Meeting) -> Feed<'a> {
+        Feed {
+            records: self.records,
+            first: Some(meeting),
+            last: self.last,
+        }
+    }
+
+    /// The same feed, which has no end before all have come to a meeting.
+    pub(crate) fn ends_after(self, meeting: &'a Meeting) -> Feed<'a> {
+        Feed {
+            records: self.records,
+            first: self.first,
+            last: Some(meeting),
+        }
+    }
+}
+
+impl<'a> RecordFeed for Feed<'a> {
+    ghost use Rattle.std.specs.Prelude.{Some};
+
+    ghost to_come = { λ feed. Some feed.records };
+
+    ghost fault_count = { λ feed. 0 };
+
+    fn next<R: Wait>(&mut self, _rt: &R) -> FeedStep {
+        if let Some(meeting) = self.first.take() {
+            meeting.come();
+            meeting.wait();
+        }
+        match self.records.pop() {
+            Some(record) => FeedStep::Got(record),
+            None if is_over(self.last) => FeedStep::Ended,
+            None => FeedStep::Pending,
+        }
+    }
+
+    fn faults(&self) -> u64 {
+        0
+    }
+}
+
+// Whether nobody is to be waited for any more.
+fn is_over(meeting: Option<&Meeting>) -> bool {
+    match meeting {
+        Some(meeting) => meeting.is_over(),
+        None => true,
+    }
+}
+
+fn record(alloc: Global, line: &str) -> Result<Record, Memory> {
+    Ok(Record::Line(Sequence::new(line.as_bytes().to_vec(alloc)?)))
+}

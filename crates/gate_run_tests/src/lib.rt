@@ -1,0 +1,18 @@
+//! Tests of `serve`: what comes of what feeds have, whatever the schedule. They stand apart from the other libraries' tests, which
+//! are proved while `serve` is.
+#![tactic(auto)]
+
+#[cfg(test)]
+mod feeds;
+#[cfg(test)]
+mod gates;
+#[cfg(test)]
+mod late;
+#[cfg(test)]
+mod meetings;
+#[cfg(test)]
+mod posts;
+#[cfg(test)]
+mod runs;
+#[cfg(test)]
+mod streams;

@@ -1,0 +1,148 @@
+ghost use Rattle.std.specs.Prelude.{◌≡◌, IfOk};
+
+use crate::feed::{FeedStep, RecordFeed};
+use crate::split::LineSplit;
+use gate_record::{Memory, Record};
+use std::alloc::Global;
+use std::collections::VecDeque;
+use std::io::Read;
+use std::sync::Wait;
+
+/// For how many bytes one read asks at the most.
+pub const READ_SIZE: usize = 65_536;
+
+/// The records of a stream that a reader gives: a file, a socket, or a text in memory. Each step reads once at the most; the records
+/// that one read completes are handed out one by one. It tells its records where its reader tells its bytes.
+#[derive(Drop)]
+pub struct ReaderFeed<R> {
+    alloc: Global,
+    reader: R,
+    buffer: Vec<u8>,
+    split: LineSplit,
+    // What was read and not handed out.
+    waiting: VecDeque<Record>,
+    has_ended: bool,
+    faults: u64,
+    ghost has_room: { 0 < vec_len buffer },
+    ghost of_line: { IsOfLine split },
+}
+
+ghost use Rattle.std.specs.Prelude.{◌<◌, vec_len};
+ghost use Rattle.gate_source.specs.Streams.{IsOfLine};
+
+impl<R: Read + Drop> ReaderFeed<R> {
+    ghost use Rattle.std.specs.Prelude.{◌-◌, ◌<◌, ◌≤◌, ◌^◌, [], false, Some, take, true, vec_len};
+    ghost use Rattle.gate_source.specs.Feeds.{Steps, faults_after};
+    ghost use Rattle.gate_source.specs.Streams.{StepsOver, still_of, still_told, told_of};
+
+    /// A feed over a reader of which nothing was read. `Memory` where its buffer finds no room.
+    pub fn new(alloc: Global, reader: R) -> Result<ReaderFeed<R>, Memory>
+        ensures tells { IfOk result (λ feed. ⟦<ReaderFeed<R> as RecordFeed>⟧.to_come feed ≡ told_of (R.remaining reader)) }
+        ensures faults { IfOk result (λ feed. ⟦<ReaderFeed<R> as RecordFeed>⟧.fault_count feed ≡ 0) }
+    {
+        Ok(ReaderFeed {
+            alloc,
+            reader,
+            buffer: buffer(alloc)?,
+            split: LineSplit::new(alloc),
+            waiting: VecDeque::new(alloc),
+            has_ended: false,
+            faults: 0,
+        })
+    }
+
+    // Reads once, and keeps what that completes.
+    fn read(&mut self) -> FeedStep
+        requires few { self.old.faults < 2 ^ 64 - 1 }
+        requires none { self.old.waiting.items ≡ [] }
+        requires goes_on { self.old.has_ended ≡ false }
+        ensures steps { Steps (still_told [] false self.old.split (R.remaining self.old.reader)) result (still_told self.new.waiting.items self.new.has_ended self.new.split (R.remaining self.new.reader)) }
+        ensures faults { self.new.faults ≡ faults_after result self.old.faults }
+    {
+        match self.reader.read(self.buffer.as_mut_slice()) {
+            Ok(0) => self.end(),
+            Ok(count) => self.feed(count),
+            Err(_) => {
+                self.faults += 1;
+                FeedStep::Fault
+            }
+        }
+    }
+
+    // Cuts what was read, and hands out the first record that it completes, if it does.
+    fn feed(&mut self, count: usize) -> FeedStep
+        requires count { count ≤ vec_len self.old.buffer }
+        requires none { self.old.waiting.items ≡ [] }
+        ensures steps { StepsOver self.old.split (take count self.old.buffer.items) result self.new.waiting.items self.new.split }
+        ensures reader { self.new.reader ≡ self.old.reader }
+        ensures goes_on { self.new.has_ended ≡ self.old.has_ended }
+        ensures faults { self.new.faults ≡ faults_after result self.old.faults }
+    {
+        match self.split.feed(&self.buffer[..count]) {
+            Ok(records) => {
+                self.waiting = VecDeque::from(records.into_vec());
+                match first_of(&mut self.waiting) {
+                    Some(record) => FeedStep::Got(record),
+                    None => FeedStep::Pending,
+                }
+            }
+            Err(Memory) => FeedStep::Memory,
+        }
+    }
+
+    // The record of what follows the last LF, now that nothing more comes.
+    fn end(&mut self) -> FeedStep
+        requires none { self.old.waiting.items ≡ [] }
+        ensures steps { Steps (Some (still_of self.old.split [])) result (Some []) }
+        ensures none { self.new.waiting.items ≡ [] }
+        ensures reader { self.new.reader ≡ self.old.reader }
+        ensures ended { self.new.has_ended ≡ true }
+        ensures faults { self.new.faults ≡ faults_after result self.old.faults }
+    {
+        self.has_ended = true;
+        let split = std::mem::replace(&mut self.split, LineSplit::new(self.alloc));
+        match split.finish() {
+            Some(record) => FeedStep::Got(record),
+            None => FeedStep::Ended,
+        }
+    }
+}
+
+impl<R: Read + Drop> RecordFeed for ReaderFeed<R> {
+    ghost use Rattle.gate_source.specs.Streams.{still_told};
+
+    ghost to_come = { λ feed. still_told feed.waiting.items feed.has_ended feed.split (R.remaining feed.reader) };
+
+    ghost fault_count = { λ feed. feed.faults };
+
+    fn next<W: Wait>(&mut self, _rt: &W) -> FeedStep {
+        if let Some(record) = first_of(&mut self.waiting) {
+            return FeedStep::Got(record);
+        }
+        if self.has_ended {
+            return FeedStep::Ended;
+        }
+        self.read()
+    }
+
+    fn faults(&self) -> u64 {
+        self.faults
+    }
+}
+
+ghost use Rattle.std.specs.Prelude.{◌∷◌, [], MatchOption};
+ghost use Rattle.gate_source.specs.declared.reader_feed.TheConstants.{READ_SIZE};
+
+// Takes the first of the records that wait.
+fn first_of(waiting: &mut VecDeque<Record>) -> Option<Record>
+    ensures { MatchOption result ((waiting.old.items ≡ []) × (waiting.new.items ≡ [])) (λ first. waiting.old.items ≡ first ∷ waiting.new.items) }
+{
+    waiting.pop_front()
+}
+
+// Room for a read.
+fn buffer(alloc: Global) -> Result<Vec<u8>, Memory>
+    ensures { IfOk result (λ room. vec_len room ≡ READ_SIZE) }
+{
+    Ok(vec![in alloc; 0u8; READ_SIZE]?)
+}
