@@ -60,6 +60,13 @@ impl Indexed {
         QueueItems::of_values(self.index.items.values())
     }
 
+    // How many items there are.
+    pub(crate) fn len(&self) -> usize
+        ensures { result ≡ length self.now.items }
+    {
+        self.index.items.len()
+    }
+
     // What was reported, first to last.
     pub(crate) fn reported(&self) -> &[Report]
         ensures { result.now ≡ self.now.reported }

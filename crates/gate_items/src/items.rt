@@ -1,4 +1,4 @@
-ghost use Rattle.std.specs.Prelude.{◌≡◌, OnErr, false, ◌<◌, ◌≤◌, ℕ};
+ghost use Rattle.std.specs.Prelude.{◌≡◌, OnErr, false, ◌<◌, ◌≤◌, ℕ, length};
 ghost use Rattle.gate_items.specs.History.{IsLate, MayTakeMemory, is_current, start};
 ghost use Rattle.gate_items.specs.Machine.{apply};
 ghost use Rattle.gate_items.specs.Steps.{Does};
@@ -72,6 +72,16 @@ impl Items {
         match &self.kept {
             Kept::Listed(listed) => listed.items(),
             Kept::Indexed(indexed) => indexed.items(),
+        }
+    }
+
+    /// How many queue items there are.
+    pub fn len(&self) -> usize
+        ensures { result ≡ length self.now.items }
+    {
+        match &self.kept {
+            Kept::Listed(listed) => listed.len(),
+            Kept::Indexed(indexed) => indexed.len(),
         }
     }
 

@@ -54,6 +54,13 @@ impl Listed {
         self.line.items()
     }
 
+    // How many items there are.
+    pub(crate) fn len(&self) -> usize
+        ensures { result ≡ length self.now.items }
+    {
+        self.line.len()
+    }
+
     // What was reported, first to last.
     pub(crate) fn reported(&self) -> &[Report]
         ensures { result.now ≡ self.now.reported }

@@ -1,0 +1,143 @@
+-- What a session may answer to a line, and what is posted by it.
+use Rattle.std.specs.Prelude.{◌≡◌, ◌≤◌, ◌<◌, ℕ, List, ◌++◌, codes, length, map, Option, Some, None, Result, Ok, Err, string_bytes}
+use Rattle.gate_record.specs.declared.record.Record.{Record}
+use Rattle.gate_record.specs.declared.record.Record.TheVariants.{Line, Oversize}
+use Rattle.gate_config.specs.declared.config.Config.{Config}
+use Rattle.gate_config.specs.Lookups.{pipelines_of}
+use Rattle.gate_source.specs.declared.stop.StopCause.{StopCause}
+use Rattle.gate_source.specs.Stops.{Learns, Note}
+use Rattle.gate_run.specs.declared.posts.PostFault.{PostFault}
+use Rattle.gate_run.specs.declared.posts.PostFault.TheVariants.{NoPipeline, Full}
+use Rattle.gate_run.specs.Ports.{PostEnds, PostsView, changed_at, pipeline_counts, posted}
+use Rattle.gate_status.specs.declared.command.Command.{Command}
+use Rattle.gate_status.specs.declared.command.Command.TheVariants as command
+use Rattle.gate_status.specs.declared.command.CommandFault.{CommandFault}
+use Rattle.gate_status.specs.declared.command.CommandFault.TheVariants as fault
+use Rattle.gate_status.specs.declared.fault.SessionEnd.{SessionEnd}
+use Rattle.gate_status.specs.declared.fault.SessionEnd.TheVariants as end
+use Rattle.gate_status.specs.declared.progress.Progress.{Progress}
+use Rattle.gate_status.specs.declared.reply.Reply.{Reply}
+use Rattle.gate_status.specs.declared.reply.Reply.TheVariants as reply
+use Rattle.gate_status.specs.Commands.{command_of}
+use Rattle.gate_status.specs.Status.{status_text}
+
+-- ---- texts
+
+abbrev pub fault_line : CommandFault → List ℕ
+fault_line fault.Empty = codes "empty\n"
+fault_line fault.Unknown = codes "unknown\n"
+fault_line fault.Arguments = codes "arguments\n"
+fault_line fault.Number = codes "number\n"
+fault_line fault.Memory = codes "memory\n"
+
+abbrev pub reply_text : Reply → List ℕ
+reply_text (reply.Shown text) = string_bytes text
+reply_text reply.Posted = codes "ok\n"
+reply_text reply.Full = codes "full\n"
+reply_text reply.NoPipeline = codes "no-pipeline\n"
+reply_text reply.Stopping = codes "ok\n"
+reply_text reply.Bye = codes "bye\n"
+reply_text (reply.Refused why) = fault_line why
+
+-- how a session ends with a reply, if it does
+abbrev pub end_of : Reply → Option SessionEnd
+end_of (reply.Shown text) = None
+end_of reply.Posted = None
+end_of reply.Full = None
+end_of reply.NoPipeline = None
+end_of reply.Stopping = Some end.Stop
+end_of reply.Bye = Some end.Quit
+end_of (reply.Refused why) = None
+
+-- the reply where nothing was posted
+abbrev pub refusal_of : {T : Type 0} → PostFault T → Reply
+refusal_of (NoPipeline value) = reply.NoPipeline
+refusal_of (Full value) = reply.Full
+
+-- ---- which reply may be given
+
+-- posts with a place for each pipeline of a configuration
+abbrev pub ArePostsFor : Config → PostsView → Type 0
+ArePostsFor config posts = map length posts.pipelines ≡ pipeline_counts config
+
+-- What a line asks for, or why it asks for nothing. A session reads fewer bytes than a line would have that is too long.
+abbrev pub asked_by : Record → Result Command CommandFault
+asked_by (Line bytes) = command_of bytes
+asked_by Oversize = Err fault.Unknown
+
+-- the pipeline to which something is to be posted
+abbrev pub addressed : Result Command CommandFault → Option (ℕ × ℕ)
+addressed (Err why) = None
+addressed (Ok command.Status) = None
+addressed (Ok command.Stop) = None
+addressed (Ok command.Quit) = None
+addressed (Ok (command.Manage tenant pipeline manage)) = Some (tenant.0, pipeline.0)
+addressed (Ok (command.Result tenant pipeline ended)) = Some (tenant.0, pipeline.0)
+
+-- it is one of the configuration, and it isn't
+abbrev pub IsThere : Config → Option (ℕ × ℕ) → Type 0
+IsThere config None = ⊥
+IsThere config (Some at) = at.1 < length (pipelines_of config at.0)
+
+abbrev pub IsMissing : Config → Option (ℕ × ℕ) → Type 0
+IsMissing config None = ⊥
+IsMissing config (Some at) = length (pipelines_of config at.0) ≤ at.1
+
+-- a command for which memory may be refused: any but `quit`
+abbrev pub MayTakeMemory : Result Command CommandFault → Type 0
+MayTakeMemory (Err why) = ⊥
+MayTakeMemory (Ok command.Status) = Unit {0}
+MayTakeMemory (Ok command.Stop) = Unit {0}
+MayTakeMemory (Ok command.Quit) = ⊥
+MayTakeMemory (Ok (command.Manage tenant pipeline manage)) = Unit {0}
+MayTakeMemory (Ok (command.Result tenant pipeline ended)) = Unit {0}
+
+abbrev pub MayRefuse : Result Command CommandFault → CommandFault → Type 0
+MayRefuse asked fault.Empty = asked ≡ Err fault.Empty
+MayRefuse asked fault.Unknown = asked ≡ Err fault.Unknown
+MayRefuse asked fault.Arguments = asked ≡ Err fault.Arguments
+MayRefuse asked fault.Number = asked ≡ Err fault.Number
+MayRefuse asked fault.Memory = MayTakeMemory asked
+
+-- The replies that may be given where this is asked for: the lines of all pipelines with any counts to `status`, `ok` or `full` where
+-- the pipeline is there to which something is to be posted and else `no-pipeline`, `ok` to `stop`, `bye` to `quit`, the line's own
+-- fault, and `memory`.
+abbrev pub MayReply : Config → Result Command CommandFault → Reply → Type 0
+MayReply config asked (reply.Shown text) = (asked ≡ Ok command.Status) × (board : List (List Progress)) × (string_bytes text ≡ status_text config board ++ codes "ok\n")
+MayReply config asked reply.Posted = IsThere config (addressed asked)
+MayReply config asked reply.Full = IsThere config (addressed asked)
+MayReply config asked reply.NoPipeline = IsMissing config (addressed asked)
+MayReply config asked reply.Stopping = asked ≡ Ok command.Stop
+MayReply config asked reply.Bye = asked ≡ Ok command.Quit
+MayReply config asked (reply.Refused why) = MayRefuse asked why
+
+-- ---- what a reply leaves
+
+-- one more management event or result stands behind those that were posted to its pipeline
+abbrev pub with_posted : Result Command CommandFault → List (List PostEnds) → List (List PostEnds)
+with_posted (Err why) posts = posts
+with_posted (Ok command.Status) posts = posts
+with_posted (Ok command.Stop) posts = posts
+with_posted (Ok command.Quit) posts = posts
+with_posted (Ok (command.Manage tenant pipeline manage)) posts =
+    changed_at tenant.0 pipeline.0 (λ (ends : PostEnds). record ends { management = posted manage ends.management }) posts
+with_posted (Ok (command.Result tenant pipeline ended)) posts =
+    changed_at tenant.0 pipeline.0 (λ (ends : PostEnds). record ends { results = posted ended ends.results }) posts
+
+-- just where that was answered `ok`
+abbrev pub posted_by : Result Command CommandFault → Reply → List (List PostEnds) → List (List PostEnds)
+posted_by asked (reply.Shown text) posts = posts
+posted_by asked reply.Posted posts = with_posted asked posts
+posted_by asked reply.Full posts = posts
+posted_by asked reply.NoPipeline posts = posts
+posted_by asked reply.Stopping posts = posts
+posted_by asked reply.Bye posts = posts
+posted_by asked (reply.Refused why) posts = posts
+
+-- what is known of the cause to stop changes just where the session ends by `stop`: then a cause is known
+abbrev pub NoteAfter : Option SessionEnd → Note → Note → Type 0
+NoteAfter None old new = new ≡ old
+NoteAfter (Some end.End) old new = new ≡ old
+NoteAfter (Some end.Limit) old new = new ≡ old
+NoteAfter (Some end.Quit) old new = new ≡ old
+NoteAfter (Some end.Stop) old new = (cause : StopCause) × Learns old cause new

@@ -1,0 +1,36 @@
+use crate::board::Board;
+use crate::progress::Progress;
+use gate_pipeline::Pipeline;
+use gate_record::{PipelineId, TenantId};
+use gate_run::Gate;
+use std::sync::{Mutex, Wait};
+
+/// A gate that keeps a board: it says there how far a pipeline is before each of its actions, and once its worker returns.
+/// A call waits for the board's lock; it takes no memory, and its time doesn't grow with what the pipeline has.
+#[derive(Drop)]
+pub struct BoardGate<'a> {
+    board: &'a Mutex<Board>,
+}
+
+impl<'a> BoardGate<'a> {
+    /// The gate of a board, which others may read meanwhile.
+    pub fn new(board: &'a Mutex<Board>) -> BoardGate<'a> {
+        BoardGate { board }
+    }
+
+    // Says on the board how far a pipeline is.
+    fn note<R: Wait>(&self, rt: &R, tenant: TenantId, pipeline: PipelineId, state: &Pipeline) {
+        let progress = Progress::of(state);
+        self.board.lock(rt).set(tenant, pipeline, progress);
+    }
+}
+
+impl<'a> Gate for BoardGate<'a> {
+    fn before<R: Wait>(&self, rt: &R, tenant: TenantId, pipeline: PipelineId, state: &Pipeline) {
+        self.note(rt, tenant, pipeline, state);
+    }
+
+    fn last<R: Wait>(&self, rt: &R, tenant: TenantId, pipeline: PipelineId, state: &Pipeline) {
+        self.note(rt, tenant, pipeline, state);
+    }
+}

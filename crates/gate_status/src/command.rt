@@ -1,0 +1,76 @@
+//! The commands of a status session.
+ghost use Rattle.std.specs.Prelude.{◌≡◌, IfErr, IfOk};
+ghost use Rattle.gate_status.specs.Commands.{IsFaultOf, command_of, has_texts};
+
+use crate::posts::posted_of;
+use crate::words::{is, is_blank, split_word};
+use gate_items::{JobResult, Manage};
+use gate_record::{PipelineId, TenantId};
+use std::alloc::Global;
+
+/// What a line of a status session asks for.
+#[derive(Debug, Drop)]
+pub enum Command {
+    /// The items of each pipeline are to be shown.
+    Status,
+    /// The program is to end, once what it has read is done.
+    Stop,
+    /// The session is to end.
+    Quit,
+    /// An item of a pipeline is to be taken out (`dequeue`), or to get a new build set (`reset`).
+    Manage(TenantId, PipelineId, Manage),
+    /// A job of a build set of a pipeline has ended.
+    Result(TenantId, PipelineId, JobResult),
+}
+
+/// Why a line asks for nothing.
+#[derive(Clone, Copy, Debug, PartialEq, Eq)]
+pub enum CommandFault {
+    /// The line has nothing but spaces.
+    Empty,
+    /// The first word is no command.
+    Unknown,
+    /// A field is missing, empty, one too many, or none of the words or texts that may stand there.
+    Arguments,
+    /// A field that should be a number isn't one, or is too large.
+    Number,
+    /// Memory was refused for the copy of a text.
+    Memory,
+}
+
+/// Reads a line: `status`, `stop`, `quit`, or a line `dequeue T P KEY`, `reset T P KEY` or `result T P SET success|failure JOB`
+/// of a script, without its line end. The first word decides, and then the fields from left to right; the first that is
+/// missing or wrong is the fault. Whether there is such a tenant, pipeline or connection isn't asked. `Memory` only where a
+/// line that asks for something has texts to copy: those of a ref's key, or the name of a job.
+pub fn parse_command(alloc: Global, line: &[u8]) -> Result<Command, CommandFault>
+    ensures ok { IfOk result (λ command. command_of line.now ≡ Ok command) }
+    ensures fault { IfErr result (IsFaultOf has_texts (command_of line.now)) }
+{
+    if is_blank(line) {
+        return Err(CommandFault::Empty);
+    }
+    let (word, rest) = split_word(line);
+    match (plain_of(word), rest) {
+        (Some(command), None) => Ok(command),
+        (Some(_), Some(_)) => Err(CommandFault::Arguments),
+        (None, rest) => posted_of(alloc, word, rest),
+    }
+}
+
+ghost use Rattle.gate_status.specs.Commands.{plain_of};
+
+// A command of one word.
+fn plain_of(word: &[u8]) -> Option<Command>
+    ensures { result ≡ plain_of word.now }
+{
+    if is(word, "status") {
+        return Some(Command::Status);
+    }
+    if is(word, "stop") {
+        return Some(Command::Stop);
+    }
+    if is(word, "quit") {
+        return Some(Command::Quit);
+    }
+    None
+}

@@ -1,0 +1,102 @@
+//! Readers and writers whose errors are counted.
+ghost use Rattle.std.specs.Prelude.{◌≡◌, ℕ, List, Option, OnOk, length};
+ghost use Rattle.std.specs.Io.{ReadsAtMost, WritesAtMost};
+ghost use Rattle.std.specs.Io.KnownBytes.{Appends, Keeps, ReadConsumes, WriteAppends};
+ghost use Rattle.gate_status.specs.Counts.{counted};
+
+use std::io;
+use std::io::{Read, Write};
+use std::marker::Model;
+
+/// A reader or a writer, and how many of its calls have answered an error.
+#[derive(Drop)]
+pub struct Counted<D> {
+    device: D,
+    faults: u64,
+}
+
+impl<D> Model for Counted<D> {
+    ghost use Rattle.gate_status.specs.Counts.{Device};
+
+    ghost Value = { Device D };
+
+    ghost view = { λ c. record { device = c.device; faults = c.faults } };
+}
+
+impl<D> Counted<D> {
+    /// Takes over a reader or a writer. It takes no memory.
+    pub fn new(device: D) -> Counted<D>
+        ensures device { result.device ≡ device }
+        ensures faults { result.faults ≡ 0 }
+    {
+        Counted { device, faults: 0 }
+    }
+
+    /// How many calls have answered an error, up to the last u64.
+    pub fn faults(&self) -> u64
+        ensures { result ≡ self.now.faults }
+    {
+        self.faults
+    }
+
+    /// Gives the reader or the writer back.
+    pub fn into_inner(self) -> D
+        ensures { result ≡ self.device }
+    {
+        self.device
+    }
+
+    // Counts an error.
+    fn count<T, E>(&mut self, answer: Result<T, E>) -> Result<T, E>
+        ensures answer { result ≡ answer }
+        ensures device { self.new.device ≡ self.old.device }
+        ensures faults { self.new.faults ≡ counted answer self.old.faults }
+    {
+        if answer.is_err() {
+            self.faults = self.faults.saturating_add(1);
+        }
+        answer
+    }
+}
+
+impl<R: Read> Read for Counted<R> {
+    ghost remaining = { λ c. R.remaining c.device };
+
+    fn read(&mut self, buf: &mut [u8]) -> io::Result<usize>
+        ensures bound { ReadsAtMost result buf.new }
+        ensures bytes { ReadConsumes (R.remaining self.old.device) (R.remaining self.new.device) result buf.new }
+        ensures faults { self.new.faults ≡ counted result self.old.faults }
+    {
+        let answer = self.device.read(buf);
+        self.count(answer)
+    }
+}
+
+impl<W: Write> Write for Counted<W> {
+    ghost contents = { λ c. W.contents c.device };
+
+    fn write(&mut self, buf: &[u8]) -> io::Result<usize>
+        ensures bound { WritesAtMost result buf.now }
+        ensures bytes { WriteAppends (W.contents self.old.device) (W.contents self.new.device) result buf.now }
+        ensures faults { self.new.faults ≡ counted result self.old.faults }
+    {
+        let answer = self.device.write(buf);
+        self.count(answer)
+    }
+
+    fn flush(&mut self) -> io::Result<()>
+        ensures bytes { Keeps (W.contents self.old.device) (W.contents self.new.device) }
+        ensures faults { self.new.faults ≡ counted result self.old.faults }
+    {
+        let answer = self.device.flush();
+        self.count(answer)
+    }
+
+    fn write_all(&mut self, buf: &[u8]) -> io::Result<()>
+        ensures bytes { OnOk result (Appends (W.contents self.old.device) (W.contents self.new.device) buf.now) }
+        ensures faults { self.new.faults ≡ counted result self.old.faults }
+    {
+        let answer = self.device.write_all(buf);
+        self.count(answer)
+    }
+}

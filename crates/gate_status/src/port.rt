@@ -1,0 +1,53 @@
+//! A whole session.
+ghost use Rattle.std.specs.Prelude.{◌<◌, ◌-◌, ◌^◌, IfErr, IfOk};
+ghost use Rattle.gate_status.specs.Listened.{Rises};
+ghost use Rattle.gate_status.specs.Replies.{ArePostsFor};
+ghost use Rattle.gate_status.specs.Talks.{Answers};
+
+use crate::board::Board;
+use crate::counted::Counted;
+use crate::fault::{SessionEnd, SessionFault};
+use crate::listening::Listening;
+use crate::talking::{answer_all, answer_last};
+use gate_config::Config;
+use gate_record::Memory;
+use gate_run::Posts;
+use std::io::{Read, Write};
+use std::sync::{Mutex, Wait};
+
+/// Reads lines and answers each, in order, until the reader ends, `quit` is answered, `stop` is answered `ok`, or 1,048,576 bytes were
+/// read; then the lines that have ended among these have their answers. An empty line has none.
+///
+/// `posts` were opened on this configuration, and each device has answered fewer than 2^64 - 1 errors.
+///
+/// `Read` and `Write` where that device answered an error, and `Memory` where it was refused for what is read; the session is over
+/// then, and nothing is said of what it posted or wrote. Memory that is refused for what a line asks for is that line's answer.
+pub fn session<X: AllocGlobal + Wait, R: Read, W: Write>(
+    rt: &X,
+    input: &mut Counted<R>,
+    output: &mut Counted<W>,
+    config: &Config,
+    board: &Mutex<Board>,
+    posts: &mut Posts,
+) -> Result<SessionEnd, SessionFault>
+    requires few_reads { input.old.faults < 2 ^ 64 - 1 }
+    requires few_writes { output.old.faults < 2 ^ 64 - 1 }
+    requires for_config { ArePostsFor config.now posts.old }
+    ensures answers { IfOk result (λ how. Answers config.now how (R.remaining input.old.device) (R.remaining input.new.device) (W.contents output.old.device) (W.contents output.new.device) posts.old posts.new) }
+    ensures for_config { ArePostsFor config.now posts.new }
+    ensures faults { IfErr result (λ fault. Rises fault input.old.faults input.new.faults output.old.faults output.new.faults) }
+{
+    let mut listening = match Listening::new(rt.alloc()) {
+        Ok(listening) => listening,
+        Err(Memory) => return Err(SessionFault::Memory),
+    };
+    while listening.has_room() {
+        let Some(lines) = listening.read(input)? else {
+            return answer_last(rt, output, config, board, posts, listening.finish());
+        };
+        if let Some(how) = answer_all(rt, output, config, board, posts, lines.as_slice())? {
+            return Ok(how);
+        }
+    }
+    Ok(SessionEnd::Limit)
+}

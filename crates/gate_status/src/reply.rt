@@ -1,0 +1,69 @@
+//! What a session answers to a line.
+ghost use Rattle.std.specs.Prelude.{◌≡◌};
+ghost use Rattle.gate_status.specs.Replies.{end_of, fault_line, reply_text};
+
+use crate::command::CommandFault;
+use crate::fault::SessionEnd;
+
+/// What a session answers to a line.
+#[derive(Debug, Drop)]
+pub enum Reply {
+    /// How far the pipelines are: the text, its last line `ok`.
+    Shown(String),
+    /// A management event or a result was posted: `ok`.
+    Posted,
+    /// The pipeline's queue was full at some moment, and nothing was posted: `full`.
+    Full,
+    /// There is no such pipeline: `no-pipeline`.
+    NoPipeline,
+    /// The run was asked to stop, and the session ends: `ok`.
+    Stopping,
+    /// The session ends: `bye`.
+    Bye,
+    /// The line asks for nothing, or memory was refused for what it asks: `empty`, `unknown`, `arguments`, `number` or `memory`.
+    Refused(CommandFault),
+}
+
+impl Reply {
+    /// The text: lines, the last of which says how it went.
+    pub fn text(&self) -> &str
+        ensures { result.now ≡ reply_text self.now }
+    {
+        match self {
+            Reply::Shown(text) => text.as_str(),
+            Reply::Posted => "ok\n",
+            Reply::Full => "full\n",
+            Reply::NoPipeline => "no-pipeline\n",
+            Reply::Stopping => "ok\n",
+            Reply::Bye => "bye\n",
+            Reply::Refused(fault) => fault_line(fault),
+        }
+    }
+
+    /// How the session ends with this, if it does.
+    pub fn end(&self) -> Option<SessionEnd>
+        ensures { result ≡ end_of self.now }
+    {
+        match self {
+            Reply::Stopping => Some(SessionEnd::Stop),
+            Reply::Bye => Some(SessionEnd::Quit),
+            Reply::Shown(_) => None,
+            Reply::Posted => None,
+            Reply::Full => None,
+            Reply::NoPipeline => None,
+            Reply::Refused(_) => None,
+        }
+    }
+}
+
+fn fault_line(fault: &CommandFault) -> &'static str
+    ensures { result.now ≡ fault_line fault.now }
+{
+    match fault {
+        CommandFault::Empty => "empty\n",
+        CommandFault::Unknown => "unknown\n",
+        CommandFault::Arguments => "arguments\n",
+        CommandFault::Number => "number\n",
+        CommandFault::Memory => "memory\n",
+    }
+}
