@@ -55,9 +55,12 @@ class Judging:
                 shutil.copytree(f"{self.crate.folder}/out/incremental", f"{self.room}/kept")
             self.judge_all()
 
-    def judge_all(self):
+    def tell_unfit(self):
+        """Tells which edits can't be judged, by their texts alone."""
         for name, why in self.sources.unfit:
             self.tell(name, "FAILED", why)
+
+    def judge_all(self):
         controls = self.sources.controls
         if not controls or not all(it.is_inside for it in controls):
             return self.tell("control", "FAILED", "there is no control-NAME.edit that changes the inside of one function")
