@@ -1,6 +1,7 @@
 use gate_config::ConfigFault;
 use gate_core::ReplayFault;
 use gate_record::Memory;
+use gate_run::RunFault;
 use std::alloc::{AllocError, AllocFailed};
 use std::fmt;
 
@@ -11,10 +12,19 @@ pub enum Fault {
     Memory,
     /// A file that can't be read; `-` is standard input.
     File(String),
+    /// A thread can't be started.
+    Thread,
+    /// What the word STATUS names can't be listened on.
+    Listen(String),
+    /// The socket that this word names can't be connected to.
+    Connect(String),
     /// Standard output can't be written.
     Write,
     /// The words are no form that is known.
     Usage,
+    /// A word that names no stream, or the stream of a connection that isn't there or has one; or the name of a connection that has
+    /// none.
+    Source(String),
     /// The document is no configuration.
     Config(ConfigFault),
     /// The first line of the script that stands for nothing, counted from 1.
@@ -26,7 +36,8 @@ impl Fault {
     pub fn status(&self) -> u8 {
         match self {
             Fault::Memory | Fault::File(_) | Fault::Write => 1,
-            Fault::Usage => 2,
+            Fault::Thread | Fault::Listen(_) | Fault::Connect(_) => 1,
+            Fault::Usage | Fault::Source(_) => 2,
             Fault::Config(ConfigFault::Memory) => 1,
             Fault::Config(_) | Fault::Script(_) => 3,
         }
@@ -38,8 +49,12 @@ impl fmt::Display for Fault {
         match self {
             Fault::Memory => f.write_str("memory"),
             Fault::File(path) => write!(f, "file {path}"),
+            Fault::Thread => f.write_str("thread"),
+            Fault::Listen(word) => write!(f, "listen {word}"),
+            Fault::Connect(word) => write!(f, "connect {word}"),
             Fault::Write => f.write_str("write"),
             Fault::Usage => f.write_str("usage"),
+            Fault::Source(word) => write!(f, "source {word}"),
             Fault::Config(fault) => write!(f, "{fault}"),
             Fault::Script(line) => write!(f, "script {line}"),
         }
@@ -69,6 +84,15 @@ impl From<ConfigFault> for Fault {
         match fault {
             ConfigFault::Memory => Fault::Memory,
             fault => Fault::Config(fault),
+        }
+    }
+}
+
+impl From<RunFault> for Fault {
+    fn from(fault: RunFault) -> Fault {
+        match fault {
+            RunFault::Memory => Fault::Memory,
+            RunFault::Thread => Fault::Thread,
         }
     }
 }

@@ -1,8 +1,14 @@
 //! The program `gate`.
 #![tactic(auto)]
 
+mod address;
 mod fault;
+mod port;
 mod program;
+mod serving;
+mod sessions;
+mod sources;
+mod stream;
 #[cfg(test)]
 mod tests;
 mod words;

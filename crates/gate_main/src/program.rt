@@ -1,10 +1,16 @@
 use crate::fault::Fault;
+use crate::serving::serve_words;
 use crate::words::{Task, task_of};
 use gate_config::{check_text, read_config};
 use gate_core::replay;
 use std::alloc::Global;
+use std::fs::File;
 use std::io::{ErrorKind, Read, Write};
+use std::net::{Net, TcpListener, TcpStream};
 use std::rt::Files;
+use std::sync::Wait;
+use std::thread::Threads;
+use std::time::Clock;
 use std::{fs, io};
 
 /// Does what the program's words ask for, its name first, and gives the exit status: 0, or that of the fault, whose
@@ -18,7 +24,16 @@ pub fn run_words<X, R, O, E>(
     errors: &mut E,
 ) -> u8
 where
-    X: Files + AllocGlobal,
+    X: Files<File = File>
+        + Net<Stream = TcpStream, Listener = TcpListener>
+        + Threads
+        + Wait
+        + Clock
+        + AllocGlobal
+        + Copy
+        + Send
+        + Sync
+        + 'static,
     R: Read,
     O: Write,
     E: Write,
@@ -37,7 +52,16 @@ pub fn tell<E: Write>(fault: &Fault, errors: &mut E) -> u8 {
 
 fn run_task<X, R, O>(rt: &X, words: &[String], input: &mut R, output: &mut O) -> Result<(), Fault>
 where
-    X: Files + AllocGlobal,
+    X: Files<File = File>
+        + Net<Stream = TcpStream, Listener = TcpListener>
+        + Threads
+        + Wait
+        + Clock
+        + AllocGlobal
+        + Copy
+        + Send
+        + Sync
+        + 'static,
     R: Read,
     O: Write,
 {
@@ -48,6 +72,14 @@ where
             let document = file(rt, config)?;
             let script = file(rt, script)?;
             replay(alloc, document.as_slice(), script.as_slice())?
+        }
+        Task::Serve {
+            config,
+            status,
+            sources,
+        } => {
+            let document = file(rt, config)?;
+            serve_words(rt, document.as_slice(), status.as_str(), sources.as_slice())?
         }
         Task::Input => replay_input(alloc, input)?,
     };

@@ -7,9 +7,14 @@ mod streams;
 use crate::program::run_words;
 use std::alloc::{AllocError, Global};
 use std::fs;
+use std::fs::File;
 use std::io::{Read, Write};
+use std::net::{Net, TcpListener, TcpStream};
 use std::process::Abort;
 use std::rt::Files;
+use std::sync::Wait;
+use std::thread::Threads;
+use std::time::Clock;
 
 const BASE: &str =
     r#"{"tenants":[{"name":"main","source":{"gerrit":{"untrusted-projects":["demo"]}}}],"config":{"main":[{"pipeline":{"name":"check","manager":"independent","trigger":{"gerrit":[{"event":"patchset-created"}]}}},{"project":{"name":"demo","check":{"jobs":["build"]}}}]}}"#;
@@ -48,7 +53,16 @@ fn outcome<X, R, O>(
     output: &mut O,
 ) -> Result<(u8, Vec<u8>), AllocError>
 where
-    X: Files + AllocGlobal,
+    X: Files<File = File>
+        + Net<Stream = TcpStream, Listener = TcpListener>
+        + Threads
+        + Wait
+        + Clock
+        + AllocGlobal
+        + Copy
+        + Send
+        + Sync
+        + 'static,
     R: Read,
     O: Write,
 {
@@ -61,7 +75,17 @@ where
 // Runs the program on these words and this standard input, and compares what comes of it.
 fn compare<X>(rt: &X, words: &[&str], input: &str, status: u8, text: &str, line: &str)
 where
-    X: Files + AllocGlobal + Abort,
+    X: Files<File = File>
+        + Net<Stream = TcpStream, Listener = TcpListener>
+        + Threads
+        + Wait
+        + Clock
+        + AllocGlobal
+        + Copy
+        + Send
+        + Sync
+        + Abort
+        + 'static,
 {
     let mut output: Vec<u8> = Vec::new(rt.alloc());
     let (found, errors) = given(rt, outcome(rt, words, &mut input.as_bytes(), &mut output));

@@ -1,4 +1,5 @@
 use crate::fault::Fault;
+use crate::port::port_address;
 use clap::error::ErrorKind;
 use clap::{Arg, ArgAction, ArgMatches, Command, Error};
 use std::alloc::{AllocError, Global};
@@ -8,10 +9,21 @@ use std::io;
 #[derive(Debug, Drop)]
 pub enum Task {
     /// To print what a configuration says, a path.
-    Check { config: String },
+    Check {
+        config: String,
+    },
     /// To replay a script by a configuration, each a path.
-    Replay { config: String, script: String },
-    /// The same from standard input: its first line is the configuration, the rest the script.
+    Replay {
+        config: String,
+        script: String,
+    },
+    /// To run a configuration, a path, over the streams of its connections, with a status port where there is to be one.
+    Serve {
+        config: String,
+        status: String,
+        sources: Vec<String>,
+    },
+    /// To replay what standard input has: its first line is the configuration, the rest the script.
     Input,
 }
 
@@ -30,10 +42,16 @@ fn command<'a>(alloc: Global) -> Result<Command<'a>, AllocError> {
     let replay = plain(alloc, "replay")
         .arg(path(alloc, "config"))?
         .arg(path(alloc, "script"))?;
+    let sources = path(alloc, "source").required(false).num_args(0..);
+    let serve = plain(alloc, "serve")
+        .arg(path(alloc, "config"))?
+        .arg(path(alloc, "status"))?
+        .arg(sources)?;
     plain(alloc, "gate")
         .disable_help_subcommand(true)
         .subcommand(check)?
-        .subcommand(replay)
+        .subcommand(replay)?
+        .subcommand(serve)
 }
 
 // A command without clap's own help and version.
@@ -51,16 +69,40 @@ fn task_in(alloc: Global, matches: &ArgMatches<'_>) -> Result<Task, Fault> {
     let Some((name, words)) = matches.subcommand() else {
         return Ok(Task::Input);
     };
-    match (name, words.get_str("config"), words.get_str("script")) {
-        ("check", Some(config), _) => Ok(Task::Check {
+    match (name, words.get_str("config")) {
+        ("check", Some(config)) => Ok(Task::Check {
             config: String::from_str(alloc, config)?,
         }),
-        ("replay", Some(config), Some(script)) => Ok(Task::Replay {
-            config: String::from_str(alloc, config)?,
-            script: String::from_str(alloc, script)?,
-        }),
+        ("replay", Some(config)) => replay_in(alloc, config, words),
+        ("serve", Some(config)) => serve_in(alloc, config, words),
         _ => Err(Fault::Usage),
     }
+}
+
+fn replay_in(alloc: Global, config: &str, words: &ArgMatches<'_>) -> Result<Task, Fault> {
+    let Some(script) = words.get_str("script") else {
+        return Err(Fault::Usage);
+    };
+    Ok(Task::Replay {
+        config: String::from_str(alloc, config)?,
+        script: String::from_str(alloc, script)?,
+    })
+}
+
+fn serve_in(alloc: Global, config: &str, words: &ArgMatches<'_>) -> Result<Task, Fault> {
+    let Some(status) = words.get_str("status") else {
+        return Err(Fault::Usage);
+    };
+    port_address(status)?;
+    let mut sources = Vec::new(alloc);
+    for word in words.get_strs("source").unwrap_or(&[]) {
+        sources.push(String::from_str(alloc, word)?)?;
+    }
+    Ok(Task::Serve {
+        config: String::from_str(alloc, config)?,
+        status: String::from_str(alloc, status)?,
+        sources,
+    })
 }
 
 fn fault_of(error: &Error) -> Fault {

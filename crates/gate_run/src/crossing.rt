@@ -61,8 +61,8 @@ fn pipeline_crosses()
     crosses::<PipelineSpec>();
 }
 
-/// A configuration may be lent to threads.
-pub(crate) fn config_crosses()
+/// A configuration may be given and lent to other threads: a law, for those that start some of their own.
+pub fn config_crosses()
     ensures send { IsSend config_type.the_row }
     ensures sync { IsSync config_type.the_row }
 {

@@ -22,6 +22,7 @@ mod went;
 mod worker;
 mod works;
 
+pub use crossing::config_crosses;
 pub use fault::RunFault;
 pub use gate::Gate;
 pub use gate_source::{FeedStep, ReaderFeed, RecordFeed};

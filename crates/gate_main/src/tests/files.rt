@@ -1,18 +1,48 @@
 //! Files that want memory.
 use super::*;
 use std::alloc::Allocator;
-use std::fs::{File, Metadata, OpenOptions};
+use std::fs::{Metadata, OpenOptions};
 use std::io;
+use std::net::SocketAddr;
+use std::time::Duration;
 
-// Has no memory for any file.
-#[derive(Drop)]
-struct Refusing(Global);
+// A host that has no memory for any file.
+#[derive(Clone, Copy)]
+struct Refusing<X>(X);
 
-impl Alloc for Refusing {
+impl<X: AllocGlobal> Alloc for Refusing<X> {
     type A = Global;
 
     fn alloc(&self) -> Global {
-        self.0
+        self.0.alloc()
+    }
+}
+
+impl<X: Wait> Wait for Refusing<X> {}
+
+impl<X: Threads> Threads for Refusing<X> {}
+
+impl<X: Clock> Clock for Refusing<X> {
+    fn monotonic(&self) -> io::Result<Duration> {
+        self.0.monotonic()
+    }
+
+    fn since_1970(&self) -> io::Result<Duration> {
+        self.0.since_1970()
+    }
+}
+
+impl<X> Net for Refusing<X> {
+    type Stream = TcpStream;
+
+    type Listener = TcpListener;
+
+    fn bind(&self, _addr: SocketAddr) -> io::Result<TcpListener> {
+        refused()
+    }
+
+    fn connect(&self, _addr: SocketAddr) -> io::Result<TcpStream> {
+        refused()
     }
 }
 
@@ -20,7 +50,7 @@ fn refused<T>() -> io::Result<T> {
     Err(io::Error::from(AllocError))
 }
 
-impl Files for Refusing {
+impl<X> Files for Refusing<X> {
     type File = File;
 
     type Dir = File;
@@ -70,12 +100,7 @@ impl Files for Refusing {
 fn tells_want_of_memory_as_such(rt: HostRuntime) {
     let mut output: Vec<u8> = Vec::new(rt.alloc());
     let words = ["gate", "check", "config.json"];
-    let read = outcome(
-        &Refusing(rt.alloc()),
-        &words,
-        &mut b"".as_slice(),
-        &mut output,
-    );
+    let read = outcome(&Refusing(rt), &words, &mut b"".as_slice(), &mut output);
     let (status, errors) = given(&rt, read);
     assert_eq!(rt; errors.as_slice(), b"fault: memory\n".as_slice());
     assert_eq!(rt; status, 1);

@@ -1,0 +1,112 @@
+//! `gate serve`: the streams are opened, the port is listened on, and a report is made of what has run.
+ghost use Rattle.std.specs.Prelude.{◌≡◌, ◌-◌, ◌<◌, ◌^◌, All, length};
+ghost use Rattle.gate_config.specs.Lookups.{connections_of};
+
+use crate::address::Address;
+use crate::fault::Fault;
+use crate::port::{Port, port_address};
+use crate::sessions::Sessions;
+use crate::sources::{open_feeds, sources_of};
+use crate::stream::Stream;
+use gate_config::{Config, read_config};
+use gate_core::report_text;
+use gate_record::Shared;
+use gate_run::{Posts, ReaderFeed, RecordFeed, serve};
+use gate_status::{Board, BoardGate};
+use std::fs;
+use std::fs::File;
+use std::io::ErrorKind;
+use std::net::{Net, TcpListener, TcpStream};
+use std::rt::Files;
+use std::sync::{Mutex, Wait};
+use std::thread::Threads;
+use std::time::Clock;
+
+/// Runs the configuration of a document over the streams of these words, with a port where STATUS asks for one, and gives the report.
+///
+/// The faults come in this order: those of the configuration; `Usage` for STATUS; `Source` for the words; `Listen`; `File` and
+/// `Connect` for the streams, in the order of their words; `Thread`. `Memory` where it is refused.
+pub fn serve_words<X>(
+    rt: &X,
+    document: &[u8],
+    status: &str,
+    words: &[String],
+) -> Result<String, Fault>
+where
+    X: Files<File = File>
+        + Net<Stream = TcpStream, Listener = TcpListener>
+        + Threads
+        + Wait
+        + Clock
+        + AllocGlobal
+        + Copy
+        + Send
+        + Sync
+        + 'static,
+{
+    let alloc = rt.alloc();
+    let config = read_config(alloc, document)?;
+    let address = port_address(status)?;
+    let sources = sources_of(alloc, &config, words)?;
+    let port = listen(rt, status, address)?;
+    let ran = match open_feeds(rt, &config, sources.as_slice()) {
+        Ok(feeds) => run(rt, config, feeds, port),
+        Err(fault) => Err(fault),
+    };
+    // While it is listened on, nobody else takes the socket for an abandoned one.
+    if let Some(Address::Unix(path)) = address {
+        let _ = fs::remove_file(rt, path);
+    }
+    let (report, _port) = ran?;
+    Ok(report)
+}
+
+fn listen<X: Files + Net<Stream = TcpStream, Listener = TcpListener> + AllocGlobal>(
+    rt: &X,
+    word: &str,
+    address: Option<Address<'_>>,
+) -> Result<Option<Port>, Fault> {
+    let Some(address) = address else {
+        return Ok(None);
+    };
+    match Port::listen(rt, address) {
+        Ok(port) => Ok(Some(port)),
+        Err(error) if error.kind() == ErrorKind::OutOfMemory => Err(Fault::Memory),
+        Err(_) => Err(Fault::Listen(String::from_str(rt.alloc(), word)?)),
+    }
+}
+
+// Runs until the streams are worked off or a session has ended by `stop`; where there is a port, one has to. The report, and the port.
+fn run<X>(
+    rt: &X,
+    config: Config,
+    feeds: Vec<ReaderFeed<Stream>>,
+    port: Option<Port>,
+) -> Result<(String, Option<Port>), Fault>
+where
+    X: Threads + Wait + Clock + AllocGlobal + Copy + Send + Sync + 'static,
+    requires feeds { length feeds.items ≡ length (connections_of config) }
+    requires few { All (λ feed. ⟦<ReaderFeed<Stream> as RecordFeed>⟧.fault_count feed < 2 ^ 64 - 1) feeds.items }
+{
+    let alloc = rt.alloc();
+    let config = Shared::new(alloc, config)?;
+    let board = Shared::new(alloc, Mutex::new(Board::new(alloc, config.get())?))?;
+    let (posts, inbox) = Posts::open(alloc, config.get())?;
+    let sessions = match port {
+        Some(port) => {
+            let sessions = Sessions::new(port, config.share()?, board.share()?, posts);
+            Some(sessions.start(rt, (*rt, alloc))?)
+        }
+        None => None,
+    };
+    let served = serve(
+        rt,
+        alloc,
+        config.get(),
+        feeds,
+        inbox,
+        &BoardGate::new(board.get()),
+    )?;
+    let port = sessions.map(|sessions| sessions.join(rt));
+    Ok((report_text(alloc, config.get(), &served.report)?, port))
+}

@@ -1,0 +1,108 @@
+//! The sessions of the status port, in a thread of their own.
+ghost use Rattle.gate_status.specs.Replies.{ArePostsFor};
+
+use crate::fault::Fault;
+use crate::port::Port;
+use gate_config::Config;
+use gate_record::Shared;
+use gate_run::{Posts, config_crosses};
+use gate_status::{Board, Counted, SessionEnd, SessionFault, session};
+use std::alloc::Global;
+use std::io::{Read, Write};
+use std::sync::{Mutex, Wait};
+use std::thread::{JoinHandle, Threads};
+use std::time::{Clock, Duration};
+use std::{io, thread};
+
+/// The sessions of a port, each of which reads and posts by one configuration.
+#[derive(Drop)]
+pub struct Sessions {
+    port: Port,
+    config: Shared<Config>,
+    board: Shared<Mutex<Board>>,
+    posts: Posts,
+    ghost for_config: { ArePostsFor config posts },
+}
+
+// For how many milliseconds the port is left alone where it had no session to give.
+const PAUSE: u64 = 100;
+
+impl Sessions {
+    /// The sessions that a port will have.
+    pub fn new(
+        port: Port,
+        config: Shared<Config>,
+        board: Shared<Mutex<Board>>,
+        posts: Posts,
+    ) -> Sessions
+        requires for_config { ArePostsFor config posts }
+    {
+        Sessions {
+            port,
+            config,
+            board,
+            posts,
+        }
+    }
+
+    /// Serves them in a thread of their own, one after the other, until one has ended by `stop`; then the thread hands the port back, on
+    /// which it has listened all the while. `Thread` where none can be started.
+    pub fn start<X: Threads + Wait + Clock + Copy + Send + 'static>(
+        self,
+        rt: &X,
+        own: (X, Global),
+    ) -> Result<JoinHandle<Port>, Fault> {
+        config_crosses();
+        match thread::spawn(rt, move || self.serve(&own)) {
+            Ok(thread) => Ok(thread),
+            Err(_) => Err(Fault::Thread),
+        }
+    }
+
+    // A session that fails is over, as one that ends.
+    fn serve<X: Wait + Clock + AllocGlobal>(mut self, rt: &X) -> Port {
+        for _ in rt.forever() {
+            match self.next(rt) {
+                Ok(Ok(SessionEnd::Stop)) => return self.port,
+                Ok(_) => {}
+                Err(_) => thread::sleep(rt, Duration::from_millis(PAUSE)),
+            }
+        }
+        unreachable!()
+    }
+
+    // Waits for a session, and serves it.
+    fn next<X: Wait + AllocGlobal>(
+        &mut self,
+        rt: &X,
+    ) -> io::Result<Result<SessionEnd, SessionFault>> {
+        match &self.port {
+            Port::Tcp(listener) => {
+                let (stream, _from) = listener.accept()?;
+                Ok(self.talk(rt, &stream, &stream))
+            }
+            Port::Unix(listener) => {
+                let (stream, _from) = listener.accept()?;
+                Ok(self.talk(rt, &stream, &stream))
+            }
+        }
+    }
+
+    fn talk<X: Wait + AllocGlobal, R: Read + Drop, W: Write + Drop>(
+        &mut self,
+        rt: &X,
+        input: R,
+        output: W,
+    ) -> Result<SessionEnd, SessionFault> {
+        let mut input = Counted::new(input);
+        let mut output = Counted::new(output);
+        session(
+            rt,
+            &mut input,
+            &mut output,
+            self.config.get(),
+            self.board.get(),
+            &mut self.posts,
+        )
+    }
+}

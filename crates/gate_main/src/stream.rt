@@ -1,0 +1,42 @@
+use crate::address::Address;
+use std::fs::File;
+use std::io;
+use std::io::Read;
+use std::net::{Net, TcpStream};
+use std::os::unix::net::UnixStream;
+use std::rt::Files;
+
+/// Where the bytes of a connection's stream are read from.
+#[derive(Drop)]
+pub enum Stream {
+    /// A file, which may be a folder: then the first read fails.
+    File(File),
+    /// A TCP socket.
+    Tcp(TcpStream),
+    /// A Unix socket.
+    Unix(UnixStream),
+}
+
+impl Stream {
+    /// Opens a file, or connects to a socket.
+    pub fn open<X: Files<File = File> + Net<Stream = TcpStream>>(
+        rt: &X,
+        address: Address<'_>,
+    ) -> io::Result<Stream> {
+        match address {
+            Address::File(path) => Ok(Stream::File(File::open(rt, path)?)),
+            Address::Tcp(place) => Ok(Stream::Tcp(TcpStream::connect(rt, place)?)),
+            Address::Unix(path) => Ok(Stream::Unix(UnixStream::connect(rt, path)?)),
+        }
+    }
+}
+
+impl Read for Stream {
+    fn read(&mut self, buf: &mut [u8]) -> io::Result<usize> {
+        match self {
+            Stream::File(file) => file.read(buf),
+            Stream::Tcp(socket) => socket.read(buf),
+            Stream::Unix(socket) => socket.read(buf),
+        }
+    }
+}
