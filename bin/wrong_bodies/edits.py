@@ -39,6 +39,8 @@ class Body:
     """A wrong body, or a control."""
 
     name: str
+    # The text of its edit.
+    text: str
     changes: list
     functions: list = dataclasses.field(default_factory=list)
     # Whether all that changes is the inside of one function, so that others can be tried beside it.
@@ -104,9 +106,9 @@ class Sources:
         if name == file:
             raise Unfit("its name doesn't end in .edit")
         with open(f"{self.folder}/{file}", encoding="utf-8", errors="replace") as it:
-            lines = it.read().split("\n")
+            edit = it.read()
         changes, path, old = [], None, None
-        for line in filter(None, lines):
+        for line in filter(None, edit.split("\n")):
             word, _, text = line.partition(":")
             text = text.removeprefix(" ")
             if word == "file":
@@ -120,7 +122,7 @@ class Sources:
                 raise Unfit("it has a line that is no file, old or new text at its turn")
         if not changes or old:
             raise Unfit("it has no pair of an old and a new text, or half a pair")
-        return self.placed(Body(name, changes))
+        return self.placed(Body(name, edit, changes))
 
     def change(self, path, old, new):
         if not path.startswith("src/"):

@@ -9,6 +9,7 @@ from concurrent.futures import ThreadPoolExecutor
 
 from .checks import check, rt
 from .edits import Sources
+from .kept import Kept
 
 printing = threading.Lock()
 # Checks go side by side, whichever crate they are of: one a processor, each with one job. With more, or over nothing that was
@@ -31,11 +32,13 @@ def folder_of(symbol):
 class Judging:
     """A crate whose wrong bodies are judged."""
 
-    def __init__(self, crate):
-        self.crate, self.name, self.sources = crate, crate.name, Sources(crate)
+    def __init__(self, crate, is_anew=False):
+        self.crate, self.name, self.sources, self.kept = crate, crate.name, Sources(crate), Kept(crate, is_anew)
         # The crate's functions, by their names in a check.
         self.named = []
-        self.refused, self.failed = 0, 0
+        self.refused, self.failed, self.old = 0, 0, 0
+        # The verdicts of this run and why, by the names of the wrong bodies.
+        self.verdicts = {}
         self.is_controlled, self.asking = None, threading.Lock()
 
     def tell(self, name, verdict, why):
@@ -43,17 +46,39 @@ class Judging:
             print(f"{self.name}/{name}: {verdict}, {why}", flush=True)
         self.refused += verdict != "FAILED"
         self.failed += verdict == "FAILED"
+        self.verdicts[name] = verdict, why
 
     def note(self, text):
         """Tells on standard error how the work goes."""
         print(f"    {self.name}: {text}", file=sys.stderr, flush=True)
 
     def judge(self):
+        """Judges the wrong bodies, but for those that an earlier run on this machine has judged."""
+        self.tell_kept()
+        if self.old and not self.sources.bodies:
+            return
         with tempfile.TemporaryDirectory(prefix="wrong-bodies-") as self.room, ThreadPoolExecutor() as self.pool:
-            # what rt check kept, if it did, saves the first check most of its time
-            if os.path.isdir(f"{self.crate.folder}/out/incremental"):
-                shutil.copytree(f"{self.crate.folder}/out/incremental", f"{self.room}/kept")
+            self.begin(f"{self.room}/kept")
             self.judge_all()
+
+    def begin(self, kept):
+        """Begins with what a check kept, here or in another checkout on this machine: it saves the first check most of its time."""
+        work = None if self.kept.is_anew else rt.work_for(self.crate)
+        try:
+            if work:
+                rt.linked(work, kept)
+        except (OSError, shutil.Error):
+            # (a check may write there meanwhile)
+            shutil.rmtree(kept, ignore_errors=True)
+
+    def tell_kept(self):
+        """Tells the verdicts of earlier runs, and leaves the other wrong bodies to be judged."""
+        found = {it: self.kept.verdict(it) for it in self.sources.bodies}
+        for body, verdict in found.items():
+            if verdict:
+                self.tell(body.name, *verdict)
+        self.sources.bodies = [it for it, verdict in found.items() if not verdict]
+        self.old = len(found) - len(self.sources.bodies)
 
     def tell_unfit(self):
         """Tells which edits can't be judged, by their texts alone."""
@@ -80,7 +105,10 @@ class Judging:
         for _ in self.pool.map(self.judge_alone, alone):
             pass
         if not self.check([]).is_proved:
-            self.tell("control", "FAILED", "the crate itself isn't proved over what was kept, so the rounds show nothing")
+            return self.tell("control", "FAILED", "the crate itself isn't proved over what was kept, so the rounds show nothing")
+        if self.is_controlled is not False:
+            judged = [(it, *self.verdicts[it.name]) for it in self.sources.bodies]
+            self.kept.keep([it for it in judged if it[1] != "FAILED"])
 
     def is_for_rounds(self, body):
         """Whether it changes the inside of one function, which a check names and no control changes."""
@@ -137,7 +165,8 @@ class Judging:
         with slots, tempfile.TemporaryDirectory(dir=self.room) as copy:
             start = time.monotonic()
             if bodies and over_kept:
-                kept = shutil.copytree(kept, f"{copy}/kept")
+                rt.linked(kept, f"{copy}/kept")
+                kept = f"{copy}/kept"
             said = check(self.crate, texts, kept if over_kept else None)
             took = time.monotonic() - start
         self.note(f"{took:.0f} s for {', '.join(it.name for it in bodies) or 'the crate itself'}")
