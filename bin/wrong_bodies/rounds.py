@@ -15,8 +15,8 @@ printing = threading.Lock()
 # Checks go side by side, whichever crate they are of: one a processor, each with one job. With more, or over nothing that was
 # kept, copies of rattle try failing proofs first, and then it tries them again.
 slots = threading.BoundedSemaphore(rt.processors())
-# The most wrong bodies of a round: enough that reading the libraries costs little for each, and rounds go side by side.
-MOST = 12
+# The most wrong bodies of a round: a third of a round of twelve goes into reading the libraries, and rounds go side by side.
+MOST = 24
 
 
 def is_of(name, symbols):
