@@ -1,4 +1,4 @@
-ghost use Rattle.std.specs.Prelude.{◌≡◌, ◌+◌, ◌==◌, count_by};
+ghost use Rattle.std.specs.Prelude.{◌≡◌};
 ghost use Rattle.gate_lanes.specs.Masks.{count_marked};
 
 use crate::MARKED;

@@ -1,7 +1,6 @@
 // Two slices of words, place by place: groups of 16 words in lanes, and what is left one by one.
-ghost use Rattle.std.specs.Prelude.{◌≡◌, ◌≤◌, ℕ, List, length};
+ghost use Rattle.std.specs.Prelude.{◌≡◌, ℕ, length};
 ghost use Rattle.std.specs.Simd.Lanes.{zip2};
-ghost use Rattle.gate_lanes.specs.Groups.{joined_until};
 
 use std::simd::prelude::*;
 
@@ -31,16 +30,15 @@ pub(crate) fn join_all<J: Join>(how: &J, words: &mut [u32], others: &[u32])
         how.group(front, other).copy_to_slice(&mut words[at..]);
         at += LANES;
     }
-    join_rest(how, words, others, at);
+    join_rest(how, &mut words[at..], &others[at..]);
 }
 
-fn join_rest<J: Join>(how: &J, words: &mut [u32], others: &[u32], from: usize)
-    requires len { length others.now ≡ length words.old }
-    requires within { from ≤ length words.old }
-    ensures { (old : List ℕ) → length old ≡ length words.old → words.old ≡ joined_until (J.join how.now) from old others.now
-        → words.new ≡ zip2 (J.join how.now) old others.now }
+// The same, one by one.
+fn join_rest<J: Join>(how: &J, words: &mut [u32], others: &[u32])
+    requires { length others.now ≡ length words.old }
+    ensures { words.new ≡ zip2 (J.join how.now) words.old others.now }
 {
-    for at in from..words.len() {
+    for at in 0..words.len() {
         words[at] = how.word(words[at], others[at]);
     }
 }

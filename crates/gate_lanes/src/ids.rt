@@ -1,4 +1,4 @@
-ghost use Rattle.std.specs.Prelude.{◌≡◌, ℕ, length, map};
+ghost use Rattle.std.specs.Prelude.{◌≡◌, length, map};
 ghost use Rattle.gate_lanes.specs.Masks.{is_among, mark_if, marked_any};
 
 use crate::MARKED;

@@ -1,5 +1,5 @@
-ghost use Rattle.std.specs.Prelude.{◌≡◌, ◌%◌, ◌==◌, ℕ, length, if◌then◌else◌};
-ghost use Rattle.gate_lanes.specs.Masks.{marked_slots};
+ghost use Rattle.std.specs.Prelude.{◌≡◌, ◌%◌, length};
+ghost use Rattle.gate_lanes.specs.Masks.{marked_slots, marked_too};
 
 use crate::MARKED;
 use crate::groups::{Join, join_all};
@@ -12,8 +12,6 @@ struct Holds {
 }
 
 impl Join for Holds {
-    ghost use Rattle.gate_lanes.specs.Groups.{marked_too};
-
     ghost join = { λ how. marked_too how.id };
 
     #[inline(always)]

@@ -1,5 +1,5 @@
 use Rattle.std.proofs.Common.{◌≡◌, ◌-◌, ◌≤◌, length}
-use Rattle.gate_lanes.specs.Groups.{joined_until}
+use Rattle.gate_lanes.proofs.Joined.{joined_until}
 use Rattle.gate_lanes.proofs.groups.join_all.Given as goal
 
 abbrev pub invariant-loop-words : goal.invariant-loop-words
