@@ -1,0 +1,4 @@
+pub mod Chosen
+mod Examples
+pub mod Joined
+pub mod Rows

@@ -1,0 +1,47 @@
+-- Masks of columns: a word for each row, all ones where the row is marked, and 0 where it isn't.
+use Rattle.std.specs.Prelude.{◌==◌, ◌+◌, ◌*◌, ◌/◌, ℕ, List, map, length, slice_index, count_by, Bool, if◌then◌else◌, bit_and, bit_or}
+use Rattle.std.specs.List.{list_any, range_with_len}
+use Rattle.std.specs.Simd.Lanes.{zip2}
+use Rattle.gate_lanes.specs.declared.TheConstants.{MARKED}
+
+-- the word of a row that is marked, or not
+abbrev pub mark_if : Bool → ℕ
+mark_if is_marked = if is_marked then MARKED else 0
+
+-- the word is among the ids
+abbrev pub is_among : List ℕ → ℕ → Bool
+is_among ids word = list_any (λ id. word == id) ids
+
+-- the rows of the column whose word is among the ids
+abbrev pub marked_any : List ℕ → List ℕ → List ℕ
+marked_any ids column = map (λ word. mark_if (is_among ids word)) column
+
+-- the id is in a cell of the row, of which each slot has one; the slots stand one behind another
+abbrev pub is_in_row : List ℕ → ℕ → ℕ → ℕ → Bool
+is_in_row cells rows id row = list_any (λ slot. slice_index cells (slot * rows + row) == id) (range_with_len 0 (length cells / rows))
+
+-- the rows that have the id in a cell
+abbrev pub marked_slots : List ℕ → ℕ → ℕ → List ℕ
+marked_slots cells rows id = map (λ row. mark_if (is_in_row cells rows id row)) (range_with_len 0 rows)
+
+-- a mark, set too where the cell is the id
+abbrev pub marked_too : ℕ → ℕ → ℕ → ℕ
+marked_too id mark cell = if cell == id then MARKED else mark
+
+-- word by word
+abbrev pub both : List ℕ → List ℕ → List ℕ
+both words others = zip2 bit_and words others
+
+abbrev pub either : List ℕ → List ℕ → List ℕ
+either words others = zip2 bit_or words others
+
+-- nothing where the flag is set
+abbrev pub cleared_if : ℕ → ℕ → ℕ
+cleared_if word flag = if flag == MARKED then 0 else word
+
+abbrev pub cleared_where : List ℕ → List ℕ → List ℕ
+cleared_where words flags = zip2 cleared_if words flags
+
+-- how many rows are marked
+abbrev pub count_marked : List ℕ → ℕ
+count_marked mask = count_by (λ word. word == MARKED) mask

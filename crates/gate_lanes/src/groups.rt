@@ -1,0 +1,44 @@
+// Two slices of words, place by place: groups of 16 words in lanes, and what is left one by one.
+ghost use Rattle.std.specs.Prelude.{◌≡◌, ℕ, length};
+ghost use Rattle.std.specs.Simd.Lanes.{zip2};
+
+use std::simd::prelude::*;
+
+// The words of a group.
+pub(crate) const LANES: usize = 16;
+
+// What is made of two words that stand at one place, and of a group of each at once.
+pub(crate) trait Join {
+    ghost join: { Self → ℕ → ℕ → ℕ };
+
+    fn group(&self, words: u32x16, others: u32x16) -> u32x16
+        ensures { result ≡ zip2 (join self.now) words others };
+
+    fn word(&self, word: u32, other: u32) -> u32
+        ensures { result ≡ join self.now word other };
+}
+
+// Puts what is made of the two words at each place into the first slice.
+pub(crate) fn join_all<J: Join>(how: &J, words: &mut [u32], others: &[u32])
+    requires { length others.now ≡ length words.old }
+    ensures { words.new ≡ zip2 (J.join how.now) words.old others.now }
+{
+    let mut at = 0;
+    while words.len() - at >= LANES {
+        let front = u32x16::from_slice(&words[at..]);
+        let other = u32x16::from_slice(&others[at..]);
+        how.group(front, other).copy_to_slice(&mut words[at..]);
+        at += LANES;
+    }
+    join_rest(how, &mut words[at..], &others[at..]);
+}
+
+// The same, one by one.
+fn join_rest<J: Join>(how: &J, words: &mut [u32], others: &[u32])
+    requires { length others.now ≡ length words.old }
+    ensures { words.new ≡ zip2 (J.join how.now) words.old others.now }
+{
+    for at in 0..words.len() {
+        words[at] = how.word(words[at], others[at]);
+    }
+}
