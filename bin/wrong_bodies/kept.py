@@ -1,4 +1,4 @@
-"""The verdicts of earlier runs on this machine, which lie beside what rt ci keeps of its own there."""
+"""The verdicts of earlier runs on this machine, which lie in a folder of the user's caches."""
 import contextlib
 import glob
 import hashlib
@@ -6,9 +6,10 @@ import json
 import os
 import tempfile
 
-from .checks import rt, rtlib
+from .checks import rtlib
 
 HERE = os.path.dirname(os.path.realpath(__file__))
+CACHES = os.environ.get("XDG_CACHE_HOME") or os.path.expanduser("~/.cache")
 
 
 def bytes_of(file):
@@ -22,30 +23,28 @@ class Kept:
 
     def __init__(self, crate, is_anew):
         self.crate, self.is_anew = crate, is_anew
-        # (this makes the folder of rt ci's own, where it can be had, for whoever runs rt alone)
-        at = rt.Kept([]).at
-        self.at = at and f"{at}/wrong-bodies"
+        self.at = f"{CACHES}/gate-wrong-bodies"
         self.begun = self.base()
 
     def base(self):
-        """Returns what all of the crate's verdicts rest on, as it stands now."""
+        """Returns what all of the crate's verdicts rest on, as it stands now (rt's stamp has the kit, the crate and those below)."""
         program = [bytes_of(it) for it in sorted([f"{HERE}/../wrong-bodies", *glob.glob(f"{HERE}/*.py")])]
         controls = [bytes_of(it) for it in sorted(glob.glob(f"{self.crate.folder}/wrong-bodies/control-*.edit"))]
-        return repr((program, controls, rt.stamp_of(self.crate, {}))).encode()
+        return repr((program, controls, self.crate.stamp())).encode()
 
     def place(self, body):
         return f"{self.at}/{hashlib.sha256(self.begun + repr((body.name, body.text)).encode()).hexdigest()}"
 
     def verdict(self, body):
         """Returns the verdict on a wrong body and why, if an earlier run has kept it."""
-        if self.at and not self.is_anew:
+        if not self.is_anew:
             with contextlib.suppress(TypeError, ValueError):
                 verdict, why = json.loads(rtlib.text_of(self.place(body)))
                 return verdict, why
 
     def keep(self, verdicts):
         """Keeps verdicts, each with its wrong body and why, unless a file that they rest on was changed meanwhile."""
-        if not self.at or self.base() != self.begun:
+        if self.base() != self.begun:
             return
         with contextlib.suppress(OSError):
             os.makedirs(self.at, exist_ok=True)

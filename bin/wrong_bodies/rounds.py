@@ -62,14 +62,9 @@ class Judging:
             self.judge_all()
 
     def begin(self, kept):
-        """Begins with what a check kept, here or in another checkout on this machine: it saves the first check most of its time."""
-        work = None if self.kept.is_anew else rt.work_for(self.crate)
-        try:
-            if work:
-                rt.linked(work, kept)
-        except (OSError, shutil.Error):
-            # (a check may write there meanwhile)
-            shutil.rmtree(kept, ignore_errors=True)
+        """Begins with what a check of this checkout kept: it saves the first check most of its time."""
+        if not self.kept.is_anew and self.crate.has_kept():
+            shutil.copytree(f"{self.crate.folder}/out/incremental", kept)
 
     def tell_kept(self):
         """Tells the verdicts of earlier runs, and leaves the other wrong bodies to be judged."""
@@ -165,8 +160,7 @@ class Judging:
         with slots, tempfile.TemporaryDirectory(dir=self.room) as copy:
             start = time.monotonic()
             if bodies and over_kept:
-                rt.linked(kept, f"{copy}/kept")
-                kept = f"{copy}/kept"
+                kept = shutil.copytree(kept, f"{copy}/kept")
             said = check(self.crate, texts, kept if over_kept else None)
             took = time.monotonic() - start
         self.note(f"{took:.0f} s for {', '.join(it.name for it in bodies) or 'the crate itself'}")
