@@ -1,5 +1,6 @@
 pub mod Approvals
 pub mod Entries
+pub mod Events
 pub mod Json
 pub mod Lines
 pub mod Names

@@ -1,5 +1,11 @@
+ghost use Rattle.std.specs.Prelude.{◌≡◌};
+ghost use Rattle.gate_record.specs.Events.{is_delete, is_no_revision};
+
 use crate::sequence::Sequence;
 use crate::text::Text;
+
+// What Gerrit gives as the new revision of a ref that was deleted.
+const NO_REVISION: &str = "0000000000000000000000000000000000000000";
 
 /// An event of Gerrit, as its `stream-events` documentation lists them. Any field but the type may be missing, and
 /// which of them are there doesn't depend on the type, the account aside.
@@ -30,4 +36,23 @@ pub struct Event {
     /// The first 64 entries of `approvals` that have both a category and a vote: the category of `description` where
     /// it is a text, else of `type`, and the number `value`.
     pub approvals: Sequence<(Text, i64)>,
+}
+
+impl Event {
+    /// Whether the event tells that a ref was deleted: a `ref-updated` whose new revision is forty `0`. Gerrit gives that as
+    /// `refUpdate.newRev` of a ref that was deleted (its `stream-events` documentation, "Ref Updated").
+    pub fn is_delete(&self) -> bool
+        ensures { result ≡ is_delete self.now }
+    {
+        self.kind.as_str() == "ref-updated" && is_no_revision(&self.newrev)
+    }
+}
+
+fn is_no_revision(revision: &Option<Text>) -> bool
+    ensures { result ≡ is_no_revision revision.now }
+{
+    match revision {
+        Some(revision) => revision.as_str() == NO_REVISION,
+        None => false,
+    }
 }

@@ -1,8 +1,9 @@
 -- When an event meets a trigger rule.
-use Rattle.std.specs.Prelude.{◌&&◌, ℕ, ℤ, List, [], ◌∷◌, replicate, Bool, true, false, not, codes, Option, Some, None}
+use Rattle.std.specs.Prelude.{◌&&◌, ℕ, ℤ, List, [], ◌∷◌, Bool, true, false, not, Option, Some, None}
 use Rattle.std.specs.List.{list_all, list_any}
 use Rattle.std.specs.Ordering.{int_eq}
 use Rattle.std.specs.Str.{bytes_eq}
+use Rattle.gate_record.specs.Events.{is_delete}
 use Rattle.gate_record.specs.declared.event.Event.{Event}
 use Rattle.gate_rule.specs.declared.pattern.Pattern.{Pattern}
 use Rattle.gate_rule.specs.declared.rule.Rule.{Rule}
@@ -22,15 +23,6 @@ is_given wanted given = list_any (λ approval. bytes_eq approval.0 wanted.0 && i
 -- each of the categories that a rule asks for is given
 abbrev pub is_approved : List (List ℕ × ℤ) → List (List ℕ × ℤ) → Bool
 is_approved asked given = list_all (λ wanted. is_given wanted given) asked
-
--- the new revision of a ref that was deleted
-abbrev pub is_no_revision : Option (List ℕ) → Bool
-is_no_revision None = false
-is_no_revision (Some revision) = bytes_eq revision (replicate 40 48)
-
--- the event tells that a ref was deleted
-abbrev pub is_delete : Event → Bool
-is_delete event = bytes_eq event.kind (codes "ref-updated") && is_no_revision event.newrev
 
 -- each listed attribute is met, and a deletion isn't ignored
 abbrev pub meets : Rule → Event → Bool

@@ -1,14 +1,11 @@
 ghost use Rattle.std.specs.Prelude.{◌≡◌, IfOk, option_map};
 ghost use Rattle.std.specs.List.{list_any};
 ghost use Rattle.gate_rule.specs.Pattern.{front, within};
-ghost use Rattle.gate_rule.specs.Rule.{meets, is_approved, is_delete, is_given, is_met, is_no_revision};
+ghost use Rattle.gate_rule.specs.Rule.{meets, is_approved, is_given, is_met};
 
 use crate::pattern::Pattern;
 use gate_record::{Event, Memory, Sequence, Text};
 use std::alloc::Global;
-
-// What Gerrit gives as the new revision of a ref that was deleted.
-const NO_REVISION: &str = "0000000000000000000000000000000000000000";
 
 /// A trigger rule (Zuul's documentation, "Gerrit", trigger configuration, in this project's profile). An event meets it
 /// where it meets each attribute that is listed; an empty list isn't listed. A listed attribute isn't met by an event
@@ -45,7 +42,7 @@ impl Rule {
             && is_met_within(alloc, &self.email, text(&event.email))?
             && is_met_within(alloc, &self.comment, text(&event.comment))?
             && is_approved(&self.approval, &event.approvals)
-            && !(self.ignore_deletes && is_delete(event));
+            && !(self.ignore_deletes && event.is_delete());
         Ok(met)
     }
 }
@@ -126,19 +123,4 @@ fn is_given(wanted: &(Text, i64), given: &[(Text, i64)]) -> bool
     ensures { result ≡ is_given wanted.now given.now }
 {
     given.iter().any(|vote| vote.0.as_str() == wanted.0.as_str() && vote.1 == wanted.1)
-}
-
-fn is_delete(event: &Event) -> bool
-    ensures { result ≡ is_delete event.now }
-{
-    event.kind.as_str() == "ref-updated" && is_no_revision(&event.newrev)
-}
-
-fn is_no_revision(revision: &Option<Text>) -> bool
-    ensures { result ≡ is_no_revision revision.now }
-{
-    match revision {
-        Some(revision) => revision.as_str() == NO_REVISION,
-        None => false,
-    }
 }
