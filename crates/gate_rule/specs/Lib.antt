@@ -1,3 +1,4 @@
 pub mod Built
+pub mod Laws
 pub mod Pattern
 pub mod Rule

@@ -1,10 +1,12 @@
 //! Trigger rules of a pipeline: which events they ask for.
 #![tactic(auto)]
 
+mod laws;
 mod matcher;
 mod pattern;
 mod rule;
 
+pub use laws::patterns_of_one_text_answer_alike;
 pub use matcher::Matcher;
 pub use pattern::{Pattern, PatternFault};
 pub use rule::Rule;

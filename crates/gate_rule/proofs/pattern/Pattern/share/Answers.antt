@@ -1,4 +1,4 @@
-use Rattle.std.proofs.Common.{rules, sym, subst}
+use Rattle.std.proofs.Common.{sym, subst}
 use Rattle.gate_rule.specs.declared.pattern.Pattern.{built-type}
 use Rattle.gate_rule.proofs.pattern.Pattern.share.Goals as goal
 
