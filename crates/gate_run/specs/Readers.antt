@@ -1,5 +1,5 @@
 -- What a reader does.
-use Rattle.std.specs.Prelude.{◌≡◌, ◌⊎◌, ◌-◌, ◌<◌, ◌^◌, ◌++◌, ℕ, List, [], Bool, true, false, is_some, length, if◌then◌else◌}
+use Rattle.std.specs.Prelude.{◌≡◌, ◌⊎◌, ◌-◌, ◌<◌, ◌^◌, ◌++◌, ℕ, List, Bool, true, false, is_some, length, if◌then◌else◌}
 use Rattle.gate_record.specs.declared.record.Record.{Record}
 use Rattle.gate_record.specs.declared.transit.ConnEntry.{ConnEntry}
 use Rattle.gate_record.specs.declared.transit.ConnEntry.TheVariants as entry

@@ -1,10 +1,11 @@
 //! What threads handed back, by what becomes of it.
-ghost use Rattle.std.specs.Prelude.{◌≡◌, IfOk, map};
+ghost use Rattle.std.specs.Prelude.{◌≡◌, ◌++◌, ◌∷◌, [], IfOk, OnOk, map};
 ghost use Rattle.gate_source.specs.Stops.{IsNoteOf};
 ghost use Rattle.gate_run.specs.Gatherings.{knows_as_much, report_of_reader, inbox_back, report_of_pipeline};
 ghost use Rattle.gate_run.specs.Lists.{Each};
 ghost use Rattle.gate_run.specs.PipelineEnds.{inbox_of};
 
+use crate::lists::push;
 use crate::posts::PipelineInbox;
 use crate::putting::PassedOn;
 use crate::reader::ReaderEnd;
@@ -148,18 +149,15 @@ struct TenantWorkings {
     reports: Sequence<PipelineReport>,
 }
 
-// Gathers what the workers of a tenant's pipelines handed back.
-fn gather_tenant(alloc: Global, ends: Vec<WorkerEnd>) -> Result<TenantWorkings, Memory>
-    ensures heads { IfOk result (λ back. back.heads.items ≡ map (λ end. end.head) ends.items) }
-    ensures pipelines { IfOk result (λ back. back.pipelines.items ≡ map (λ end. end.state) ends.items) }
-    ensures inbox { IfOk result (λ back. map inbox_of back.inbox.items ≡ map inbox_back ends.items) }
-    ensures reports { IfOk result (λ back. back.reports ≡ map (λ end. report_of_pipeline end.state) ends.items) }
-{
-    let mut heads = Vec::new(alloc);
-    let mut pipelines = Vec::new(alloc);
-    let mut inbox = Vec::new(alloc);
-    let mut reports = Sequence::empty(alloc);
-    for end in ends {
+impl TenantWorkings {
+    // Adds what the next pipeline's worker handed back.
+    fn add(&mut self, alloc: Global, end: WorkerEnd) -> Result<(), Memory>
+        ensures heads { OnOk result (self.new.heads.items ≡ self.old.heads.items ++ end.head ∷ []) }
+        ensures pipelines { OnOk result (self.new.pipelines.items ≡ self.old.pipelines.items ++ end.state ∷ []) }
+        ensures inbox { OnOk result (map inbox_of self.new.inbox.items ≡ map inbox_of self.old.inbox.items ++ inbox_back end ∷ []) }
+        ensures reports { OnOk result (self.new.reports ≡ self.old.reports ++ report_of_pipeline end.state ∷ []) }
+    {
+        self.reports.push(report_of(alloc, &end.state)?)?;
         let WorkerEnd {
             state,
             head,
@@ -167,23 +165,43 @@ fn gather_tenant(alloc: Global, ends: Vec<WorkerEnd>) -> Result<TenantWorkings, 
             results,
             parker,
         } = end;
-        let done = state.done().to_vec(alloc)?;
-        reports.push(PipelineReport {
-            done: Sequence::new(done),
-            finished: state.finished(),
-        })?;
-        heads.push(head)?;
-        pipelines.push(state)?;
-        inbox.push(PipelineInbox {
+        let inbox = PipelineInbox {
             management,
             results,
             parker,
-        })?;
+        };
+        push(&mut self.pipelines, state)?;
+        push(&mut self.inbox, inbox)?;
+        push(&mut self.heads, head)
     }
-    Ok(TenantWorkings {
-        heads,
-        pipelines,
-        inbox,
-        reports,
+}
+
+// What a pipeline has processed, and whether its end mark was met.
+fn report_of(alloc: Global, state: &Pipeline) -> Result<PipelineReport, Memory>
+    ensures { IfOk result (λ report. report ≡ report_of_pipeline state.now) }
+{
+    let done = state.done().to_vec(alloc)?;
+    Ok(PipelineReport {
+        done: Sequence::new(done),
+        finished: state.finished(),
     })
+}
+
+// Gathers what the workers of a tenant's pipelines handed back.
+fn gather_tenant(alloc: Global, ends: Vec<WorkerEnd>) -> Result<TenantWorkings, Memory>
+    ensures heads { IfOk result (λ back. back.heads.items ≡ map (λ end. end.head) ends.items) }
+    ensures pipelines { IfOk result (λ back. back.pipelines.items ≡ map (λ end. end.state) ends.items) }
+    ensures inbox { IfOk result (λ back. map inbox_of back.inbox.items ≡ map inbox_back ends.items) }
+    ensures reports { IfOk result (λ back. back.reports ≡ map (λ end. report_of_pipeline end.state) ends.items) }
+{
+    let mut back = TenantWorkings {
+        heads: Vec::new(alloc),
+        pipelines: Vec::new(alloc),
+        inbox: Vec::new(alloc),
+        reports: Sequence::empty(alloc),
+    };
+    for end in ends {
+        back.add(alloc, end)?;
+    }
+    Ok(back)
 }

@@ -1,5 +1,5 @@
 //! Lists that are used up side by side, and tables of lists.
-ghost use Rattle.std.specs.Prelude.{◌≡◌, ◌<◌, ◌∷◌, IfOk, length, map};
+ghost use Rattle.std.specs.Prelude.{◌≡◌, ◌<◌, ◌∷◌, ◌++◌, [], IfOk, OnOk, length, map};
 ghost use Rattle.std.specs.Vec.Iter.{into_iter_items};
 ghost use Rattle.gate_run.specs.Tables.{dealt, dealt_all, empties};
 
@@ -58,4 +58,12 @@ fn deal<T: Drop>(alloc: Global, columns: Vec<Vec<T>>, row: Vec<T>) -> Result<Vec
         longer.push(column)?;
     }
     Ok(longer)
+}
+
+/// Puts a value last. Where memory is refused it is dropped here, so that who calls has no more to say of it.
+pub(crate) fn push<T: Drop>(list: &mut Vec<T>, value: T) -> Result<(), Memory>
+    ensures { OnOk result (list.new.items ≡ list.old.items ++ value ∷ []) }
+{
+    list.push(value)?;
+    Ok(())
 }
