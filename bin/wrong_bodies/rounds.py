@@ -10,13 +10,15 @@ from concurrent.futures import ThreadPoolExecutor
 from .checks import check, rt
 from .edits import Sources
 from .kept import Kept
+from .slots import Slots
 
 printing = threading.Lock()
 # Checks go side by side, whichever crate they are of: one a processor, each with one job. With more, or over nothing that was
 # kept, copies of rattle try failing proofs first, and then it tries them again.
-slots = threading.BoundedSemaphore(rt.processors())
-# The most wrong bodies of a round: a third of a round of twelve goes into reading the libraries, and rounds go side by side.
-MOST = 24
+slots = Slots(rt.processors())
+# The fewest and the most wrong bodies of a round, where there are as many: a third of a round of twelve goes into reading the
+# libraries, and rounds go side by side.
+FEWEST, MOST = 6, 24
 
 
 def is_of(name, symbols):
@@ -32,8 +34,11 @@ def folder_of(symbol):
 class Judging:
     """A crate whose wrong bodies are judged."""
 
-    def __init__(self, crate, is_anew=False):
+    def __init__(self, crate, is_anew=False, until=None):
         self.crate, self.name, self.sources, self.kept = crate, crate.name, Sources(crate), Kept(crate, is_anew)
+        self.lines = crate.count(b"\n")
+        # When the last check of wrong bodies may begin, by the monotonic clock, and how many were put off then.
+        self.until, self.put_off = until, 0
         # The crate's functions, by their names in a check.
         self.named = []
         self.refused, self.failed, self.old = 0, 0, 0
@@ -47,6 +52,13 @@ class Judging:
         self.refused += verdict != "FAILED"
         self.failed += verdict == "FAILED"
         self.verdicts[name] = verdict, why
+
+    def urgency(self):
+        """The work that is left, by which crates take turns: a check of many lines takes longer, and so do many wrong bodies."""
+        return self.lines * (20 + sum(it.name not in self.verdicts for it in self.sources.bodies))
+
+    def is_late(self):
+        return self.until is not None and time.monotonic() > self.until
 
     def note(self, text):
         """Tells on standard error how the work goes."""
@@ -91,9 +103,9 @@ class Judging:
         waiting = [it for it in self.sources.bodies if self.is_for_rounds(it)]
         alone = [it for it in self.sources.bodies if it not in waiting]
         while waiting:
-            batches = []
+            batches, most = [], min(MOST, max(FEWEST, -(-len(waiting) // rt.processors())))
             while waiting:
-                batch, waiting = self.batch(waiting)
+                batch, waiting = self.batch(waiting, most)
                 batches.append(batch)
             for later in self.pool.map(lambda it: self.round(it, alone), batches):
                 waiting += later
@@ -102,7 +114,7 @@ class Judging:
         if not self.check([]).is_proved:
             return self.tell("control", "FAILED", "the crate itself isn't proved over what was kept, so the rounds show nothing")
         if self.is_controlled is not False:
-            judged = [(it, *self.verdicts[it.name]) for it in self.sources.bodies]
+            judged = [(it, *self.verdicts[it.name]) for it in self.sources.bodies if it.name in self.verdicts]
             self.kept.keep([it for it in judged if it[1] != "FAILED"])
 
     def is_for_rounds(self, body):
@@ -110,12 +122,12 @@ class Judging:
         controlled = [f for it in self.sources.controls for f in it.functions]
         return body.is_inside and body.functions[0] not in controlled and self.symbol(body.functions[0]) is not None
 
-    def batch(self, waiting):
-        """Chooses wrong bodies of different functions, none of which is one through which another fell."""
+    def batch(self, waiting, most):
+        """Chooses so many wrong bodies of different functions, none of which is one through which another fell."""
         batch, left, avoided, symbols, functions = [], [], set(), set(), set()
         for it in waiting:
             own = self.symbol(it.functions[0])
-            if len(batch) == MOST or it.functions[0] in functions or own in avoided or symbols & it.avoids:
+            if len(batch) == most or it.functions[0] in functions or own in avoided or symbols & it.avoids:
                 left.append(it)
             else:
                 batch.append(it)
@@ -127,7 +139,9 @@ class Judging:
     def round(self, batch, alone):
         """Tries wrong bodies of different functions at once, and returns those that are for a later round."""
         bodies = [*self.sources.controls, *batch]
-        said = self.check(bodies)
+        said = self.check(bodies, in_time=True)
+        if said is None:
+            return []
         why_not = self.why_not(bodies, said)
         if why_not and not self.holds_control():
             return []
@@ -150,14 +164,17 @@ class Judging:
                     self.tell(self.sources.controls[0].name, "FAILED", why)
             return self.is_controlled
 
-    def check(self, bodies, over_kept=True):
+    def check(self, bodies, over_kept=True, in_time=False):
         """Checks the crate with these bodies, over a copy of what the check of the crate itself kept, so that none of them
-        leaves anything behind. That check is the first one."""
+        leaves anything behind. That check is the first one. One that has to begin in time is put off where it is too late then."""
         texts = {file: data.decode() for file, data in self.sources.edited(bodies).items()}
         for it in bodies:
             texts.update(it.proofs)
         kept = f"{self.room}/kept"
-        with slots, tempfile.TemporaryDirectory(dir=self.room) as copy:
+        with slots.one(self.urgency()), tempfile.TemporaryDirectory(dir=self.room) as copy:
+            if in_time and self.is_late():
+                self.put_off += sum(it not in self.sources.controls for it in bodies)
+                return None
             start = time.monotonic()
             if bodies and over_kept:
                 kept = shutil.copytree(kept, f"{copy}/kept")
@@ -240,7 +257,9 @@ class Judging:
         self.tell(body.name, "weak", f"{name}: {about} (`{goal}`)")
 
     def judge_alone(self, body):
-        said = self.check([body])
+        said = self.check([body], in_time=True)
+        if said is None:
+            return
         while said.is_judged and not said.is_proved and body.tries < 8 and self.drop_stale(body, said):
             body.tries += 1
             said = self.check([body])
