@@ -1,0 +1,4 @@
+pub mod Numbered
+pub mod Pushed
+pub mod Seen
+pub mod Slots

@@ -1,0 +1,14 @@
+//! The columns of a batch of events, in which each text is a number: what a rule asks of many events at once is then asked
+//! of whole columns of words.
+//!
+//! Only `build` takes memory, and none of the calls panics.
+#![tactic(auto)]
+
+mod approvals;
+mod column;
+mod columns;
+mod field;
+mod numbers;
+
+pub use columns::{Columns, MAX_ROWS};
+pub use field::Field;
