@@ -1,3 +1,4 @@
+pub mod GivenBack
 pub mod Numbered
 pub mod Pushed
 pub mod Seen

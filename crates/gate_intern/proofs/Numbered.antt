@@ -65,11 +65,11 @@ module _ {A : Type 0} (same : A → A → Bool) where
 -- ---- keys of elements, of which some have none
 
 -- the key, if there is one, is among the keys
-abbrev IsIn : {A : Type 0} → (A → A → Bool) → List A → Option A → Type 0
+abbrev pub IsIn : {A : Type 0} → (A → A → Bool) → List A → Option A → Type 0
 IsIn same keys None = Unit {0}
 IsIn same keys (Some key) = list_any (same key) keys ≡ true
 
-abbrev AreIn : {A X : Type 0} → (A → A → Bool) → (X → Option A) → List A → List X → Type 0
+abbrev pub AreIn : {A X : Type 0} → (A → A → Bool) → (X → Option A) → List A → List X → Type 0
 AreIn same h keys [] = Unit {0}
 AreIn same h keys (x ∷ xs) = IsIn same keys (h x) × AreIn same h keys xs
 
@@ -78,7 +78,7 @@ number_kept same keys key None is = refl
 number_kept same keys key (Some k) is = ap (λ n. n + 1) (insert_kept same (same k) keys key is)
 
 module _ {A X : Type 0} (same : A → A → Bool) (alike : (a : A) → same a a ≡ true) (h : X → Option A) where
-  all_in : (keys : List A) (xs : List X) → AreIn same h (insert_all same keys (filter_map h xs)) xs
+  pub all_in : (keys : List A) (xs : List X) → AreIn same h (insert_all same keys (filter_map h xs)) xs
   all_in keys [] = tt
   all_in keys (x ∷ xs) = by (h x) (λ now. all_in now xs)
     where

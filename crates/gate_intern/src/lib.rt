@@ -8,7 +8,11 @@ mod approvals;
 mod column;
 mod columns;
 mod field;
+mod laws;
 mod numbers;
 
 pub use columns::{Columns, MAX_ROWS};
 pub use field::Field;
+pub use laws::{
+    approvals_are_distinct, columns_give_fields_back, texts_are_distinct, zero_is_a_missing_field,
+};

@@ -1,0 +1,25 @@
+ghost use Rattle.gate_intern.specs.GivenBack.{ApprovalsAreDistinct, FieldsComeBack, TextsAreDistinct, ZeroIsMissing};
+
+/// The texts that a column's numbers stand for are the field's in each event, and what stands for none is where it is missing.
+#[tactic(auto, using(crate::proofs::GivenBack::fields_come_back))]
+pub fn columns_give_fields_back()
+    ensures { FieldsComeBack }
+{}
+
+/// A column has 0 exactly where the field is missing.
+#[tactic(auto, using(crate::proofs::GivenBack::zero_is_missing))]
+pub fn zero_is_a_missing_field()
+    ensures { ZeroIsMissing }
+{}
+
+/// No text of a field has two numbers.
+#[tactic(auto, using(crate::proofs::GivenBack::texts_are_distinct))]
+pub fn texts_are_distinct()
+    ensures { TextsAreDistinct }
+{}
+
+/// No category and vote have two numbers.
+#[tactic(auto, using(crate::proofs::GivenBack::approvals_are_distinct))]
+pub fn approvals_are_distinct()
+    ensures { ApprovalsAreDistinct }
+{}
