@@ -32,15 +32,16 @@ both_true true q h = (refl, h)
 both_true false q h = absurd (true≢false (sym h))
 
 pub same_vote : (x y : List ℕ × ℤ) → Decides (is_same_vote x y) (x ≡ y)
-same_vote x y =
-    ((λ h.
-        let parts = both_true (bytes_eq x.0 y.0) (int_eq x.1 y.1) h in
-        let category : x.0 ≡ y.0 = (bytes_eq-Decides x.0 y.0).0 parts.0 in
-        let vote : x.1 ≡ y.1 = (Decides-int_eq x.1 y.1).0 parts.1 in
-        (λ i. (category i, vote i))),
-     (λ e.
-        subst (λ z. is_same_vote x z ≡ true) e
-          (ap (λ b. b && int_eq x.1 x.1) ((bytes_eq-Decides x.0 x.0).1 refl) ∙ (Decides-int_eq x.1 x.1).1 refl)))
+same_vote x y = (
+  (λ h.
+      let parts = both_true (bytes_eq x.0 y.0) (int_eq x.1 y.1) h in
+      let category : x.0 ≡ y.0 = (bytes_eq-Decides x.0 y.0).0 parts.0 in
+      let vote : x.1 ≡ y.1 = (Decides-int_eq x.1 y.1).0 parts.1 in
+      (λ i. (category i, vote i))),
+  (λ e.
+      subst (λ z. is_same_vote x z ≡ true) e
+      (ap (λ b. b && int_eq x.1 x.1) ((bytes_eq-Decides x.0 x.0).1 refl) ∙ (Decides-int_eq x.1 x.1).1 refl)),
+)
 
 -- ---- what a number stands for
 
@@ -67,7 +68,7 @@ names_back same decides h keys (x ∷ xs) are =
 pub fields_come_back : FieldsComeBack
 fields_come_back field events =
     names_back bytes_eq bytes_eq-Decides (field_of field) (texts_of field events) events
-      (all_in bytes_eq (alike_by bytes_eq bytes_eq-Decides) (field_of field) [] events)
+    (all_in bytes_eq (alike_by bytes_eq bytes_eq-Decides) (field_of field) [] events)
 
 -- ---- 0
 

@@ -1,5 +1,6 @@
 pub mod GivenBack
 pub mod Numbered
 pub mod Pushed
+pub mod Rows
 pub mod Seen
 pub mod Slots

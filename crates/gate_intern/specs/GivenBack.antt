@@ -1,10 +1,9 @@
 -- What the columns give back of the events.
-use Rattle.std.specs.Prelude.{◌≡◌, ◌==◌, ◌+◌, ◌*◌, ◌<◌, ℕ, zero, suc, ℤ, List, map, length, slice_get, slice_index, Bool, true, is_none, Option, Some, None}
-use Rattle.std.specs.List.{filter_map, list_any, range_with_len, IsDistinct}
+use Rattle.std.specs.Prelude.{◌≡◌, ◌==◌, ◌+◌, ◌*◌, ℕ, zero, suc, List, map, length, slice_get, slice_index, is_none, Option, Some, None}
+use Rattle.std.specs.List.{filter_map, range_with_len, IsDistinct}
 use Rattle.std.specs.Str.{bytes_eq}
 use Rattle.gate_record.specs.declared.event.Event.{Event}
-use Rattle.gate_lanes.specs.Masks.{is_in_row}
-use Rattle.gate_intern.specs.Columns.{approval_cells_of, approvals_of, column_of, field_of, is_same_vote, number_in, slots_of, texts_of}
+use Rattle.gate_intern.specs.Columns.{approval_cells_of, approvals_of, column_of, field_of, is_same_vote, slots_of, texts_of}
 use Rattle.gate_intern.specs.declared.field.Field.{Field}
 
 -- what a number stands for: the key one place before it, and nothing for 0

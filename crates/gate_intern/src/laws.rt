@@ -1,4 +1,4 @@
-ghost use Rattle.gate_intern.specs.GivenBack.{ApprovalsAreDistinct, FieldsComeBack, TextsAreDistinct, ZeroIsMissing};
+ghost use Rattle.gate_intern.specs.GivenBack.{ApprovalsAreDistinct, ApprovalsComeBack, FieldsComeBack, TextsAreDistinct, ZeroIsMissing};
 
 /// The texts that a column's numbers stand for are the field's in each event, and what stands for none is where it is missing.
 #[tactic(auto, using(crate::proofs::GivenBack::fields_come_back))]
@@ -22,4 +22,10 @@ pub fn texts_are_distinct()
 #[tactic(auto, using(crate::proofs::GivenBack::approvals_are_distinct))]
 pub fn approvals_are_distinct()
     ensures { ApprovalsAreDistinct }
+{}
+
+/// What the numbers in an event's cells stand for, slot after slot, are the event's approvals, in order.
+#[tactic(auto, using(crate::proofs::Rows::approvals_come_back))]
+pub fn cells_give_approvals_back()
+    ensures { ApprovalsComeBack }
 {}
