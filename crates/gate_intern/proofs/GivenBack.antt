@@ -45,7 +45,7 @@ same_vote x y = (
 
 -- ---- what a number stands for
 
-found_at : {A : Type 0} (same : A → A → Bool) → ((x y : A) → Decides (same x y) (x ≡ y)) → (keys : List A) (key : A) → list_any (same key) keys ≡ true → slice_get keys (position_or_len (same key) keys) ≡ Some key
+pub found_at : {A : Type 0} (same : A → A → Bool) → ((x y : A) → Decides (same x y) (x ≡ y)) → (keys : List A) (key : A) → list_any (same key) keys ≡ true → slice_get keys (position_or_len (same key) keys) ≡ Some key
 found_at same decides [] key found = absurd (true≢false (sym found))
 found_at {A} same decides (x ∷ keys) key found = by (same key x) refl found (found_at same decides keys key)
   where

@@ -1,4 +1,5 @@
 pub mod GivenBack
+pub mod Marks
 pub mod Numbered
 pub mod Pushed
 pub mod Rows

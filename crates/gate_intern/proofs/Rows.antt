@@ -39,16 +39,16 @@ in_events keys (e ∷ es) (suc i) event j v at its =
     ap (list_any (is_same_vote v)) (fold-append (insert_key is_same_vote) keys e.approvals (given es))
     ∙ in_events (insert_all is_same_vote keys e.approvals) es i event j v at its
 
+pub vote_is_in : (events : List Event) (i : ℕ) (event : Event) (j : ℕ) → slice_get events i ≡ Some event → (o : Option (List ℕ × ℤ)) → slice_get event.approvals j ≡ o → IsIn is_same_vote (approvals_of events) o
+vote_is_in events i event j at None e = tt
+vote_is_in events i event j at (Some v) e = in_events [] events i event j v at e
+
 number_names : (events : List Event) (i : ℕ) (event : Event) (j : ℕ) → slice_get events i ≡ Some event → named (approvals_of events) (number_in is_same_vote (approvals_of events) (slice_get event.approvals j)) ≡ slice_get event.approvals j
-number_names events i event j at = named_number is_same_vote same_vote (approvals_of events) (slice_get event.approvals j) (by (slice_get event.approvals j) refl)
-  where
-    by : (o : Option (List ℕ × ℤ)) → slice_get event.approvals j ≡ o → IsIn is_same_vote (approvals_of events) o
-    by None e = tt
-    by (Some v) e = in_events [] events i event j v at e
+number_names events i event j at = named_number is_same_vote same_vote (approvals_of events) (slice_get event.approvals j) (vote_is_in events i event j at (slice_get event.approvals j) refl)
 
 -- ---- where a cell stands
 
-inside : {A : Type 0} (xs : List A) (i : ℕ) (x : A) → slice_get xs i ≡ Some x → i < length xs
+pub inside : {A : Type 0} (xs : List A) (i : ℕ) (x : A) → slice_get xs i ≡ Some x → i < length xs
 inside [] i x at = cc
 inside (y ∷ xs) zero x at = omega arith
 inside (y ∷ xs) (suc i) x at =
@@ -80,6 +80,15 @@ cell_at f m each a (suc n) (suc k) i l h =
     ∙ get_or-append-add (f a) (flat_map f (range_with_len (a + 1) n)) (k * m + i) 0
     ∙ cell_at f m each (a + 1) n k i (omega arith) h
     ∙ ap (λ b. get_or (f b) i 0) next
+
+-- the cell of an event in a slot
+pub cell_is : (events : List Event) (row : ℕ) (event : Event) → slice_get events row ≡ Some event → (k : ℕ) → k < slots_of events
+    → slice_index (approval_cells_of events) (k * length events + row) ≡ number_in is_same_vote (approvals_of events) (slice_get event.approvals k)
+cell_is events row event at k l =
+    let votes = approvals_of events in
+    cell_at (slot_of votes events) (length events) (λ s. length-map events _) 0 (slots_of events) k row l (inside events row event at)
+    ∙ map_at (λ (e : Event). number_in is_same_vote votes (slice_get e.approvals (0 + k))) events row event at
+    ∙ ap (λ s. number_in is_same_vote votes (slice_get event.approvals s)) (zero-add k)
 
 -- ---- what numbers from 0 on give
 
@@ -124,7 +133,7 @@ grows most (e ∷ es) =
     let more : max most (length e.approvals) ≤ fullest (max most (length e.approvals)) es = grows (max most (length e.approvals)) es in
     omega arith
 
-enough : (most : ℕ) (events : List Event) (i : ℕ) (event : Event) → slice_get events i ≡ Some event → length event.approvals ≤ fullest most events
+pub enough : (most : ℕ) (events : List Event) (i : ℕ) (event : Event) → slice_get events i ≡ Some event → length event.approvals ≤ fullest most events
 enough most [] i event at = cc
 enough most (e ∷ es) zero event at =
     let is : e ≡ event = cc in
@@ -139,12 +148,7 @@ pub approvals_come_back : ApprovalsComeBack
 approvals_come_back events row event at =
     let votes = approvals_of events in
     let cells = approval_cells_of events in
-    let here = λ (k : ℕ) (l : k < slots_of events).
-    ap (named votes)
-    (cell_at (slot_of votes events) (length events) (λ s. length-map events _) 0 (slots_of events) k row l (inside events row event at)
-    ∙ map_at (λ (e : Event). number_in is_same_vote votes (slice_get e.approvals (0 + k))) events row event at
-    ∙ ap (λ s. number_in is_same_vote votes (slice_get event.approvals s)) (zero-add k))
-    ∙ number_names events row event k at in
+    let here = λ (k : ℕ) (l : k < slots_of events). ap (named votes) (cell_is events row event at k l) ∙ number_names events row event k at in
     same_row (λ slot. slice_index cells (slot * length events + row)) (named votes) (slice_get event.approvals) 0 (slots_of events)
     (λ k l. subst (λ s. named votes (slice_index cells (s * length events + row)) ≡ slice_get event.approvals s) (sym (zero-add k)) (here k l))
     ∙ all_got event.approvals (slots_of events) (enough 0 events row event at)

@@ -1,5 +1,5 @@
 -- Keys that are seen through a view, as the texts behind references.
-use Rattle.std.proofs.Common.{◌≡◌, ◌∙◌, ℕ, ℤ, ◌+◌, ◌≤◌, ◌||◌, List, [], ◌∷◌, ◌++◌, Bool, true, false, cond, Some, None, Bor, length, map, refl, ap, arith, if◌then◌else◌}
+use Rattle.std.proofs.Common.{◌≡◌, ◌∙◌, ℕ, ℤ, ◌+◌, ◌≤◌, ◌||◌, List, [], ◌∷◌, ◌++◌, Bool, true, false, cond, Option, Some, None, Bor, length, map, refl, ap, arith, if◌then◌else◌}
 use Rattle.std.specs.Prelude.{not, unwrap_or, nat_lt, position}
 use Rattle.std.specs.List.{list_any, position_or_len}
 use Rattle.std.proofs.lemmas.List.{map-append}
@@ -24,7 +24,7 @@ insert_seen v same keys key =
     by false = map-append v keys (key ∷ [])
 
 -- the place that is found, or else the length
-pub place_or_len : {A : Type 0} (p : A → Bool) (keys : List A) → unwrap_or (position p keys) (length keys) ≡ position_or_len p keys
+place_or_len : {A : Type 0} (p : A → Bool) (keys : List A) → unwrap_or (position p keys) (length keys) ≡ position_or_len p keys
 place_or_len p keys = by (nat_lt (position_or_len p keys) (length keys)) refl
   where
     by : (b : Bool) → nat_lt (position_or_len p keys) (length keys) ≡ b → unwrap_or (cond b (Some (position_or_len p keys)) None) (length keys) ≡ position_or_len p keys
@@ -33,6 +33,11 @@ place_or_len p keys = by (nat_lt (position_or_len p keys) (length keys)) refl
         let end : length keys ≤ position_or_len p keys = ltb-false _ _ e in
         let most : position_or_len p keys ≤ length keys = prefix_len-le-length (λ k. not (p k)) keys in
         omega arith
+
+-- and so where both are known by an equation
+pub place_by : {A : Type 0} (p : A → Bool) (keys : List A) (found : Option ℕ) (end place : ℕ) → place ≡ unwrap_or found end → found ≡ position p keys → end ≡ length keys → place ≡ position_or_len p keys
+place_by p keys found end place is found_is end_is =
+    is ∙ ap (λ o. unwrap_or o end) found_is ∙ ap (unwrap_or (position p keys)) end_is ∙ place_or_len p keys
 
 -- a vote's category and number
 abbrev pub vote_of : Bor (List ℕ) × ℤ → List ℕ × ℤ

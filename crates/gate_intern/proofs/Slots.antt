@@ -40,7 +40,7 @@ one_times n m =
     omega arith
 
 -- each slot has a cell for each event
-slots_length : (votes : List (List ℕ × ℤ)) (events : List Event) (places : List ℕ) → length (flat_map (slot_of votes events) places) ≡ length places * length events
+pub slots_length : (votes : List (List ℕ × ℤ)) (events : List Event) (places : List ℕ) → length (flat_map (slot_of votes events) places) ≡ length places * length events
 slots_length votes events [] = sym (zero-mul (length events))
 slots_length votes events (place ∷ places) =
     let both : length (slot_of votes events place ++ flat_map (slot_of votes events) places) ≡ length (slot_of votes events place) + length (flat_map (slot_of votes events) places) = length-append _ _ in

@@ -1,3 +1,4 @@
 pub mod Columns
 pub mod GivenBack
+pub mod Marks
 pub mod Parts

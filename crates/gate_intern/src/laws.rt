@@ -1,4 +1,5 @@
 ghost use Rattle.gate_intern.specs.GivenBack.{ApprovalsAreDistinct, ApprovalsComeBack, FieldsComeBack, TextsAreDistinct, ZeroIsMissing};
+ghost use Rattle.gate_intern.specs.Marks.{ApprovalsMarkTheirEvents, TextsMarkTheirEvents};
 
 /// The texts that a column's numbers stand for are the field's in each event, and what stands for none is where it is missing.
 #[tactic(auto, using(crate::proofs::GivenBack::fields_come_back))]
@@ -28,4 +29,18 @@ pub fn approvals_are_distinct()
 #[tactic(auto, using(crate::proofs::Rows::approvals_come_back))]
 pub fn cells_give_approvals_back()
     ensures { ApprovalsComeBack }
+{}
+
+/// The mask of the numbers of those texts of a field that pass a test, whichever it is, marks the events in which the field is
+/// there and passes it.
+#[tactic(auto, using(crate::proofs::Marks::texts_mark_their_events))]
+pub fn texts_mark_their_events()
+    ensures { TextsMarkTheirEvents }
+{}
+
+/// The mask of an approval's number marks the events that have that approval, and of a number that no approval has it marks
+/// none.
+#[tactic(auto, using(crate::proofs::Marks::approvals_mark_their_events))]
+pub fn approvals_mark_their_events()
+    ensures { ApprovalsMarkTheirEvents }
 {}
