@@ -11,7 +11,7 @@ use Rattle.std.proofs.lemmas.Map.Keys.{IsDistinct-push}
 use Rattle.std.proofs.lemmas.Slice.Eq.{bytes_eq-Decides}
 use Rattle.indexmap.specs.IndexSet.{insert_key, insert_all}
 use Rattle.gate_record.specs.declared.event.Event.{Event}
-use Rattle.gate_intern.specs.Columns.{field_of, firsts, is_same_vote, number_in, texts_of}
+use Rattle.gate_intern.specs.Columns.{field_of, each_once, is_same_vote, number_in, texts_of}
 use Rattle.gate_intern.specs.GivenBack.{FieldsComeBack, TextsAreDistinct, ApprovalsAreDistinct, ZeroIsMissing, named}
 use Rattle.gate_intern.proofs.Numbered.{AreIn, IsIn, all_in}
 
@@ -106,11 +106,11 @@ module _ {A : Type 0} (same : A → A → Bool) (decides : (x y : A) → Decides
   unfolding IsDistinct
   none_distinct = tt
 
-  pub firsts_distinct : (values : List A) → IsDistinct same (firsts same values)
-  firsts_distinct values = all_distinct [] values none_distinct
+  pub each_once_distinct : (values : List A) → IsDistinct same (each_once same values)
+  each_once_distinct values = all_distinct [] values none_distinct
 
 pub texts_are_distinct : TextsAreDistinct
-texts_are_distinct field events = firsts_distinct bytes_eq bytes_eq-Decides (filter_map (field_of field) events)
+texts_are_distinct field events = each_once_distinct bytes_eq bytes_eq-Decides (filter_map (field_of field) events)
 
 pub approvals_are_distinct : ApprovalsAreDistinct
-approvals_are_distinct events = firsts_distinct is_same_vote same_vote (flat_map (λ (event : Event). event.approvals) events)
+approvals_are_distinct events = each_once_distinct is_same_vote same_vote (flat_map (λ (event : Event). event.approvals) events)

@@ -7,7 +7,7 @@ use Rattle.std.proofs.lemmas.List.Elements.{filter_map-append}
 use Rattle.std.proofs.lemmas.List.Folds.{list_any-append}
 use Rattle.std.proofs.lemmas.List.Sums.{fold-append}
 use Rattle.indexmap.specs.IndexSet.{insert_key, insert_all}
-use Rattle.gate_intern.specs.Columns.{firsts, number_in}
+use Rattle.gate_intern.specs.Columns.{each_once, number_in}
 
 -- ---- one key more
 
@@ -93,28 +93,28 @@ module _ {A X : Type 0} (same : A → A → Bool) (alike : (a : A) → same a a 
       ∙ ap (λ rest. number_in same keys (h x) ∷ rest) (numbers_kept keys key xs are.1)
 
   -- the keys of one element more
-  more_keys : (xs : List X) (x : X) (o : Option A) → h x ≡ o → firsts same (filter_map h (xs ++ x ∷ [])) ≡ insert_all same (firsts same (filter_map h xs)) (cons_option o [])
+  more_keys : (xs : List X) (x : X) (o : Option A) → h x ≡ o → each_once same (filter_map h (xs ++ x ∷ [])) ≡ insert_all same (each_once same (filter_map h xs)) (cons_option o [])
   more_keys xs x o e =
       ap (insert_all same []) (filter_map-append h xs (x ∷ []) ∙ ap (λ p. filter_map h xs ++ cons_option p []) e)
       ∙ fold-append (insert_key same) [] (filter_map h xs) (cons_option o [])
 
   -- an element without a key
-  pub keys_none : (xs : List X) (x : X) → h x ≡ None → firsts same (filter_map h (xs ++ x ∷ [])) ≡ firsts same (filter_map h xs)
+  pub keys_none : (xs : List X) (x : X) → h x ≡ None → each_once same (filter_map h (xs ++ x ∷ [])) ≡ each_once same (filter_map h xs)
   keys_none xs x e = more_keys xs x None e
 
-  pub numbers_none : (xs : List X) (x : X) → h x ≡ None → map (λ y. number_in same (firsts same (filter_map h (xs ++ x ∷ []))) (h y)) (xs ++ x ∷ []) ≡ map (λ y. number_in same (firsts same (filter_map h xs)) (h y)) xs ++ 0 ∷ []
+  pub numbers_none : (xs : List X) (x : X) → h x ≡ None → map (λ y. number_in same (each_once same (filter_map h (xs ++ x ∷ []))) (h y)) (xs ++ x ∷ []) ≡ map (λ y. number_in same (each_once same (filter_map h xs)) (h y)) xs ++ 0 ∷ []
   numbers_none xs x e =
       ap (λ keys. map (λ y. number_in same keys (h y)) (xs ++ x ∷ [])) (keys_none xs x e)
-      ∙ map-append (λ y. number_in same (firsts same (filter_map h xs)) (h y)) xs (x ∷ [])
-      ∙ ap (λ o. map (λ y. number_in same (firsts same (filter_map h xs)) (h y)) xs ++ number_in same (firsts same (filter_map h xs)) o ∷ []) e
+      ∙ map-append (λ y. number_in same (each_once same (filter_map h xs)) (h y)) xs (x ∷ [])
+      ∙ ap (λ o. map (λ y. number_in same (each_once same (filter_map h xs)) (h y)) xs ++ number_in same (each_once same (filter_map h xs)) o ∷ []) e
 
   -- and one with a key
-  pub keys_some : (xs : List X) (x : X) (key : A) → h x ≡ Some key → firsts same (filter_map h (xs ++ x ∷ [])) ≡ insert_key same (firsts same (filter_map h xs)) key
+  pub keys_some : (xs : List X) (x : X) (key : A) → h x ≡ Some key → each_once same (filter_map h (xs ++ x ∷ [])) ≡ insert_key same (each_once same (filter_map h xs)) key
   keys_some xs x key e = more_keys xs x (Some key) e
 
-  pub numbers_some : (xs : List X) (x : X) (key : A) → h x ≡ Some key → map (λ y. number_in same (firsts same (filter_map h (xs ++ x ∷ []))) (h y)) (xs ++ x ∷ []) ≡ map (λ y. number_in same (firsts same (filter_map h xs)) (h y)) xs ++ (position_or_len (same key) (firsts same (filter_map h xs)) + 1) ∷ []
+  pub numbers_some : (xs : List X) (x : X) (key : A) → h x ≡ Some key → map (λ y. number_in same (each_once same (filter_map h (xs ++ x ∷ []))) (h y)) (xs ++ x ∷ []) ≡ map (λ y. number_in same (each_once same (filter_map h xs)) (h y)) xs ++ (position_or_len (same key) (each_once same (filter_map h xs)) + 1) ∷ []
   numbers_some xs x key e =
-      let keys : List A = firsts same (filter_map h xs) in
+      let keys : List A = each_once same (filter_map h xs) in
       ap (λ now. map (λ y. number_in same now (h y)) (xs ++ x ∷ [])) (keys_some xs x key e)
       ∙ map-append (λ y. number_in same (insert_key same keys key) (h y)) xs (x ∷ [])
       ∙ ap (λ front. front ++ number_in same (insert_key same keys key) (h x) ∷ []) (numbers_kept keys key xs (all_in [] xs))

@@ -11,8 +11,8 @@ use Rattle.gate_intern.specs.declared.field.Field.{Field}
 use Rattle.gate_intern.specs.declared.field.Field.TheVariants.{Kind, Project, Branch, Refname, Username, Email, Comment}
 
 -- each value once, in order of first appearance: what is in a set that keeps its order, once they were put there in turn
-abbrev pub firsts : {A : Type 0} → (A → A → Bool) → List A → List A
-firsts same values = insert_all same [] values
+abbrev pub each_once : {A : Type 0} → (A → A → Bool) → List A → List A
+each_once same values = insert_all same [] values
 
 -- the number of a key: one more than its place among the keys, and 0 where there is none
 abbrev pub number_in : {A : Type 0} → (A → A → Bool) → List A → Option A → ℕ
@@ -31,7 +31,7 @@ field_of Comment event = event.comment
 
 -- the texts of a field
 abbrev pub texts_of : Field → List Event → List (List ℕ)
-texts_of field events = firsts bytes_eq (filter_map (field_of field) events)
+texts_of field events = each_once bytes_eq (filter_map (field_of field) events)
 
 -- the number of each event's text
 abbrev pub column_of : Field → List Event → List ℕ
@@ -49,9 +49,9 @@ columns_of events = map (λ field. column_at field events) (Kind ∷ Project ∷
 abbrev pub is_same_vote : List ℕ × ℤ → List ℕ × ℤ → Bool
 is_same_vote vote other = bytes_eq vote.0 other.0 && int_eq vote.1 other.1
 
--- the approvals, whoever's event they came with
+-- the approvals of all events
 abbrev pub approvals_of : List Event → List (List ℕ × ℤ)
-approvals_of events = firsts is_same_vote (flat_map (λ event. event.approvals) events)
+approvals_of events = each_once is_same_vote (flat_map (λ event. event.approvals) events)
 
 -- as many slots as the fullest event has approvals
 abbrev pub slots_of : List Event → ℕ

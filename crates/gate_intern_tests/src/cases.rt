@@ -18,7 +18,8 @@ deletes
 events
 ";
 
-const ONE: &str = "ref-updated|docs|-|refs/heads/main|0000000000000000000000000000000000000000|ann||-";
+const ONE: &str =
+    "ref-updated|docs|-|refs/heads/main|0000000000000000000000000000000000000000|ann||-";
 
 const ONE_SHOWN: &str = "rows 1
 kind 'ref-updated': 1
