@@ -8,6 +8,7 @@ use Rattle.gate_record.specs.declared.transit.PipelineItem.{PipelineItem}
 use Rattle.gate_record.specs.declared.transit.TenantItem.{TenantItem}
 use Rattle.gate_config.specs.declared.config.Config.{Config}
 use Rattle.gate_config.specs.Lookups.{pipelines_of}
+use Rattle.gate_tenant.specs.Dispatching.{chosen}
 use Rattle.gate_tenant.specs.Histories.{EachGetsItsOwn, NothingIsLost, beginning, begins, gathers, gives, item_for, items_for, matches, moves}
 use Rattle.gate_tenant.specs.States.{State, config_of, first_state, has_ended, matched, moved_out, put_back, room_of, state_of, tenant_of}
 use Rattle.gate_queue.specs.declared.tagged.Tagged.{Tagged}
@@ -15,7 +16,7 @@ use Rattle.gate_queue.specs.Seats.{IsHeadOf, SenderSeat, Shape, TakerSeat}
 use Rattle.gate_run.specs.declared.dispatcher.Dispatching.{Dispatching}
 use Rattle.gate_run.specs.Dispatchers.{GivenInOrder, HasDispatched, IsDispatching}
 use Rattle.gate_run.specs.Seats.{PutAt, fresh_head, fresh_tail, seat_in, seat_of, values}
-use Rattle.gate_run.proofs.Seated.{fresh_put, taken_more}
+use Rattle.gate_run.proofs.Seated.{fresh_put, fresh_seats, taken_more}
 
 module _ {config : Config} {t : ℕ} {f : Dispatching} (f' : Dispatching) (was : IsDispatching config t f) (conf : config_of f'.dispatch ≡ config_of f.dispatch) (tenant : tenant_of f'.dispatch ≡ tenant_of f.dispatch) where
   puts : f'.tails.items ≡ f.tails.items → (p : ℕ) (d : SenderSeat PipelineItem) → p < length f'.tails.items → (slice_index_or f'.tails.items p d).put ≡ items_for p was.past.given
@@ -164,6 +165,20 @@ dispatching_begins {config} {t} f source targets conf tenant state head kept tai
   place = ap (λ (s : State). s.out) state;
   gathered = ap option_to_list kept ∙ ap (λ (h : TakerSeat TenantItem). values h.taken) (sym head);
   put = fresh_put 0 f.tails.items targets tails;
+}
+
+-- it never began: nothing was taken or put
+pub not_dispatched : (config : Config) (t : ℕ) (source : Shape) (targets : List Shape) (head : TakerSeat TenantItem) (tails : List (SenderSeat PipelineItem)) → head ≡ fresh_head source → tails ≡ map (fresh_tail 0) targets →
+    HasDispatched config t source targets head tails
+not_dispatched config t source targets head tails not_taken not_put = record {
+  head_of = ap (λ (h : TakerSeat TenantItem). h.queue) not_taken;
+  seats = fresh_seats 0 tails targets not_put;
+  given = record {
+    matched = [];
+    unmatched = [];
+    took = ap (λ (h : TakerSeat TenantItem). values h.taken) (sym not_taken);
+    put = λ p d low. (chosen config t p [], ap (λ zs. zs ++ chosen config t p []) (fresh_put 0 tails targets not_put p d low));
+  };
 }
 
 pub all_in_order : {config : Config} {t : ℕ} {f : Dispatching} → EachGetsItsOwn → NothingIsLost → length f.tails.items ≡ length (pipelines_of config t) → IsDispatching config t f → GivenInOrder config t f.head.taken f.tails.items

@@ -6,7 +6,6 @@ use Rattle.gate_record.specs.declared.transit.ConnEntry.{ConnEntry}
 use Rattle.gate_record.specs.declared.transit.PipelineItem.{PipelineItem}
 use Rattle.gate_record.specs.declared.transit.TenantItem.{TenantItem}
 use Rattle.gate_config.specs.declared.config.Config.{Config}
-use Rattle.gate_tenant.specs.States.{config_of}
 use Rattle.gate_queue.specs.Seats.{QueueName, SenderSeat, Shape, TakerSeat}
 use Rattle.gate_run.specs.declared.putting.PassedOn.{PassedOn}
 use Rattle.gate_run.specs.declared.reader.Reader.{Reader}
@@ -158,7 +157,7 @@ module _ {F G : Type 0} {config : Config} {to_come : F → Told} {faults : F →
         targets = w.targets.now;
         targets_here = is.puts_into;
         did = subst (λ x. HasDispatched x t w.source.now w.targets.now end.head end.tails.items) is.by_config
-            (subst (λ x. HasDispatched (config_of w.dispatch) x w.source.now w.targets.now end.head end.tails.items) is.of_tenant pair.are);
+            (subst (λ x. HasDispatched w.config.now x w.source.now w.targets.now end.head end.tails.items) is.of_tenant pair.are);
       }
 
   -- what the worker of a pipeline did

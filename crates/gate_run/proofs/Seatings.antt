@@ -8,7 +8,6 @@ use Rattle.gate_record.specs.declared.transit.PipelineItem.{PipelineItem}
 use Rattle.gate_record.specs.declared.transit.TenantItem.{TenantItem}
 use Rattle.gate_config.specs.declared.config.Config.{Config}
 use Rattle.gate_config.specs.Lookups.{pipelines_of, tenants_of}
-use Rattle.gate_tenant.specs.States.{config_of, first_state, state_of, tenant_of}
 use Rattle.gate_pipeline.specs.States as pipeline
 use Rattle.gate_queue.specs.Seats.{SenderSeat, Shape, TakerSeat}
 use Rattle.gate_source.specs.Stops.{IsNoteOf}
@@ -91,17 +90,15 @@ forwarder_of config sources targets heads rows m c w by_config of_conn of_source
   };
 }
 
-pub dispatcher_of : (config : Config) (sources : List Shape) (targets : List (List Shape)) (heads : List (TakerSeat TenantItem)) (rows : List (List (SenderSeat PipelineItem))) (t : ℕ) (w : Dispatcher) → config_of w.dispatch ≡ config → tenant_of w.dispatch ≡ t → state_of w.dispatch ≡ first_state config t → w.tenant.0 ≡ t →
+pub dispatcher_of : (config : Config) (sources : List Shape) (targets : List (List Shape)) (heads : List (TakerSeat TenantItem)) (rows : List (List (SenderSeat PipelineItem))) (t : ℕ) (w : Dispatcher) → w.config.now ≡ config → w.tenant.0 ≡ t →
     slice_get sources t ≡ Some w.source.now → slice_get targets t ≡ Some w.targets.now → length w.targets.now ≡ length (pipelines_of config t) → slice_get heads t ≡ Some w.head → heads ≡ map fresh_head sources → slice_get rows t ≡ Some w.tails.items → rows ≡ map (map (fresh_tail 0)) targets →
     IsDispatcherOf config sources targets t w
-dispatcher_of config sources targets heads rows t w by_config of_tenant begins own_tenant of_source of_targets many of_head fresh of_tails fresh' = record {
+dispatcher_of config sources targets heads rows t w by_config own_tenant of_source of_targets many of_head fresh of_tails fresh' = record {
   by_config = by_config;
   of_tenant = own_tenant;
   source = of_source;
   puts_into = of_targets;
   can = record {
-    of_tenant = of_tenant ∙ sym own_tenant;
-    begins = begins ∙ (λ i. first_state (sym by_config i) (sym own_tenant i));
     pipelines = many ∙ (λ i. length (pipelines_of (sym by_config i) (sym own_tenant i)));
     not_taken = is_mapped fresh_head sources heads t w.source.now w.head fresh of_source of_head;
     not_put = is_mapped (map (fresh_tail 0)) targets rows t w.targets.now w.tails.items fresh' of_targets of_tails;

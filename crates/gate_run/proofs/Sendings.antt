@@ -11,8 +11,6 @@ use Rattle.crossbeam_utils.proofs.sync.parker.RuledParker.TheSendSync as parker
 use Rattle.gate_record.proofs.transit.ConnEntry.TheSendSync as entry
 use Rattle.gate_record.proofs.transit.PipelineItem.TheSendSync as trigger
 use Rattle.gate_record.proofs.transit.TenantItem.TheSendSync as item
-use Rattle.gate_tenant.proofs.hand.Hand.TheSendSync as hand
-use Rattle.gate_tenant.proofs.marks.Marks.TheSendSync as marks
 use Rattle.gate_pipeline.proofs.pipeline.Pipeline.TheSendSync as state
 use Rattle.gate_run.proofs.posts.InboxSeat.TheSendSync as inbox
 use Rattle.gate_items.proofs.action.Manage.TheSendSync as manage
@@ -21,7 +19,6 @@ use Rattle.gate_config.specs.contracts.config.Config as config
 use Rattle.gate_run.specs.contracts.dispatcher.Dispatcher as dispatcher
 use Rattle.gate_run.specs.contracts.forwarder.Forwarder as forwarder
 use Rattle.gate_run.specs.contracts.worker.Worker as worker
-use Rattle.gate_tenant.specs.contracts.dispatch.Dispatch as dispatch
 
 module _ (κ : NamedLft) (config_sync : IsSync config.the_row) where
   forwarder_parts : AllSend (shape (forwarder.the_type κ)).fields
@@ -30,11 +27,8 @@ module _ (κ : NamedLft) (config_sync : IsSync config.the_row) where
   pub forwarder_send : IsSend (forwarder.the_row κ)
   forwarder_send = recorded_send (forwarder.the_field κ).row (forwarder.the_type κ).D (forwarder.the_type κ).to (forwarder.the_type κ).to_one (struct_send (shape (forwarder.the_type κ)) forwarder_parts)
 
-  dispatch_parts : AllSend (shape (dispatch.the_type κ)).fields
-  dispatch_parts = (search (sendable, crosses) depth 40 fits 20000, (search (sendable, crosses) depth 40 fits 20000, (search (sendable, crosses, item.the_send) depth 40 fits 20000, (search (sendable, crosses, hand.the_field_send) depth 40 fits 20000, (search (sendable, crosses, marks.the_field_send) depth 40 fits 20000, tt)))))
-
   dispatcher_parts : AllSend (shape (dispatcher.the_type κ)).fields
-  dispatcher_parts = (search (sendable, crosses) depth 40 fits 20000, (search (sendable, crosses) depth 40 fits 20000, (struct_send (shape (dispatch.the_type κ)) dispatch_parts, (search (sendable, crosses, queue.the_sync, item.the_send) depth 40 fits 20000, (search (sendable, crosses, head.the_send, item.the_send) depth 40 fits 20000, (search (sendable, crosses, queue.the_sync, trigger.the_send) depth 40 fits 20000, (search (sendable, crosses, tail.the_send, trigger.the_send) depth 40 fits 20000, (search (sendable, crosses, parker.the_field_send) depth 40 fits 20000, tt))))))))
+  dispatcher_parts = (search (sendable, crosses) depth 40 fits 20000, (search (sendable, crosses) depth 40 fits 20000, (search (sendable, crosses) depth 40 fits 20000, (search (sendable, crosses, queue.the_sync, item.the_send) depth 40 fits 20000, (search (sendable, crosses, head.the_send, item.the_send) depth 40 fits 20000, (search (sendable, crosses, queue.the_sync, trigger.the_send) depth 40 fits 20000, (search (sendable, crosses, tail.the_send, trigger.the_send) depth 40 fits 20000, (search (sendable, crosses, parker.the_field_send) depth 40 fits 20000, tt))))))))
 
   pub dispatcher_send : IsSend (dispatcher.the_row κ)
   dispatcher_send = recorded_send (dispatcher.the_field κ).row (dispatcher.the_type κ).D (dispatcher.the_type κ).to (dispatcher.the_type κ).to_one (struct_send (shape (dispatcher.the_type κ)) dispatcher_parts)

@@ -6,20 +6,17 @@ use Rattle.gate_record.specs.declared.transit.TenantItem.{TenantItem}
 use Rattle.gate_record.specs.Prefixes.{IsPrefixOf}
 use Rattle.gate_config.specs.declared.config.Config.{Config}
 use Rattle.gate_config.specs.Lookups.{pipelines_of}
-use Rattle.gate_tenant.specs.declared.dispatch.Dispatch.{Dispatch}
 use Rattle.gate_tenant.specs.Dispatching.{chosen}
 use Rattle.gate_tenant.specs.Histories.{Happens, History, items_for}
-use Rattle.gate_tenant.specs.States.{config_of, first_state, state_of, tenant_of}
+use Rattle.gate_tenant.specs.States.{config_of, state_of, tenant_of}
 use Rattle.gate_queue.specs.declared.tagged.Tagged.{Tagged}
 use Rattle.gate_queue.specs.Seats.{IsHeadOf, SenderSeat, Shape, TakerSeat}
 use Rattle.gate_run.specs.declared.dispatcher.Dispatching.{Dispatching}
 use Rattle.gate_run.specs.Seats.{fresh_head, fresh_tail, seat_in, seat_of, values}
 
--- the worker of tenant t can begin: nothing was gathered, and by its seats nothing was taken or put
-pub record CanDispatch (t : ℕ) (dispatch : Dispatch) (source : Shape) (targets : List Shape) (head : TakerSeat TenantItem) (tails : List (SenderSeat PipelineItem)) : Type 0 where
-  pub of_tenant : tenant_of dispatch ≡ t
-  pub begins : state_of dispatch ≡ first_state (config_of dispatch) t
-  pub pipelines : length targets ≡ length (pipelines_of (config_of dispatch) t)
+-- the worker of tenant t can begin: each of its pipelines has a queue, and by its seats nothing was taken or put
+pub record CanDispatch (config : Config) (t : ℕ) (source : Shape) (targets : List Shape) (head : TakerSeat TenantItem) (tails : List (SenderSeat PipelineItem)) : Type 0 where
+  pub pipelines : length targets ≡ length (pipelines_of config t)
   pub not_taken : head ≡ fresh_head source
   pub not_put : tails ≡ map (fresh_tail 0) targets
 

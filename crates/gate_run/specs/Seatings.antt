@@ -2,7 +2,6 @@
 use Rattle.std.specs.Prelude.{◌≡◌, ℕ, List, Some, length, slice_get}
 use Rattle.gate_config.specs.declared.config.Config.{Config}
 use Rattle.gate_config.specs.Lookups.{pipelines_of}
-use Rattle.gate_tenant.specs.States.{config_of}
 use Rattle.gate_queue.specs.Seats.{Shape}
 use Rattle.gate_run.specs.declared.dispatcher.Dispatcher.{Dispatcher}
 use Rattle.gate_run.specs.declared.forwarder.Forwarder.{Forwarder}
@@ -32,11 +31,11 @@ pub record IsForwarderOf (config : Config) (sources targets : List Shape) (c : �
 
 -- the worker of tenant t, from its queue to the trigger queues of its pipelines
 pub record IsDispatcherOf (config : Config) (sources : List Shape) (targets : List (List Shape)) (t : ℕ) (dispatcher : Dispatcher) : Type 0 where
-  pub by_config : config_of dispatcher.dispatch ≡ config
+  pub by_config : dispatcher.config.now ≡ config
   pub of_tenant : dispatcher.tenant.0 ≡ t
   pub source : slice_get sources t ≡ Some dispatcher.source.now
   pub puts_into : slice_get targets t ≡ Some dispatcher.targets.now
-  pub can : CanDispatch dispatcher.tenant.0 dispatcher.dispatch dispatcher.source.now dispatcher.targets.now dispatcher.head dispatcher.tails.items
+  pub can : CanDispatch dispatcher.config.now dispatcher.tenant.0 dispatcher.source.now dispatcher.targets.now dispatcher.head dispatcher.tails.items
 
 -- the worker of pipeline p of tenant t, of its trigger queue and its place of the inbox
 pub record IsWorkerOf {G : Type 0} (config : Config) (t : ℕ) (sources : List Shape) (inbox : List InboxEnds) (p : ℕ) (worker : Worker G) : Type 0 where

@@ -5,7 +5,6 @@ use Rattle.gate_record.specs.declared.transit.PipelineItem.{PipelineItem}
 use Rattle.gate_record.specs.declared.transit.TenantItem.{TenantItem}
 use Rattle.gate_config.specs.declared.config.Config.{Config}
 use Rattle.gate_config.specs.Lookups.{connections_of, tenants_of}
-use Rattle.gate_tenant.specs.States.{config_of}
 use Rattle.gate_run.specs.declared.dispatcher.Dispatcher.{Dispatcher}
 use Rattle.gate_run.specs.declared.forwarder.Forwarder.{Forwarder}
 use Rattle.gate_run.specs.declared.gathering.Ends.{Ends}
@@ -31,7 +30,7 @@ abbrev pub ReadyToForward : Forwarder → Type 0
 ReadyToForward w = CanForward w.config.now w.conn.0 w.source.now w.targets.now w.head w.tails.items
 
 abbrev pub ReadyToDispatch : Dispatcher → Type 0
-ReadyToDispatch w = CanDispatch w.tenant.0 w.dispatch w.source.now w.targets.now w.head w.tails.items
+ReadyToDispatch w = CanDispatch w.config.now w.tenant.0 w.source.now w.targets.now w.head w.tails.items
 
 abbrev pub ReadyToWork : {G : Type 0} → Worker G → Type 0
 ReadyToWork w = CanWork w.config.now w.tenant.0 w.pipeline.0 w.state w.source.now w.head
@@ -43,7 +42,7 @@ abbrev pub Forwarded : Forwarder → PassedOn ConnEntry TenantItem → Type 0
 Forwarded w end = HasForwarded w.config.now w.conn.0 w.source.now w.targets.now end.head end.tails.items
 
 abbrev pub Dispatched : Dispatcher → PassedOn TenantItem PipelineItem → Type 0
-Dispatched w end = HasDispatched (config_of w.dispatch) w.tenant.0 w.source.now w.targets.now end.head end.tails.items
+Dispatched w end = HasDispatched w.config.now w.tenant.0 w.source.now w.targets.now end.head end.tails.items
 
 abbrev pub Worked : {G : Type 0} → Worker G → WorkerEnd → Type 0
 Worked w end = HasWorked w.config.now w.tenant.0 w.pipeline.0 w.head end.head w.management end.management w.results end.results end.state

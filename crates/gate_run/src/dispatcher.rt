@@ -12,6 +12,7 @@ use crate::signals::Signals;
 use crate::went::Went;
 use crate::works::Work;
 use crossbeam_utils::sync::Parker;
+use gate_config::Config;
 use gate_queue::{EventQueue, Head, Tail};
 use gate_record::{Memory, PipelineItem, TenantId, TenantItem};
 use gate_tenant::{Dispatch, each_pipeline_gets_its_own, nothing_that_was_gathered_is_lost};
@@ -24,9 +25,8 @@ use std::time::Clock;
 #[derive(Drop)]
 pub(crate) struct Dispatcher<'a> {
     pub(crate) alloc: Global,
+    pub(crate) config: &'a Config,
     pub(crate) tenant: TenantId,
-    /// Nothing was gathered yet.
-    pub(crate) dispatch: Dispatch<'a>,
     /// The tenant's queue, and the taker's seat in it.
     pub(crate) source: &'a EventQueue<TenantItem>,
     pub(crate) head: Head<TenantItem>,
@@ -39,9 +39,9 @@ pub(crate) struct Dispatcher<'a> {
 impl<'a> Work<PassedOn<TenantItem, PipelineItem>> for Dispatcher<'a> {
     ghost use Rattle.gate_run.specs.Dispatchers.{CanDispatch};
 
-    ghost ready = { λ w. CanDispatch w.tenant.0 w.dispatch w.source.now w.targets.now w.head w.tails.items };
+    ghost ready = { λ w. CanDispatch w.config.now w.tenant.0 w.source.now w.targets.now w.head w.tails.items };
 
-    ghost comes_to = { λ w end. HasDispatched (config_of w.dispatch) w.tenant.0 w.source.now w.targets.now end.head end.tails.items };
+    ghost comes_to = { λ w end. HasDispatched w.config.now w.tenant.0 w.source.now w.targets.now end.head end.tails.items };
 
     fn work<R: Threads + Wait + Clock + Sync>(
         self,
@@ -50,14 +50,19 @@ impl<'a> Work<PassedOn<TenantItem, PipelineItem>> for Dispatcher<'a> {
     ) -> PassedOn<TenantItem, PipelineItem> {
         let Dispatcher {
             alloc,
+            config,
             tenant,
-            dispatch,
             source,
             head,
             targets,
             tails,
             parker,
         } = self;
+        // What it matches by is made here, where it is used, so that no other thread has to be able to use it.
+        let Ok(dispatch) = Dispatch::new(alloc, config, tenant) else {
+            signals.halt();
+            return PassedOn { head, tails };
+        };
         let mut dispatching = Dispatching {
             tenant,
             dispatch,

@@ -122,8 +122,8 @@ pub(crate) fn seat_dispatchers<'a>(
         wakers.push(parker.unparker().clone()?)?;
         dispatchers.push(Dispatcher {
             alloc,
+            config,
             tenant,
-            dispatch: Dispatch::new(alloc, config, tenant)?,
             source: &sources[number],
             head: next_of(&mut heads),
             targets: targets[number].as_slice(),

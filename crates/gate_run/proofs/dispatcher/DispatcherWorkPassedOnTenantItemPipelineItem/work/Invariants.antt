@@ -1,6 +1,5 @@
 use Rattle.std.specs.Prelude.{◌≡◌, None, map}
 use Rattle.gate_queue.specs.Seats.{IsHeadOf}
-use Rattle.gate_tenant.specs.States.{config_of}
 use Rattle.gate_run.specs.Dispatchers.{IsDispatching}
 use Rattle.gate_run.specs.Seats.{seat_in, seat_of}
 use Rattle.gate_run.proofs.dispatcher.DispatcherWorkPassedOnTenantItemPipelineItem.work.Given as goal
@@ -8,7 +7,7 @@ use Rattle.gate_run.proofs.dispatcher.DispatcherWorkPassedOnTenantItemPipelineIt
 abbrev pub invariant-loop : goal.invariant-loop
 invariant-loop g l =
     ((goal.iterator-loop g).can_next l.iterator' × (goal.iterator-loop g).is_finite l.iterator')
-    × IsDispatching (config_of l.fn.self.dispatch) l.fn.self.tenant.0 l.dispatching
+    × IsDispatching l.fn.self.config.now l.fn.self.tenant.0 l.dispatching
     × (l.dispatching.kept ≡ None)
     × IsHeadOf l.source l.dispatching.head
     × (map seat_of l.dispatching.tails.items ≡ map (seat_in 0) l.targets)
