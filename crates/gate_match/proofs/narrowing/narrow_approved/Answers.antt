@@ -1,0 +1,31 @@
+use Rattle.std.proofs.Common.{◌∙◌, ap, ℕ, ℤ, List, Bool, map, take}
+use Rattle.std.specs.List.{list_all}
+use Rattle.gate_record.specs.declared.event.Event.{Event}
+use Rattle.gate_rule.specs.Rule.{is_given}
+use Rattle.gate_match.specs.Marks.{both}
+use Rattle.gate_match.specs.Narrowing.{given_to}
+use Rattle.gate_match.proofs.Rows.{all_begins, all_more}
+use Rattle.gate_match.proofs.narrowing.narrow_approved.Goals as goal
+
+abbrev test : List ℕ × ℤ → Event → Bool
+test wanted event = is_given wanted event.approvals
+
+pub loop-wanted-init : goal.loop-wanted-init
+loop-wanted-init c = record {
+  len = c.requires;
+  leaves = all_begins test c.args.asked.now c.args.out.now c.args.columns.now c.requires;
+}
+
+pub loop-wanted-preserved : goal.loop-wanted-preserved
+loop-wanted-preserved c =
+    let events = c.args.columns.now in
+    let i = c.loop-wanted.wanted-index in
+    record {
+      len = c.and.ensures.len ∙ c.loop-wanted.invariant.len;
+      leaves =
+          c.and.ensures.value
+          ∙ ap (λ rows. both rows c.in_ok-given.given) c.loop-wanted.invariant.leaves
+          ∙ ap (both (both c.args.out.now (map (λ event. list_all (λ wanted. test wanted event) (take i c.args.asked.now)) events)))
+          (c.in_ok-given.ensures ∙ ap (λ wanted. given_to wanted events) c.wanted-item.is)
+          ∙ all_more test c.args.asked.now i c.wanted-item.result c.args.out.now events c.loop-wanted-test.true;
+    }

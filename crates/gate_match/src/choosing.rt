@@ -1,0 +1,240 @@
+ghost use Rattle.std.specs.Prelude.{◌≡◌, ℕ, IfOk, IfSome, OnOk, length, map, replicate, false, true};
+ghost use Rattle.std.specs.List.{All, zip};
+ghost use Rattle.gate_config.specs.Lookups.{rules_of};
+ghost use Rattle.gate_match.specs.Choosing.{AreActive, active_in, chosen, chosen_of, has_all, is_conn_of};
+ghost use Rattle.gate_match.specs.Compiling.{rules_in};
+ghost use Rattle.gate_match.specs.Knowing.{AreRight};
+ghost use Rattle.gate_match.specs.Marks.{either};
+ghost use Rattle.gate_match.specs.Selecting.{config_of, mask_of, masks_of, tenant_of};
+ghost use Rattle.gate_match.specs.Tables.{AskAlike};
+ghost use Rattle.gate_match.specs.declared.active.Active.{Active};
+
+use crate::active::Active;
+use crate::answers::Answers;
+use crate::compiled::Compiled;
+use crate::compiling::compile;
+use crate::joining::add_meeting;
+use crate::listed::listed_rows;
+use crate::mask::Mask;
+use crate::program::Program;
+use crate::table::{matchers, pipelines, place_of, table};
+use gate_config::Config;
+use gate_intern::Columns;
+use gate_record::{ConnId, Memory, PipelineId, TenantId};
+use std::alloc::Global;
+
+impl<'c> Program<'c> {
+    /// The program of a tenant. `Memory` where its rules and the matchers of their patterns find no room. Takes time in the
+    /// patterns of the rules, and a matcher's making for each distinct text of them.
+    pub fn new(alloc: Global, config: &'c Config, tenant: TenantId) -> Result<Program<'c>, Memory>
+        ensures config { IfOk result (λ program. config_of program ≡ config.entry.now) }
+        ensures tenant { IfOk result (λ program. tenant_of program ≡ tenant.0) }
+    {
+        let shelf = matchers(alloc, config, tenant)?;
+        let table = table(alloc, config, tenant, &shelf)?;
+        Ok(Program {
+            config,
+            tenant,
+            shelf,
+            table,
+        })
+    }
+
+    /// A mask for each pipeline of the tenant, by number, with a word for each event of the batch: all ones where the pipeline
+    /// selects the event, an event of the connection that `conns` has at its place, and 0 where it doesn't. `Memory` where
+    /// the masks, or what the searches need, find no room.
+    ///
+    /// Each pattern is tried once on each distinct text of the batch, and only where a rule of a connection that is in
+    /// the batch asks for it.
+    pub fn select(
+        &self,
+        alloc: Global,
+        columns: &Columns<'_>,
+        conns: &[u32],
+    ) -> Result<Vec<Vec<u32>>, Memory>
+        requires { length conns.now ≡ length columns.now }
+        ensures { IfOk result (λ masks. map (λ mask. mask.items) masks.items ≡ masks_of (config_of self.now) (tenant_of self.now) (zip conns.now columns.now)) }
+    {
+        let actives = self.actives(alloc, columns, conns)?;
+        let mut answers = Answers::none(alloc);
+        let mut masks = Vec::new(alloc);
+        for pipeline in 0..pipelines(self.config, self.tenant) {
+            let mask = self.mask(
+                alloc,
+                columns,
+                conns,
+                pipeline,
+                actives.as_slice(),
+                &mut answers,
+            )?;
+            masks.push(mask)?;
+        }
+        Ok(masks)
+    }
+
+    // The mask of a pipeline.
+    fn mask(
+        &self,
+        alloc: Global,
+        columns: &Columns<'_>,
+        conns: &[u32],
+        pipeline: u32,
+        actives: &[Active],
+        answers: &mut Answers<'c>,
+    ) -> Result<Vec<u32>, Memory>
+        requires right { AreRight columns.now answers.old }
+        requires len { length conns.now ≡ length columns.now }
+        requires actives { AreActive (config_of self.now) (tenant_of self.now) (zip conns.now columns.now) actives.now }
+        requires all { has_all actives.now conns.now ≡ true }
+        ensures right { AreRight columns.now answers.new }
+        ensures mask { IfOk result (λ mask. mask.items ≡ mask_of (config_of self.now) (tenant_of self.now) pipeline (zip conns.now columns.now)) }
+    {
+        let rows = self.chosen(alloc, columns, pipeline, actives, answers)?;
+        Ok(rows.into_words())
+    }
+
+    // The rows that a pipeline selects of these connections.
+    fn chosen(
+        &self,
+        alloc: Global,
+        columns: &Columns<'_>,
+        pipeline: u32,
+        actives: &[Active],
+        answers: &mut Answers<'c>,
+    ) -> Result<Mask, Memory>
+        requires right { AreRight columns.now answers.old }
+        requires lens { All (λ (active : Active). length active.rows ≡ length columns.now) actives.now }
+        ensures right { AreRight columns.now answers.new }
+        ensures chosen { IfOk result (λ rows. rows ≡ chosen (config_of self.now) (tenant_of self.now) pipeline columns.now (replicate (length columns.now) false) actives.now) }
+    {
+        let mut out = Mask::none(alloc, columns.rows())?;
+        for active in actives {
+            self.add_chosen(alloc, columns, pipeline, active, answers, &mut out)?;
+        }
+        Ok(out)
+    }
+
+    // Adds the rows that a pipeline selects of a connection.
+    fn add_chosen(
+        &self,
+        alloc: Global,
+        columns: &Columns<'_>,
+        pipeline: u32,
+        active: &Active,
+        answers: &mut Answers<'c>,
+        out: &mut Mask,
+    ) -> Result<(), Memory>
+        requires right { AreRight columns.now answers.old }
+        requires rows { length active.now.rows ≡ length columns.now }
+        requires len { length out.old ≡ length columns.now }
+        ensures right { AreRight columns.now answers.new }
+        ensures len { length out.new ≡ length columns.now }
+        ensures adds { OnOk result (out.new ≡ either out.old (chosen_of (config_of self.now) (tenant_of self.now) pipeline columns.now active.now)) }
+    {
+        match self.find(pipeline, active.conn) {
+            Some(rules) => add_meeting(
+                alloc,
+                &self.shelf,
+                columns,
+                rules,
+                answers,
+                &active.rows,
+                out,
+            ),
+            None => {
+                let conn = ConnId(active.conn);
+                let rules = self.config.rules(self.tenant, PipelineId(pipeline), conn);
+                let rules = compile(alloc, &self.shelf, rules)?;
+                add_meeting(
+                    alloc,
+                    &self.shelf,
+                    columns,
+                    rules.as_slice(),
+                    answers,
+                    &active.rows,
+                    out,
+                )
+            }
+        }
+    }
+
+    // The rules of a pipeline for a connection. Every connection of the configuration has them.
+    fn find(&self, pipeline: u32, conn: u32) -> Option<&[Compiled<'c>]>
+        ensures { IfSome result (λ rules. AskAlike (rules_in rules.now) (rules_of (config_of self.now) (tenant_of self.now) pipeline conn)) }
+    {
+        match self
+            .table
+            .as_slice()
+            .get(place_of(self.config, pipeline, conn))
+        {
+            Some(entry) if entry.pipeline == pipeline && entry.conn == conn => {
+                Some(entry.rules.as_slice())
+            }
+            _ => None,
+        }
+    }
+
+    // The connections of a batch, each once, with the rows whose project is listed under it.
+    fn actives(
+        &self,
+        alloc: Global,
+        columns: &Columns<'_>,
+        conns: &[u32],
+    ) -> Result<Vec<Active>, Memory>
+        requires { length conns.now ≡ length columns.now }
+        ensures active { IfOk result (λ actives. AreActive (config_of self.now) (tenant_of self.now) (zip conns.now columns.now) actives.items) }
+        ensures all { IfOk result (λ actives. has_all actives.items conns.now ≡ true) }
+    {
+        let mut actives = Vec::new(alloc);
+        for conn in conns {
+            self.add_active(alloc, columns, conns, *conn, &mut actives)?;
+        }
+        Ok(actives)
+    }
+
+    // Adds a connection, if it isn't there.
+    fn add_active(
+        &self,
+        alloc: Global,
+        columns: &Columns<'_>,
+        conns: &[u32],
+        conn: u32,
+        actives: &mut Vec<Active>,
+    ) -> Result<(), Memory>
+        requires len { length conns.now ≡ length columns.now }
+        requires active { AreActive (config_of self.now) (tenant_of self.now) (zip conns.now columns.now) actives.old.items }
+        ensures active { OnOk result (AreActive (config_of self.now) (tenant_of self.now) (zip conns.now columns.now) actives.new.items) }
+        ensures has { OnOk result (is_conn_of actives.new.items conn ≡ true) }
+        ensures keeps { OnOk result ((c : ℕ) → is_conn_of actives.old.items c ≡ true → is_conn_of actives.new.items c ≡ true) }
+    {
+        if !has_conn(actives.as_slice(), conn) {
+            actives.push(self.active(alloc, columns, conns, conn)?)?;
+        }
+        Ok(())
+    }
+
+    // The rows of a connection whose project is listed under it.
+    fn active(
+        &self,
+        alloc: Global,
+        columns: &Columns<'_>,
+        conns: &[u32],
+        conn: u32,
+    ) -> Result<Active, Memory>
+        requires { length conns.now ≡ length columns.now }
+        ensures conn { IfOk result (λ active. active.conn ≡ conn) }
+        ensures rows { IfOk result (λ active. active.rows ≡ active_in (config_of self.now) (tenant_of self.now) conn (zip conns.now columns.now)) }
+    {
+        let ids = [conn];
+        let mut rows = Mask::of_ids(alloc, conns, &ids)?;
+        let listed = listed_rows(alloc, self.config, self.tenant, ConnId(conn), columns)?;
+        rows.and(&listed);
+        Ok(Active { conn, rows })
+    }
+}
+
+fn has_conn(actives: &[Active], conn: u32) -> bool
+    ensures { result ≡ is_conn_of actives.now conn }
+{
+    actives.iter().any(|active| conn == active.conn)
+}

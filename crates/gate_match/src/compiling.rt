@@ -1,0 +1,89 @@
+ghost use Rattle.std.specs.Prelude.{◌≡◌, IfOk};
+ghost use Rattle.gate_match.specs.Compiling.{rule_of, rules_in};
+ghost use Rattle.gate_match.specs.Narrowing.{patterns_of};
+
+use crate::asked::Asked;
+use crate::compiled::Compiled;
+use crate::shelf::Shelf;
+use gate_record::Memory;
+use gate_rule::{Pattern, Rule};
+use std::alloc::Global;
+
+// The rules of a connection, in order.
+pub(crate) fn compile<'c>(
+    alloc: Global,
+    shelf: &Shelf<'c>,
+    rules: &'c [Rule],
+) -> Result<Vec<Compiled<'c>>, Memory>
+    ensures { IfOk result (λ compiled. rules_in compiled.items ≡ rules.entry.now) }
+{
+    let mut compiled = Vec::with_capacity(alloc, rules.len())?;
+    for rule in rules {
+        compiled.push(compile_rule(alloc, shelf, rule)?)?;
+    }
+    Ok(compiled)
+}
+
+fn compile_rule<'c>(
+    alloc: Global,
+    shelf: &Shelf<'c>,
+    rule: &'c Rule,
+) -> Result<Compiled<'c>, Memory>
+    ensures { IfOk result (λ compiled. rule_of compiled ≡ rule.entry.now) }
+{
+    let event = all_asked(alloc, shelf, rule.event.as_slice())?;
+    let branch = all_asked(alloc, shelf, rule.branch.as_slice())?;
+    let refname = all_asked(alloc, shelf, rule.refname.as_slice())?;
+    let username = all_asked(alloc, shelf, rule.username.as_slice())?;
+    let email = all_asked(alloc, shelf, rule.email.as_slice())?;
+    let comment = all_asked(alloc, shelf, rule.comment.as_slice())?;
+    Ok(Compiled {
+        event,
+        branch,
+        refname,
+        username,
+        email,
+        comment,
+        approval: rule.approval.as_slice(),
+        ignore_deletes: rule.ignore_deletes,
+    })
+}
+
+fn all_asked<'c>(
+    alloc: Global,
+    shelf: &Shelf<'c>,
+    patterns: &'c [Pattern],
+) -> Result<Vec<Asked<'c>>, Memory>
+    ensures { IfOk result (λ asked. patterns_of asked.items ≡ patterns.entry.now) }
+{
+    let mut asked = Vec::with_capacity(alloc, patterns.len())?;
+    for pattern in patterns {
+        asked.push(shelf.asked(pattern))?;
+    }
+    Ok(asked)
+}
+
+// Makes the matchers of a rule's patterns, where their texts have none.
+pub(crate) fn keep_rule<'c>(
+    alloc: Global,
+    shelf: &mut Shelf<'c>,
+    rule: &'c Rule,
+) -> Result<(), Memory> {
+    keep_all(alloc, shelf, rule.event.as_slice())?;
+    keep_all(alloc, shelf, rule.branch.as_slice())?;
+    keep_all(alloc, shelf, rule.refname.as_slice())?;
+    keep_all(alloc, shelf, rule.username.as_slice())?;
+    keep_all(alloc, shelf, rule.email.as_slice())?;
+    keep_all(alloc, shelf, rule.comment.as_slice())
+}
+
+fn keep_all<'c>(
+    alloc: Global,
+    shelf: &mut Shelf<'c>,
+    patterns: &'c [Pattern],
+) -> Result<(), Memory> {
+    for pattern in patterns {
+        shelf.keep(alloc, pattern)?;
+    }
+    Ok(())
+}

@@ -1,0 +1,40 @@
+ghost use Rattle.std.specs.Prelude.{◌≡◌, OnOk, length};
+ghost use Rattle.gate_match.specs.Compiling.{rules_in};
+ghost use Rattle.gate_match.specs.Knowing.{AreRight};
+ghost use Rattle.gate_match.specs.Marks.{both, either};
+ghost use Rattle.gate_match.specs.Narrowing.{meeting_any};
+
+use crate::answers::Answers;
+use crate::compiled::Compiled;
+use crate::mask::Mask;
+use crate::narrowing::narrow;
+use crate::shelf::Shelf;
+use gate_intern::Columns;
+use gate_record::Memory;
+use std::alloc::Global;
+
+// Adds of these rows those that meet one of the rules.
+pub(crate) fn add_meeting<'c>(
+    alloc: Global,
+    shelf: &Shelf<'c>,
+    columns: &Columns<'_>,
+    rules: &[Compiled<'c>],
+    answers: &mut Answers<'c>,
+    rows: &Mask,
+    out: &mut Mask,
+) -> Result<(), Memory>
+    requires right { AreRight columns.now answers.old }
+    requires rows { length rows.now ≡ length columns.now }
+    requires len { length out.old ≡ length columns.now }
+    ensures right { AreRight columns.now answers.new }
+    ensures len { length out.new ≡ length columns.now }
+    ensures adds { OnOk result (out.new ≡ either out.old (both rows.now (meeting_any (rules_in rules.now) columns.now))) }
+{
+    let mut met = Mask::none(alloc, columns.rows())?;
+    for rule in rules {
+        met.copy_from(rows);
+        narrow(alloc, shelf, columns, rule, answers, &mut met)?;
+        out.or(&met);
+    }
+    Ok(())
+}

@@ -1,0 +1,61 @@
+ghost use Rattle.std.specs.Prelude.{◌≡◌, ◌++◌, IfOk, map};
+ghost use Rattle.gate_rule.specs.Pattern.{text_of, tree_in, tree_of};
+ghost use Rattle.gate_match.specs.Finding.{HoldsOfText, finds, ids_where};
+
+use crate::reach::Reach;
+use gate_record::Memory;
+use gate_rule::{Matcher, Pattern, patterns_of_one_text_answer_alike};
+use std::alloc::Global;
+
+// A pattern with its matcher, ready for one text after another.
+#[derive(Drop)]
+pub(crate) struct Kept<'c> {
+    pub(crate) pattern: &'c Pattern,
+    matcher: Matcher<'c>,
+    ghost same: { ∥ tree_in matcher ≡ tree_of pattern.now ∥₁ },
+}
+
+impl<'c> Kept<'c> {
+    pub(crate) fn new(alloc: Global, pattern: &'c Pattern) -> Result<Kept<'c>, Memory>
+        ensures { IfOk result (λ kept. kept.pattern.now ≡ pattern.entry.now) }
+    {
+        let matcher = pattern.matcher(alloc)?;
+        Ok(Kept { pattern, matcher })
+    }
+
+    // Whether the pattern is found in the text, and so each pattern that is built of the same.
+    pub(crate) fn finds(&mut self, reach: Reach, text: &str) -> bool
+        ensures found { HoldsOfText (text_of self.old.pattern.now) (λ pattern. result ≡ finds reach pattern text.now) }
+        ensures same { self.new.pattern ≡ self.old.pattern }
+    {
+        patterns_of_one_text_answer_alike();
+        match reach {
+            Reach::Front => self.matcher.front(text),
+            Reach::Anywhere => self.matcher.within(text),
+        }
+    }
+
+    // The ids of the texts in which the pattern is found.
+    pub(crate) fn ids(
+        &mut self,
+        alloc: Global,
+        reach: Reach,
+        texts: &[&str],
+    ) -> Result<Vec<u32>, Memory>
+        ensures found { IfOk result (λ ids. HoldsOfText (text_of self.old.pattern.now) (λ pattern. ids.items ≡ ids_where (finds reach pattern) (map (λ text. text.now) texts.now))) }
+        ensures same { self.new.pattern ≡ self.old.pattern }
+    {
+        let mut ids = Vec::new(alloc);
+        let mut id: u32 = 0;
+        for text in texts {
+            let Some(next) = id.checked_add(1) else {
+                return Err(Memory);
+            };
+            id = next;
+            if self.finds(reach, text) {
+                ids.push(id)?;
+            }
+        }
+        Ok(ids)
+    }
+}

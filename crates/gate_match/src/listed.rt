@@ -1,0 +1,48 @@
+ghost use Rattle.std.specs.Prelude.{◌≡◌, IfOk, map};
+ghost use Rattle.gate_config.specs.Lookups.{belongs};
+ghost use Rattle.gate_match.specs.Finding.{ids_where};
+ghost use Rattle.gate_match.specs.Choosing.{listed_in};
+
+use crate::mask::Mask;
+use gate_config::Config;
+use gate_intern::{Columns, Field, columns_give_fields_back};
+use gate_record::{ConnId, Memory, TenantId};
+use std::alloc::Global;
+
+// The rows whose project the tenant lists under the connection. Each project is looked up once.
+pub(crate) fn listed_rows(
+    alloc: Global,
+    config: &Config,
+    tenant: TenantId,
+    conn: ConnId,
+    columns: &Columns<'_>,
+) -> Result<Mask, Memory>
+    ensures { IfOk result (λ rows. rows ≡ listed_in config.now tenant.0 conn.0 columns.now) }
+{
+    columns_give_fields_back();
+    let ids = listed_ids(alloc, config, tenant, conn, columns.texts(Field::Project))?;
+    Mask::of_ids(alloc, columns.column(Field::Project), ids.as_slice())
+}
+
+fn listed_ids(
+    alloc: Global,
+    config: &Config,
+    tenant: TenantId,
+    conn: ConnId,
+    projects: &[&str],
+) -> Result<Vec<u32>, Memory>
+    ensures { IfOk result (λ ids. ids.items ≡ ids_where (belongs config.now tenant.0 conn.0) (map (λ text. text.now) projects.now)) }
+{
+    let mut ids = Vec::new(alloc);
+    let mut id: u32 = 0;
+    for project in projects {
+        let Some(next) = id.checked_add(1) else {
+            return Err(Memory);
+        };
+        id = next;
+        if config.belongs(tenant, conn, project) {
+            ids.push(id)?;
+        }
+    }
+    Ok(ids)
+}

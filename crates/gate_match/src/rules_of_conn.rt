@@ -1,0 +1,9 @@
+use crate::compiled::Compiled;
+
+// The rules of a pipeline for the events of a connection.
+#[derive(Drop)]
+pub(crate) struct RulesOfConn<'c> {
+    pub(crate) pipeline: u32,
+    pub(crate) conn: u32,
+    pub(crate) rules: Vec<Compiled<'c>>,
+}

@@ -1,0 +1,9 @@
+//! Tests of gate_match: the masks of generated batches against each rule by itself, and of one batch against those worked by hand.
+#![tactic(auto)]
+
+#[cfg(test)]
+mod batches;
+#[cfg(test)]
+mod cases;
+#[cfg(test)]
+mod plain;
