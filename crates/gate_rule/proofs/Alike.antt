@@ -40,7 +40,7 @@ by_span (Some m) = refl
 pub same_text_same_answers : SameTextSameAnswers
 same_text_same_answers a b e text bytes =
     ∥∥₁_elim a.built (×_prop (Bool-set _ _) (Bool-set _ _)) (λ ra. ∥∥₁_elim b.built (×_prop (Bool-set _ _) (Bool-set _ _)) (λ rb.
-      let same = same_trees (text_of b) a.regex b.regex e refl ra rb in (
-        by_span (find_str (regex_pattern a.regex) text 0) ∙ ap span_at_front (span_alike same text bytes true 0) ∙ sym (by_span (find_str (regex_pattern b.regex) text 0)),
-        is_match_alike same text bytes true 0,
-      )))
+    let same = same_trees (text_of b) a.regex b.regex e refl ra rb in (
+      by_span (find_str (regex_pattern a.regex) text 0) ∙ ap span_at_front (span_alike same text bytes true 0) ∙ sym (by_span (find_str (regex_pattern b.regex) text 0)),
+      is_match_alike same text bytes true 0,
+    )))
