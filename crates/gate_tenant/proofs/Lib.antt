@@ -1,4 +1,5 @@
 pub mod Apart
+pub mod Batches
 pub mod Ends
 pub mod Getting
 pub mod Holding

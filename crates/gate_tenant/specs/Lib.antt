@@ -1,3 +1,4 @@
+pub mod Batches
 pub mod Dispatching
 pub mod Histories
 pub mod States

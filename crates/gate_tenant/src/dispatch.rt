@@ -1,10 +1,13 @@
-ghost use Rattle.std.specs.Prelude.{◌≡◌, ◌==◌, ◌∷◌, ◌++◌, ◌<◌, [], true, false, length, is_some, None, not, IfErr, IfOk, OnErr, OnOk};
+ghost use Rattle.gate_match.specs.Selecting.{config_of as program_config, tenant_of as program_tenant};
+ghost use Rattle.gate_tenant.specs.declared.TheConstants.{MAX_GATHERED};
+ghost use Rattle.std.specs.Prelude.{◌≡◌, ◌≤◌, ◌==◌, ◌∷◌, ◌++◌, ◌<◌, [], true, false, length, is_some, None, not, IfErr, IfOk, OnErr, OnOk};
 
 use crate::MAX_GATHERED;
 use crate::hand::Hand;
 use crate::marks::Marks;
 use crate::matching::{all_marked, match_items, push_end_marks};
 use gate_config::Config;
+use gate_match::Program;
 use gate_record::{Memory, PipelineId, PipelineItem, TenantId, TenantItem};
 use std::alloc::{AllocFailed, Global};
 use std::collections::VecDeque;
@@ -20,10 +23,14 @@ use std::collections::VecDeque;
 pub struct Dispatch<'c> {
     pub(crate) config: &'c Config,
     pub(crate) tenant: TenantId,
+    pub(crate) program: Program<'c>,
     pub(crate) gathered: Vec<TenantItem>,
     pub(crate) hand: Hand,
     pub(crate) marks: Marks,
     /// Items are gathered while the hand is empty.
+    pub ghost few: { length gathered.items ≤ MAX_GATHERED },
+    pub ghost of_config: { program_config program ≡ config.now },
+    pub ghost of_tenant: { program_tenant program ≡ tenant.0 },
     pub ghost in_turn: { (length gathered.items == 0) ≡ false → (hand.items.items ≡ []) × (hand.out ≡ None) },
 }
 
@@ -45,6 +52,7 @@ impl<'c> Dispatch<'c> {
         Ok(Dispatch {
             config,
             tenant,
+            program: Program::new(alloc, config, tenant)?,
             gathered: Vec::new(alloc),
             hand: Hand::new(items),
             marks,
@@ -91,7 +99,13 @@ impl<'c> Dispatch<'c> {
         ensures matches { OnOk result (state_of self.new ≡ matched (config_of self.old) (tenant_of self.old) (state_of self.old)) }
         ensures refused { OnErr result (state_of self.new ≡ state_of self.old) }
     {
-        let mut items = match_items(alloc, self.config, self.tenant, self.gathered.as_slice())?;
+        let mut items = match_items(
+            alloc,
+            self.config,
+            self.tenant,
+            &self.program,
+            self.gathered.as_slice(),
+        )?;
         let marks = self.marks.after(self.gathered.as_slice());
         if all_marked(self.config, self.tenant, &marks.seen)
             && !all_marked(self.config, self.tenant, &self.marks.seen)

@@ -1,6 +1,7 @@
 //! The worker of a tenant: what the tenant's items are matched to, and the hand from which its pipelines are given it.
 #![tactic(auto)]
 
+mod batch;
 mod dispatch;
 mod hand;
 mod laws;

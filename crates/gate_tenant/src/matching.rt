@@ -1,16 +1,19 @@
-ghost use Rattle.std.specs.Prelude.{◌≡◌, ◌++◌, IfOk, OnOk, true, flat_map, length, option_map};
+ghost use Rattle.std.specs.Prelude.{◌≡◌, ◌≤◌, ◌<◌, ◌==◌, ◌+◌, ◌^◌, ◌++◌, IfOk, OnOk, flat_map, length, map, option_map};
 ghost use Rattle.std.specs.Option.{option_to_list};
 ghost use Rattle.gate_config.specs.declared.limits.TheConstants.{MAX_CONNECTIONS};
-ghost use Rattle.std.specs.List.{list_any};
 ghost use Rattle.gate_config.specs.Lookups.{pipelines_of};
-ghost use Rattle.gate_config.specs.Selection.{is_listed};
-ghost use Rattle.gate_rule.specs.Rule.{meets};
-ghost use Rattle.gate_tenant.specs.Dispatching.{all_marked, by_pipeline, chosen_item, end_marks, for_pipeline};
-ghost use Rattle.gate_record.specs.declared.transit.TenantItem.TheVariants as tenant_item;
+ghost use Rattle.gate_lanes.specs.declared.TheConstants.{MARKED};
+ghost use Rattle.gate_match.specs.Selecting.{config_of, masks_of, tenant_of};
+ghost use Rattle.gate_tenant.specs.declared.TheConstants.{MAX_GATHERED};
+ghost use Rattle.gate_tenant.specs.Batches.{by_masks, given_by, marked_item, row_in, rows_of, word_of};
+ghost use Rattle.gate_tenant.specs.Dispatching.{all_marked, by_pipeline, end_marks};
 
+use crate::batch::Batch;
 use gate_config::Config;
-use gate_record::{ConnId, Event, Memory, PipelineId, PipelineItem, Stamped, TenantId, TenantItem};
-use gate_rule::Rule;
+use gate_intern::Columns;
+use gate_lanes::MARKED;
+use gate_match::Program;
+use gate_record::{ConnId, Memory, PipelineId, PipelineItem, Stamped, TenantId, TenantItem};
 use std::alloc::Global;
 use std::collections::VecDeque;
 
@@ -19,71 +22,103 @@ pub(crate) fn match_items(
     alloc: Global,
     config: &Config,
     tenant: TenantId,
+    program: &Program<'_>,
     gathered: &[TenantItem],
 ) -> Result<VecDeque<(PipelineId, PipelineItem)>, Memory>
+    requires few { length gathered.now ≤ MAX_GATHERED }
+    requires of_config { config_of program.now ≡ config.now }
+    requires of_tenant { tenant_of program.now ≡ tenant.0 }
+    ensures { IfOk result (λ items. items.items ≡ flat_map (by_pipeline config.now tenant.0) gathered.now) }
+{
+    let batch = Batch::of(alloc, gathered)?;
+    let columns = Columns::build(alloc, batch.events.as_slice())?;
+    let masks = program.select(alloc, &columns, batch.conns.as_slice())?;
+    push_all(alloc, config, tenant, masks.as_slice(), gathered)
+}
+
+// The gathered events, each for the pipelines whose masks mark its row.
+fn push_all(
+    alloc: Global,
+    config: &Config,
+    tenant: TenantId,
+    masks: &[Vec<u32>],
+    gathered: &[TenantItem],
+) -> Result<VecDeque<(PipelineId, PipelineItem)>, Memory>
+    requires { map (λ mask. mask.items) masks.now ≡ masks_of config.now tenant.0 (rows_of gathered.now) }
     ensures { IfOk result (λ items. items.items ≡ flat_map (by_pipeline config.now tenant.0) gathered.now) }
 {
     let mut items = VecDeque::new(alloc);
+    let mut row = 0;
     for item in gathered {
-        push_item(alloc, config, tenant, item, &mut items)?;
+        row = push_item(config, tenant, masks, row, item, &mut items)?;
     }
     Ok(items)
 }
 
-// Adds what the pipelines get of one item.
+// Adds what the pipelines get of an item, and gives the row of the next event.
 fn push_item(
-    alloc: Global,
     config: &Config,
     tenant: TenantId,
+    masks: &[Vec<u32>],
+    row: usize,
     item: &TenantItem,
     items: &mut VecDeque<(PipelineId, PipelineItem)>,
-) -> Result<(), Memory>
-    ensures { OnOk result (items.new.items ≡ items.old.items ++ by_pipeline config.now tenant.0 item.now) }
+) -> Result<usize, Memory>
+    requires few { row < 2 ^ 63 }
+    ensures items { OnOk result (items.new.items ≡ items.old.items ++ given_by config.now tenant.0 (map (λ mask. mask.items) masks.now) row item.now) }
+    ensures row { IfOk result (λ next. next ≡ row + length (row_in item.now)) }
 {
     match item {
-        TenantItem::Event(stamped) if is_listed(config, tenant, stamped) => {
-            push_event(alloc, config, tenant, stamped, items)
+        TenantItem::Event(stamped) => {
+            push_event(config, tenant, masks, row, stamped, items)?;
+            Ok(row + 1)
         }
-        _ => Ok(()),
+        TenantItem::End(_) => Ok(row),
     }
 }
 
-// Adds an event whose project is listed, for each pipeline that has a rule which it meets.
+// Adds an event for each pipeline whose mask marks its row.
 fn push_event(
-    alloc: Global,
     config: &Config,
     tenant: TenantId,
+    masks: &[Vec<u32>],
+    row: usize,
     stamped: &Stamped,
     items: &mut VecDeque<(PipelineId, PipelineItem)>,
 ) -> Result<(), Memory>
-    requires { is_listed config.now tenant.0 stamped.now.stamp.conn.0 stamped.now.event.project ≡ true }
-    ensures { OnOk result (items.new.items ≡ items.old.items ++ by_pipeline config.now tenant.0 (tenant_item.Event stamped.now)) }
+    ensures { OnOk result (items.new.items ≡ items.old.items ++ by_masks config.now tenant.0 (map (λ mask. mask.items) masks.now) row stamped.now) }
 {
     for pipeline in 0..pipelines(config, tenant) {
-        push_selected(alloc, config, tenant, PipelineId(pipeline), stamped, items)?;
+        push_marked(masks, row, PipelineId(pipeline), stamped, items)?;
     }
     Ok(())
 }
 
-// Adds the event for a pipeline, if it meets one of its rules.
-fn push_selected(
-    alloc: Global,
-    config: &Config,
-    tenant: TenantId,
+// Adds an event for a pipeline, if its mask marks the event's row.
+fn push_marked(
+    masks: &[Vec<u32>],
+    row: usize,
     pipeline: PipelineId,
     stamped: &Stamped,
     items: &mut VecDeque<(PipelineId, PipelineItem)>,
 ) -> Result<(), Memory>
-    requires { is_listed config.now tenant.0 stamped.now.stamp.conn.0 stamped.now.event.project ≡ true }
-    ensures { OnOk result (items.new.items ≡ items.old.items ++ option_to_list (option_map (for_pipeline pipeline.0) (chosen_item config.now tenant.0 pipeline.0 (tenant_item.Event stamped.now)))) }
+    ensures { OnOk result (items.new.items ≡ items.old.items ++ option_to_list (marked_item (map (λ mask. mask.items) masks.now) row stamped.now pipeline.0)) }
 {
-    let rules = config.rules(tenant, pipeline, stamped.stamp.conn);
-    if meets_any(alloc, rules, stamped.event.get())? {
+    if is_marked(masks, pipeline, row) {
         let event = stamped.event.share()?;
         let stamp = stamped.stamp;
         items.push_back((pipeline, PipelineItem::Event(Stamped { stamp, event })))?;
     }
     Ok(())
+}
+
+fn is_marked(masks: &[Vec<u32>], pipeline: PipelineId, row: usize) -> bool
+    ensures { result ≡ (word_of (map (λ mask. mask.items) masks.now) pipeline.0 row == MARKED) }
+{
+    match masks.get(pipeline.0 as usize) {
+        Some(mask) => mask.as_slice().get(row) == Some(&MARKED),
+        None => false,
+    }
 }
 
 // Adds the end mark for each pipeline.
@@ -119,26 +154,4 @@ fn pipelines(config: &Config, tenant: TenantId) -> u32
     ensures { result ≡ length (pipelines_of config.now tenant.0) }
 {
     config.pipelines(tenant).len() as u32
-}
-
-// Whether the tenant lists the project of an event under its connection.
-fn is_listed(config: &Config, tenant: TenantId, stamped: &Stamped) -> bool
-    ensures { result ≡ is_listed config.now tenant.0 stamped.now.stamp.conn.0 stamped.now.event.project }
-{
-    match &stamped.event.get().project {
-        Some(project) => config.belongs(tenant, stamped.stamp.conn, project.as_str()),
-        None => false,
-    }
-}
-
-// Whether an event meets one of these rules.
-fn meets_any(alloc: Global, rules: &[Rule], event: &Event) -> Result<bool, Memory>
-    ensures { IfOk result (λ met. met ≡ list_any (λ rule. meets rule event.now) rules.now) }
-{
-    for rule in rules {
-        if rule.matches(alloc, event)? {
-            return Ok(true);
-        }
-    }
-    Ok(false)
 }
