@@ -129,15 +129,17 @@ fn told(alloc: Global, stop: Option<u32>, served: &Served<Mixed>) -> Result<Stri
     )?)
 }
 
-// Whether each connection ended because its records did or, where one was asked for, because of a stop.
+// Whether each connection ended because its records did or, where one was asked for, because of a stop, which then has reached one
+// of them at least.
 fn has_ended(report: &RunReport, stop: Option<u32>) -> bool {
-    report
-        .connections
-        .as_slice()
+    let connections = report.connections.as_slice();
+    let has_stopped = connections
         .iter()
-        .all(|it| match it.cause {
+        .any(|it| matches!(it.cause, EndCause::Stopped));
+    has_stopped == stop.is_some()
+        && connections.iter().all(|it| match it.cause {
             EndCause::Ended => it.accepted == u64::from(RECORDS),
-            EndCause::Stopped => stop.is_some(),
+            EndCause::Stopped => true,
             _ => false,
         })
 }

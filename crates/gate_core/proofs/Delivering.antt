@@ -223,9 +223,9 @@ module _ (config : Config) (t p c : ℕ) (records : List Record) (closed : Bool)
     abbrev has_mark : ℕ → Bool
     has_mark d = not (lists config t d) || list_any (is_end_of d) way.matched
 
-    -- the connection's end mark was matched, so nothing of it is left
-    nothing_left : c < length (connections_of config) → lists config t c ≡ true → filter (is_from c) way.unmatched ++ way.unsent ≡ []
-    nothing_left inside listed =
+    -- the connection's end mark was matched, so it was put, and nothing of the connection is left
+    marked_last : c < length (connections_of config) → lists config t c ≡ true → (closed ≡ true) × (filter (is_from c) way.unmatched ++ way.unsent ≡ [])
+    marked_last inside listed =
         let marked : list_any (is_end_of c) way.matched ≡ true =
         listed_has (lists config t c) (list_any (is_end_of c) way.matched) listed
         (ap has_mark (sym (zero-add c)) ∙ all_in_range has_mark 0 (length (connections_of config)) c inside ends.0) in
@@ -235,12 +235,12 @@ module _ (config : Config) (t p c : ℕ) (records : List Record) (closed : Bool)
         ∙ sym way.forwards
         ∙ ap (λ xs. xs ++ way.unsent) (filter-append (is_from c) way.matched way.unmatched)
         ∙ append_assoc (filter (is_from c) way.matched) (filter (is_from c) way.unmatched) way.unsent in
-        (last_of_all is_mark (tenant.End (conn_id c)) (forwarded config t c (entries_of records)) closed (filter (is_from c) way.matched) (filter (is_from c) way.unmatched ++ way.unsent)
-        (records_no_mark config t c 0 records) goes (mark_among c way.matched marked)).1
+        last_of_all is_mark (tenant.End (conn_id c)) (forwarded config t c (entries_of records)) closed (filter (is_from c) way.matched) (filter (is_from c) way.unmatched ++ way.unsent)
+        (records_no_mark config t c 0 records) goes (mark_among c way.matched marked)
 
     whole_listed : c < length (connections_of config) → lists config t c ≡ true → numbers taken ≡ wanted config t p c records
     whole_listed inside listed =
-        let left = nothing_left inside listed in
+        let left = (marked_last inside listed).1 in
         sym (append-nil (numbers taken))
         ∙ ap (λ xs. numbers taken ++ (xs ++ [])) (sym (ap numbers ends.1))
         ∙ ap (λ xs. numbers taken ++ (numbers way.untaken ++ (xs ++ [])))
@@ -257,9 +257,13 @@ module _ (config : Config) (t p c : ℕ) (records : List Record) (closed : Bool)
     pub whole : c < length (connections_of config) → numbers taken ≡ wanted config t p c records
     whole inside = whole_by inside (lists config t c) refl
 
+    pub closes : c < length (connections_of config) → lists config t c ≡ true → closed ≡ true
+    closes inside listed = (marked_last inside listed).0
+
 pub each_way_delivers : EachWayDelivers
 each_way_delivers = record {
   in_order = λ config t p c records closed taken way. prefix config t p c records closed taken way;
   whole = λ config t p c records closed taken inside way fin. whole config t p c records closed taken way fin inside;
+  closes = λ config t p c records closed taken inside listed way fin. closes config t p c records closed taken way fin inside listed;
   genuine = λ config t p c records closed taken way. genuine config t p c records closed taken way;
 }

@@ -13,7 +13,7 @@ use Rattle.gate_record.specs.declared.transit.PipelineItem.TheVariants as item
 use Rattle.gate_record.specs.declared.transit.Stamped.{Stamped}
 use Rattle.gate_record.specs.Reading.{reading_of}
 use Rattle.gate_config.specs.declared.config.Config.{Config}
-use Rattle.gate_config.specs.Lookups.{connections_of}
+use Rattle.gate_config.specs.Lookups.{connections_of, lists}
 use Rattle.gate_forward.specs.Forwarding.{forwarded}
 use Rattle.gate_tenant.specs.Dispatching.{chosen, is_from}
 use Rattle.gate_pipeline.specs.Histories.{is_end}
@@ -60,12 +60,15 @@ pub record IsReadFrom (records : List Record) (s : Stamped) : Type 0 where
   pub there : slice_get records s.stamp.number ≡ Some line
   pub reads : reading_of line ≡ reading.Event s.event
 
--- On each way the numbers of what was taken are a prefix of those that are wanted, and all of them once the end mark was taken;
--- and each event of the connection that was taken is what the record with its number reads as.
+-- On each way the numbers of what was taken are a prefix of those that are wanted, and all of them once the end mark was taken,
+-- which it is only where the connection, if the tenant lists it, was closed; and each event of the connection that was taken is
+-- what the record with its number reads as.
 pub record EachWayDelivers : Type 0 where
   pub in_order : (config : Config) (t p c : ℕ) (records : List Record) (closed : Bool) (taken : List PipelineItem) → Way config t p c records closed taken →
       IsPrefixOf (filter_map (number_of_item c) taken) (wanted config t p c records)
   pub whole : (config : Config) (t p c : ℕ) (records : List Record) (closed : Bool) (taken : List PipelineItem) → c < length (connections_of config) → Way config t p c records closed taken →
       list_any is_end taken ≡ true → filter_map (number_of_item c) taken ≡ wanted config t p c records
+  pub closes : (config : Config) (t p c : ℕ) (records : List Record) (closed : Bool) (taken : List PipelineItem) → c < length (connections_of config) → lists config t c ≡ true → Way config t p c records closed taken →
+      list_any is_end taken ≡ true → closed ≡ true
   pub genuine : (config : Config) (t p c : ℕ) (records : List Record) (closed : Bool) (taken : List PipelineItem) → Way config t p c records closed taken →
       (i : ℕ) (s : Stamped) → slice_get taken i ≡ Some (item.Event s) → s.stamp.conn.0 ≡ c → IsReadFrom records s

@@ -17,7 +17,7 @@ pub fn what_is_wanted_arrives()
 /// The way of a connection's records to a pipeline, wherever its parts are: where what the pipeline has taken and still gets is
 /// what is chosen of what its tenant matched, and where of what the tenant got the connection's part, followed by what wasn't
 /// sent, is what is forwarded of the records, the numbers of what was taken are a prefix of the wanted ones, and all of them
-/// once the end mark was taken.
+/// once the end mark was taken; and where it was taken, each connection that the tenant lists had its own end mark put.
 #[tactic(auto, using(crate::proofs::Delivering::each_way_delivers))]
 pub fn each_way_delivers()
     ensures { EachWayDelivers }

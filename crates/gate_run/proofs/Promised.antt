@@ -14,7 +14,7 @@ use Rattle.gate_record.specs.declared.transit.TenantItem.{TenantItem}
 use Rattle.gate_record.specs.Prefixes.{IsPrefixOf}
 use Rattle.gate_record.specs.Reading.{reading_of}
 use Rattle.gate_config.specs.declared.config.Config.{Config}
-use Rattle.gate_config.specs.Lookups.{connections_of, pipelines_of}
+use Rattle.gate_config.specs.Lookups.{connections_of, lists, pipelines_of}
 use Rattle.gate_forward.specs.Forwarding.{forwarded}
 use Rattle.gate_tenant.specs.Dispatching.{chosen}
 use Rattle.gate_items.specs.declared.action.Action.{Action}
@@ -307,6 +307,15 @@ module _ {F G : Type 0} {config : Config} {to_come : F → Told} {faults : F →
       nothing_before (numbers_from c w.state.done) (subst (λ ls. IsPrefixOf (numbers_from c w.state.done) (wanted config t p c ls)) none (in_order_by law ways t p c d list w at_d at_l at_w None at))
       ∙ ap (wanted config t p c) (sym none)
 
+  marked_by : (law : TakenIsProcessed) → EachWayDelivers → (t p c : ℕ) (d : PassedOn TenantItem PipelineItem) (list : List WorkerEnd) (w : WorkerEnd) (r : ReaderEnd F) → slice_get E.dispatcher_ends t ≡ Some d → (at_l : slice_get E.worker_ends t ≡ Some list) →
+      (at_w : slice_get list p ≡ Some w) → slice_get E.reader_ends c ≡ Some r → w.state.finished ≡ true → lists config t c ≡ true → is_closed r.cause ≡ true
+  marked_by law ways t p c d list w r at_d at_l at_w at finished listed =
+      let done = processed law t p list w at_l at_w in
+      let low = slice_get_within E.reader_ends c r at in
+      let inside : c < n = omega (arith, low, end_count) in
+      let way = way_there law t p c d list w r at_d at_l at_w at inside in
+      ways.closes config t p c _ _ done.are.front inside listed way (done.are.ends ∙ ap (λ (s : State). s.finished) done.now ∙ finished)
+
   -- the worker of the tenant of a list of pipelines
   tenant_of_list : (t : ℕ) (list : List WorkerEnd) → slice_get E.worker_ends t ≡ Some list → There E.dispatcher_ends t
   tenant_of_list t list at =
@@ -378,6 +387,15 @@ module _ {F G : Type 0} {config : Config} {to_come : F → Told} {faults : F →
         (subst (λ x. HasEnded (to_come found.reader.feed) (to_come r.one.feed) (faults found.reader.feed) (faults r.one.feed) read.lines x note) report_same
         (record { first = read.first; accepted = read.counted; means = means_kept r.one.cause _ _ read.lines _ _ r.one.note note (each_here (λ (end : ReaderEnd F). knows_as_much end.note note) E.reader_ends c r.one knows r.here) read.means }))));
   }
+
+  pub behind_marks : TakenIsProcessed → EachWayDelivers → (t p c : ℕ) (pipeline : PipelineReport) (connection : ConnectionReport) → at_pipeline t p reported ≡ Some pipeline → pipeline.finished ≡ true → lists config t c ≡ true →
+      slice_get counted c ≡ Some connection → is_closed connection.cause ≡ true
+  behind_marks law ways t p c pipeline connection at finished listed here =
+      let f = find_report t p pipeline at in
+      let d = tenant_of_list t f.list f.list_here in
+      let r = from report_of_reader E.reader_ends c connection here in
+      ap (λ (x : ConnectionReport). is_closed x.cause) (sym r.is)
+      ∙ marked_by law ways t p c d.one f.list f.end r.one d.here f.list_here f.here r.here (ap (λ (x : PipelineReport). x.finished) f.is ∙ finished) listed
 
   -- ---- what each pipeline's worker took from the inbox
 
@@ -470,6 +488,8 @@ module _ {F G : Type 0} {config : Config} {to_come : F → Told} {faults : F →
     lines = lines;
     connections = subst (λ xs. HaveEnded to_come faults feeds xs lines report.connections after.note) (sym fed) (subst (λ xs. HaveEnded to_come faults feeds back lines xs after.note) (sym connections) (have_ended after.note knows));
     delivers = subst (Delivers config lines) (sym done) (delivers law ways);
+    behind_marks = λ t p c pipeline connection at finished listed here. behind_marks law ways t p c pipeline connection
+        (ap (at_pipeline t p) (sym done) ∙ at) finished listed (ap (λ (xs : List ConnectionReport). slice_get xs c) (sym connections) ∙ here);
     reports = done ∙ reports_kept E.worker_ends ∙ ap (map (map report_of_pipeline)) (sym states);
     processes = λ t p ends ends' state at at' here. processes law ways t p ends ends' state
         (ap (at_pipeline t p) (sym was) ∙ at) (ap (at_pipeline t p) (sym inboxes) ∙ at') (ap (at_pipeline t p) (sym states) ∙ here);

@@ -5,6 +5,7 @@ use Rattle.gate_record.specs.declared.ids.Stamp.{Stamp}
 use Rattle.gate_record.specs.declared.record.Record.{Record}
 use Rattle.gate_record.specs.Prefixes.{IsPrefixOf}
 use Rattle.gate_config.specs.declared.config.Config.{Config}
+use Rattle.gate_config.specs.Lookups.{lists}
 use Rattle.gate_items.specs.declared.action.Action.{Action}
 use Rattle.gate_pipeline.specs.Histories.{AreProcessed, History, triggering}
 use Rattle.gate_pipeline.specs.States.{State}
@@ -16,7 +17,7 @@ use Rattle.gate_source.specs.Stops.{Note}
 use Rattle.gate_source.specs.Feeds.{AreFirst, Told}
 use Rattle.gate_run.specs.Gatherings.{report_of_pipeline}
 use Rattle.gate_run.specs.Ports.{InboxEnds, InboxView, IsInboxFor, at_pipeline, pipeline_counts}
-use Rattle.gate_run.specs.Readers.{Means}
+use Rattle.gate_run.specs.Readers.{Means, is_closed}
 use Rattle.gate_run.specs.Workers.{TookMore}
 
 -- the records of connection c
@@ -61,6 +62,9 @@ pub record Serves {F : Type 0} (config : Config) (to_come : F → Told) (faults 
   pub lines : List (List Record)
   pub connections : HaveEnded to_come faults feeds feeds' lines report.connections inbox'.note
   pub delivers : Delivers config lines report.pipelines
+  -- a pipeline is finished only where the end mark of each connection that its tenant lists was put
+  pub behind_marks : (t p c : ℕ) (pipeline : PipelineReport) (connection : ConnectionReport) → at_pipeline t p report.pipelines ≡ Some pipeline → pipeline.finished ≡ true → lists config t c ≡ true → slice_get report.connections c ≡ Some connection →
+      is_closed connection.cause ≡ true
   pub reports : report.pipelines ≡ map (map report_of_pipeline) pipelines
   pub processes : (t p : ℕ) (ends ends' : InboxEnds) (state : State) → at_pipeline t p inbox.pipelines ≡ Some ends → at_pipeline t p inbox'.pipelines ≡ Some ends' → at_pipeline t p pipelines ≡ Some state → HasProcessed config t p lines ends ends' state
   -- a pipeline for each of the configuration

@@ -20,7 +20,6 @@ use gate_pipeline::Pipeline;
 use gate_queue::{EventQueue, Head, Tail};
 use gate_record::{ConnEntry, ConnId, Memory, PipelineId, PipelineItem, TenantId, TenantItem};
 use gate_source::{RecordFeed, StopCell};
-use gate_tenant::Dispatch;
 use std::alloc::Global;
 
 /// A reader for each connection.

@@ -58,7 +58,7 @@ fn result_is_reported<R: Threads + Wait + Clock + Abort + Sync>(
         .get(0)
         .and_then(|row| row.get(0))
         .ok_or("a pipeline")?;
-    assert!(rt; check.finished() && check.done().len() == 1);
+    assert!(rt; check.finished() && check.done().len() == 1 && check.done()[0].number == 0);
     is_reported(rt, check.state())
 }
 

@@ -1,5 +1,5 @@
 -- How a session goes on, and what it has done once it ends.
-use Rattle.std.proofs.Common.{◌≡◌, ◌∙◌, ◌++◌, ◌+◌, ℕ, List, [], length, map, refl, sym, subst, Option, Some, None, arith, append-nil, inl, inr, ◌≢◌, Ok, Err}
+use Rattle.std.proofs.Common.{◌≡◌, ◌∙◌, ◌++◌, ◌+◌, ◌<◌, ℕ, List, [], length, map, refl, sym, subst, Option, Some, None, arith, append-nil, inl, inr, ◌≢◌, Ok, Err}
 use Rattle.std.specs.Prelude.{IfOk, Result}
 use Rattle.std.specs.Io.KnownBytes.{Consumes}
 use Rattle.std.specs.Option.{option_to_list}
@@ -104,26 +104,17 @@ finished last s same ends = ends s.bytes (subst (IsFed s.bytes) (sym same) s.fed
 
 module _ {config : Config} {split split' : Option (List ℕ)} {room : ℕ} (room' : ℕ) {told told' told'' w w' w'' : Option (List ℕ)} {p p' p'' : PostsView} (last : Option Record) where
   -- what follows the last LF was answered, if anything does, and the session ends
-  pub closes : (how : SessionEnd) → how ≢ end.Limit → SoFar config split room told told' w w' p p' → Hears (split, room) told' None told'' (split', room') → Finishes split' last → Talks config (option_to_list last) (made_by_reply how) w' w'' p' p'' → Answers config how told told'' w w'' p p''
-  closes end.End not_limit s h ends t =
+  pub closes : (how : SessionEnd) → how ≢ end.Limit → 0 < room → SoFar config split room told told' w w' p p' → Hears (split, room) told' None told'' (split', room') → Finishes split' last → Talks config (option_to_list last) (made_by_reply how) w' w'' p' p'' → Answers config how told told'' w w'' p p''
+  closes end.End not_limit some s h ends t =
       let both = talks_on s.talks t in
       record {
         bytes = s.bytes;
         exchanges = both.exchanges;
         read = read_all told told' told'' s.bytes s.read h.1;
-        heard = (h.2, both.heard ∙ finished last s h.0 ends);
+        heard = (omega (arith, some, s.left), h.2, both.heard ∙ finished last s h.0 ends);
         talk = both.talk;
       }
-  closes end.Quit not_limit s h ends t =
-      let both = talks_on s.talks t in
-      record {
-        bytes = s.bytes;
-        exchanges = both.exchanges;
-        read = read_all told told' told'' s.bytes s.read h.1;
-        heard = inr (h.2, subst (IsPrefixOf (lines_of both.exchanges)) (finished last s h.0 ends) both.heard);
-        talk = both.talk;
-      }
-  closes end.Stop not_limit s h ends t =
+  closes end.Quit not_limit some s h ends t =
       let both = talks_on s.talks t in
       record {
         bytes = s.bytes;
@@ -132,7 +123,16 @@ module _ {config : Config} {split split' : Option (List ℕ)} {room : ℕ} (room
         heard = inr (h.2, subst (IsPrefixOf (lines_of both.exchanges)) (finished last s h.0 ends) both.heard);
         talk = both.talk;
       }
-  closes end.Limit not_limit s h ends t = absurd (not_limit refl)
+  closes end.Stop not_limit some s h ends t =
+      let both = talks_on s.talks t in
+      record {
+        bytes = s.bytes;
+        exchanges = both.exchanges;
+        read = read_all told told' told'' s.bytes s.read h.1;
+        heard = inr (h.2, subst (IsPrefixOf (lines_of both.exchanges)) (finished last s h.0 ends) both.heard);
+        talk = both.talk;
+      }
+  closes end.Limit not_limit some s h ends t = absurd (not_limit refl)
 
 -- ---- the limit
 
@@ -147,6 +147,6 @@ limits room none s = record {
 
 -- the same of what was answered, where it is an end
 module _ {config : Config} {split split' : Option (List ℕ)} {room : ℕ} (room' : ℕ) {told told' w w' : Option (List ℕ)} {p p' : PostsView} (told'' w'' : Option (List ℕ)) (p'' : PostsView) (last : Option Record) where
-  pub closes_so : {E : Type 0} (r : Result SessionEnd E) → IfOk r (λ how. how ≢ end.Limit) → SoFar config split room told told' w w' p p' → Hears (split, room) told' None told'' (split', room') → Finishes split' last → IfOk r (λ how. Talks config (option_to_list last) (made_by_reply how) w' w'' p' p'') → IfOk r (λ how. Answers config how told told'' w w'' p p'')
-  closes_so (Ok how) not_limit s h ends t = closes room' last how not_limit s h ends t
-  closes_so (Err why) not_limit s h ends t = tt {0}
+  pub closes_so : {E : Type 0} (r : Result SessionEnd E) → IfOk r (λ how. how ≢ end.Limit) → 0 < room → SoFar config split room told told' w w' p p' → Hears (split, room) told' None told'' (split', room') → Finishes split' last → IfOk r (λ how. Talks config (option_to_list last) (made_by_reply how) w' w'' p' p'') → IfOk r (λ how. Answers config how told told'' w w'' p p'')
+  closes_so (Ok how) not_limit some s h ends t = closes room' last how not_limit some s h ends t
+  closes_so (Err why) not_limit some s h ends t = tt {0}

@@ -1,5 +1,5 @@
 -- What a session says and does, line by line.
-use Rattle.std.specs.Prelude.{◌≡◌, ℕ, List, [], ◌∷◌, ◌++◌, All, flat_map, fold, length, map, Option, Some, None, ◌⊎◌}
+use Rattle.std.specs.Prelude.{◌≡◌, ◌<◌, ℕ, List, [], ◌∷◌, ◌++◌, All, flat_map, fold, length, map, Option, Some, None, ◌⊎◌}
 use Rattle.std.specs.Io.KnownBytes.{Appends, Consumes, IsAtEnd}
 use Rattle.gate_record.specs.declared.record.Record.{Record}
 use Rattle.gate_record.specs.Lines.{ended_records, records_of}
@@ -56,10 +56,10 @@ made_by_reply end.Limit = None
 abbrev pub AreFirst : List ℕ → Option (List ℕ) → List Record → Type 0
 AreFirst bytes rest lines = IsPrefixOf lines (ended_records bytes) ⊎ (IsAtEnd rest × IsPrefixOf lines (records_of bytes))
 
--- The lines of the bytes that were read which have answers, by how the session ended: at the reader's end all of them; at the limit,
--- when just so many bytes were read as a session may have, those that have ended; else the first of them.
+-- The lines of the bytes that were read which have answers, by how the session ended: at the reader's end, before so many bytes were
+-- read as a session may have, all of them; at the limit, when just so many were, those that have ended; else the first of them.
 abbrev pub Heard : SessionEnd → List ℕ → Option (List ℕ) → List Record → Type 0
-Heard end.End bytes rest lines = IsAtEnd rest × (lines ≡ records_of bytes)
+Heard end.End bytes rest lines = (length bytes < MAX_SESSION) × IsAtEnd rest × (lines ≡ records_of bytes)
 Heard end.Quit bytes rest lines = AreFirst bytes rest lines
 Heard end.Stop bytes rest lines = AreFirst bytes rest lines
 Heard end.Limit bytes rest lines = (length bytes ≡ MAX_SESSION) × (lines ≡ ended_records bytes)

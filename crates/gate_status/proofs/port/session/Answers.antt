@@ -1,4 +1,4 @@
-use Rattle.std.proofs.Common.{◌≡◌, ◌∙◌, List, Option, Some, None, refl, subst}
+use Rattle.std.proofs.Common.{rules, ◌≡◌, ◌∙◌, ◌<◌, List, Option, Some, None, refl, subst}
 use Rattle.gate_record.specs.declared.record.Record.{Record}
 use Rattle.gate_status.specs.declared.fault.SessionEnd.{SessionEnd}
 use Rattle.gate_status.specs.Listened.{Hears}
@@ -18,8 +18,9 @@ loop-listening-init g c = record {
 pub returns-in_default-clause-answers : goal.returns-in_default-clause-answers
 returns-in_default-clause-answers g c =
     let none : c.in_ok-lines.field-0 ≡ None = search in
+    let some : 0 < c.loop-listening.listening.room = search rules in
     let h = subst (λ (o : Option (List Record)). Hears (c.loop-listening.listening.split, c.loop-listening.listening.room) (g.R.Read.remaining c.loop-listening.input.device) o (g.R.Read.remaining c.read.new.input.device) (c.read.new.self.split, c.read.new.self.room)) none c.in_ok-lines.ensures.hears in
-    closes_so c.read.new.self.room (g.R.Read.remaining c.read.new.input.device) (g.W.Write.contents c.answer_last.new.output.device) c.answer_last.new.posts c.finish.result c.answer_last.result c.answer_last.ensures.closes c.loop-listening.invariant.so_far h c.finish.ensures c.answer_last.ensures.talks
+    closes_so c.read.new.self.room (g.R.Read.remaining c.read.new.input.device) (g.W.Write.contents c.answer_last.new.output.device) c.answer_last.new.posts c.finish.result c.answer_last.result c.answer_last.ensures.closes some c.loop-listening.invariant.so_far h c.finish.ensures c.answer_last.ensures.talks
 
 -- a reply ends the session
 pub returns-in-Some-2-clause-answers : goal.returns-in-Some-2-clause-answers
