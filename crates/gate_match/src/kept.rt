@@ -7,19 +7,22 @@ use gate_record::Memory;
 use gate_rule::{Matcher, Pattern, patterns_of_one_text_answer_alike};
 use std::alloc::Global;
 
-// A pattern with its matcher, ready for one text after another.
+// A pattern with its matcher, ready for one text after another. A matcher has some kilobytes in itself, so it stands in a box: what is
+// kept goes in and out of its place for each batch.
 #[derive(Drop)]
 pub(crate) struct Kept<'c> {
     pub(crate) pattern: &'c Pattern,
-    matcher: Matcher<'c>,
-    ghost same: { ∥ tree_in matcher ≡ tree_of pattern.now ∥₁ },
+    matcher: Box<Matcher<'c>>,
+    ghost same: { ∥ tree_in matcher.value ≡ tree_of pattern.now ∥₁ },
 }
 
 impl<'c> Kept<'c> {
     pub(crate) fn new(alloc: Global, pattern: &'c Pattern) -> Result<Kept<'c>, Memory>
         ensures { IfOk result (λ kept. kept.pattern.now ≡ pattern.entry.now) }
     {
-        let matcher = pattern.matcher(alloc)?;
+        let Ok(matcher) = Box::new(alloc, pattern.matcher(alloc)?) else {
+            return Err(Memory);
+        };
         Ok(Kept { pattern, matcher })
     }
 

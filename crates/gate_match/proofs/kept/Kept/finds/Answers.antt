@@ -8,7 +8,8 @@ pub returns-in-Front-clause-found : goal.returns-in-Front-clause-found
 returns-in-Front-clause-found c = λ pattern e.
     let kept = c.args.self.now in
     c.front.ensures.found
-    ∙ same_test (λ tree. finds_at_front tree c.args.text.now) (tree_in kept.matcher) (tree_of kept.pattern.now) kept.same
+    ∙ ap (λ matcher. finds_at_front (tree_in matcher) c.args.text.now) c.deref_mut.ensures.value
+    ∙ same_test (λ tree. finds_at_front tree c.args.text.now) (tree_in kept.matcher.value) (tree_of kept.pattern.now) kept.same
     ∙ (c.patterns_of_one_text_answer_alike.ensures kept.pattern.now pattern (sym e) c.args.text.now (λ k. (c.type_inv.text k).fits)).0
     ∙ sym (ap (λ reach. finds reach pattern c.args.text.now) c.in-Front.is)
 
@@ -16,6 +17,7 @@ pub returns-in-Anywhere-clause-found : goal.returns-in-Anywhere-clause-found
 returns-in-Anywhere-clause-found c = λ pattern e.
     let kept = c.args.self.now in
     c.within.ensures.found
-    ∙ same_test (λ tree. finds_within tree c.args.text.now) (tree_in kept.matcher) (tree_of kept.pattern.now) kept.same
+    ∙ ap (λ matcher. finds_within (tree_in matcher) c.args.text.now) c.deref_mut-in-Anywhere.ensures.value
+    ∙ same_test (λ tree. finds_within tree c.args.text.now) (tree_in kept.matcher.value) (tree_of kept.pattern.now) kept.same
     ∙ (c.patterns_of_one_text_answer_alike.ensures kept.pattern.now pattern (sym e) c.args.text.now (λ k. (c.type_inv.text k).fits)).1
     ∙ sym (ap (λ reach. finds reach pattern c.args.text.now) c.in-Anywhere.is)
