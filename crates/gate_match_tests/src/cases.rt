@@ -1,6 +1,7 @@
 use crate::batches::{Numbers, conns_of, events_of};
-use crate::plain::{plain, shown};
+use crate::plain::{TENANT, plain, shown};
 use gate_config::{Config, read_config};
+use gate_match::Program;
 use std::alloc::Global;
 use std::process::Abort;
 use std::test::Fail;
@@ -25,23 +26,59 @@ fn config(alloc: Global) -> Result<Config, Fail> {
     }
 }
 
-// A batch of so many events, whose numbers begin with this one.
+// How many programs there are, and how many batches each of them matches, one after another.
+const PROGRAMS: u32 = 40;
+
+const BATCHES: u32 = 50;
+
+// As many events as 0 to 40, about the 16 that go at a time, and now and then a full batch.
+fn rows_of(batch: u32) -> u32 {
+    if batch % 400 == 399 {
+        return 256;
+    }
+    batch % 41
+}
+
+// A batch whose events and connections are made of its number.
 fn is_alike(
     rt: &impl Abort,
     alloc: Global,
     config: &Config,
-    state: u32,
-    rows: u32,
+    program: &Program<'_>,
+    batch: u32,
 ) -> Result<(), Fail> {
-    let mut numbers = Numbers { state };
+    let rows = rows_of(batch);
+    let mut numbers = Numbers { state: batch };
     let events = events_of(alloc, &mut numbers, rows)?;
     let conns = conns_of(alloc, &mut numbers, rows)?;
-    let found = shown(alloc, config, events.as_slice(), conns.as_slice())?;
+    let found = shown(alloc, program, events.as_slice(), conns.as_slice())?;
     let wanted = plain(alloc, config, events.as_slice(), conns.as_slice())?;
     assert!(rt;
         found.as_str() == wanted.as_str(),
-        "{rows} rows: {found} {wanted}"
+        "batch {batch}: {found} {wanted}"
     );
+    Ok(())
+}
+
+fn are_alike(
+    rt: &impl Abort,
+    alloc: Global,
+    config: &Config,
+    program: &Program<'_>,
+    number: u32,
+) -> Result<(), Fail> {
+    let first = number.saturating_mul(BATCHES);
+    for batch in 0..BATCHES {
+        is_alike(rt, alloc, config, program, first.saturating_add(batch))?;
+    }
+    Ok(())
+}
+
+fn all_are_alike(rt: &impl Abort, alloc: Global, config: &Config) -> Result<(), Fail> {
+    for number in 0..PROGRAMS {
+        let program = Program::new(alloc, config, TENANT)?;
+        are_alike(rt, alloc, config, &program, number)?;
+    }
     Ok(())
 }
 
@@ -49,8 +86,5 @@ fn is_alike(
 fn masks_are_those_of_each_rule_by_itself(rt: HostRuntime) -> Result<(), Fail> {
     let alloc = rt.alloc();
     let config = config(alloc)?;
-    for rows in 0..40 {
-        is_alike(&rt, alloc, &config, rows, rows)?;
-    }
-    is_alike(&rt, alloc, &config, 7, 256)
+    all_are_alike(&rt, alloc, &config)
 }

@@ -1,4 +1,4 @@
-//! Tests of gate_match: the masks of generated batches against each rule by itself, and of one batch against those worked by hand.
+//! Tests of gate_match: the masks of generated batches against each rule by itself.
 #![tactic(auto)]
 
 #[cfg(test)]

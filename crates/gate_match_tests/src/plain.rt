@@ -7,12 +7,12 @@ use gate_rule::Rule;
 use std::alloc::Global;
 use std::test::Fail;
 
-const TENANT: TenantId = TenantId(0);
+pub(crate) const TENANT: TenantId = TenantId(0);
 
-// The masks of the program, each twice: with new matchers, and with those that were kept.
+// The masks of the program.
 pub(crate) fn shown(
     alloc: Global,
-    config: &Config,
+    program: &Program<'_>,
     events: &[Shared<Event>],
     conns: &[u32],
 ) -> Result<String, Fail> {
@@ -21,9 +21,7 @@ pub(crate) fn shown(
         return Err(Fail::from("too many events"));
     }
     let columns = Columns::build(alloc, events)?;
-    let program = Program::new(alloc, config, TENANT)?;
-    push_masks(alloc, &mut text, &program, &columns, conns)?;
-    push_masks(alloc, &mut text, &program, &columns, conns)?;
+    push_masks(alloc, &mut text, program, &columns, conns)?;
     Ok(text)
 }
 
@@ -65,30 +63,17 @@ pub(crate) fn plain(
     conns: &[u32],
 ) -> Result<String, Fail> {
     let mut text = String::new(alloc);
-    for _ in 0..2 {
-        push_pipelines(alloc, &mut text, config, events, conns)?;
-    }
-    Ok(text)
-}
-
-fn push_pipelines(
-    alloc: Global,
-    text: &mut String,
-    config: &Config,
-    events: &[Shared<Event>],
-    conns: &[u32],
-) -> Result<(), Fail> {
     for pipeline in 0..config.pipelines(TENANT).len() {
         push_pipeline(
             alloc,
-            text,
+            &mut text,
             config,
             PipelineId(pipeline as u32),
             events,
             conns,
         )?;
     }
-    Ok(())
+    Ok(text)
 }
 
 fn push_pipeline(
