@@ -1,0 +1,104 @@
+//! Times the matching of events in batches, beside that by each rule by itself. Without words it prints nothing.
+#![tactic(auto)]
+
+mod batches;
+mod load;
+mod plain;
+mod timing;
+
+use crate::load::{Load, read_load};
+use crate::timing::{Time, Way, timed};
+use anyhow::{Context, Result, bail};
+use gate_config::{Config, read_config};
+use gate_match::Program;
+use gate_record::TenantId;
+use std::alloc::Global;
+use std::time::CpuClock;
+use std::{env, fs};
+
+/// The tenant whose rules are timed.
+const TENANT: TenantId = TenantId(0);
+
+/// The words: a file with a configuration, a file of records, one a line, which are of the connections in turn, and how many
+/// events a batch has.
+fn main(rt: HostRuntime) -> Result<()> {
+    let mut words = env::args(&rt)?;
+    let Some(config) = words.nth(1) else {
+        return Ok(());
+    };
+    let records = words.next().context("a file of records")?;
+    let size = words.next().context("the size of a batch")?;
+    let size = size
+        .as_str()
+        .parse::<usize>()
+        .context("the size of a batch")?;
+    let document = fs::read(&rt, config.as_str())?;
+    let records = fs::read_to_string(&rt, records.as_str())?;
+    let times = compare(&rt, rt.alloc(), document.as_slice(), records.as_str(), size)?;
+    println!(rt;
+        "{} selected: {} rounds in {} us by gate_match, {} rounds in {} us by each rule",
+        times.selected,
+        times.batches.rounds,
+        times.batches.micros,
+        times.rules.rounds,
+        times.rules.micros
+    )?;
+    Ok(())
+}
+
+/// How many events pipelines select in a round, and what rounds take by either way.
+#[derive(Clone, Copy)]
+struct Compared {
+    selected: u64,
+    batches: Time,
+    rules: Time,
+}
+
+fn compare(
+    clock: &impl CpuClock,
+    alloc: Global,
+    document: &[u8],
+    records: &str,
+    size: usize,
+) -> Result<Compared> {
+    let Ok(config) = read_config(alloc, document) else {
+        bail!("the configuration is refused");
+    };
+    let load = read_load(alloc, records, config.connections().len())?;
+    compare_on(clock, alloc, &config, &load, size)
+}
+
+fn compare_on(
+    clock: &impl CpuClock,
+    alloc: Global,
+    config: &Config,
+    load: &Load,
+    size: usize,
+) -> Result<Compared> {
+    let program = Program::new(alloc, config, TENANT)?;
+    both(
+        clock,
+        alloc,
+        &Way::Batches(&program, size),
+        &Way::Rules(config),
+        load,
+    )
+}
+
+// A first round isn't timed. All other ones are to select as many events.
+fn both(
+    clock: &impl CpuClock,
+    alloc: Global,
+    batches: &Way<'_, '_>,
+    rules: &Way<'_, '_>,
+    load: &Load,
+) -> Result<Compared> {
+    let selected = batches.round(alloc, load)?;
+    let batches = timed(clock, alloc, batches, load, selected)?;
+    let rules = timed(clock, alloc, rules, load, selected)?;
+    Ok(Compared {
+        selected,
+        batches,
+        rules,
+    })
+}
