@@ -53,6 +53,23 @@ deletes 0 0 4294967295 0 0
 events patchset-created comment-added ref-updated comment-added ref-updated
 ";
 
+const MISSING: &str = "a|-|x|-|-|-|-|-
+a|-|-|-|-|-|-|-
+b|-|y|-|-|-|-|-";
+
+const MISSING_SHOWN: &str = "rows 3
+kind 'a' 'b': 1 1 2
+project: 0 0 0
+branch 'x' 'y': 1 0 2
+refname: 0 0 0
+username: 0 0 0
+email: 0 0 0
+comment: 0 0 0
+approvals:
+deletes 0 0 0
+events a a b
+";
+
 fn is(rt: &impl Abort, alloc: Global, lines: &str, wanted: &str) -> Result<(), Fail> {
     let events = events_of(alloc, lines)?;
     let found = shown(alloc, events.as_slice())?;
@@ -65,5 +82,6 @@ fn columns_are_as_worked_by_hand(rt: HostRuntime) -> Result<(), Fail> {
     let alloc = rt.alloc();
     is(&rt, alloc, "", NOTHING)?;
     is(&rt, alloc, ONE, ONE_SHOWN)?;
+    is(&rt, alloc, MISSING, MISSING_SHOWN)?;
     is(&rt, alloc, SEVERAL, SEVERAL_SHOWN)
 }
