@@ -10,7 +10,7 @@ use Rattle.gate_queue.specs.declared.known.Known.{Known}
 use Rattle.gate_queue.specs.declared.known.Known.TheVariants.{Sender, Taker, Nothing}
 use Rattle.gate_queue.specs.Tagged.{values_of}
 use Rattle.gate_queue.specs.States.{AreFrom}
-use Rattle.gate_queue.specs.Sharing.{IsSender, IsTaker, Fits, Shares, newcomer, HasPut, HasTaken, CanWait, SenderAllows, TakerAllows, took}
+use Rattle.gate_queue.specs.Sharing.{IsSender, IsTaker, Fits, Shares, newcomer, HasPut, HasTaken, CanWait, SenderAllows, TakerAllows, joined_number, took}
 use Rattle.gate_queue.proofs.Values.{values_of-same, values_of-other}
 use Rattle.gate_queue.proofs.Views.{each_set, each_snoc}
 
@@ -46,7 +46,7 @@ module _ {T : Type 0} where
         got = f.got;
         count = f.count;
         unmade = λ s h. let none = f.unmade s h in (none.0, values_of-other s all x (other s none.0) ∙ none.1);
-        joined = λ s h. let none = f.joined s h in (none.0, none.1 ∙ sym (values_of-other s all x (other s none.0)));
+        joined = λ i h. let none = f.joined i h in (none.0, none.1 ∙ sym (values_of-other (joined_number u i) all x (other (joined_number u i) none.0)));
       }
   fits_put taker senders holder all taken pass x mine j Nothing apart f = tt
 
@@ -86,7 +86,7 @@ module _ {T : Type 0} where
       let is : all ≡ v.taken ++ items = history ∙ ap (λ l. l ++ items) (sym f.got) in
       record {
         from = subst (λ (y : ℕ × List (Tagged T)). AreFrom y.0 y.1) (λ i. (sym f.count i, is i)) from;
-        joined = λ s h. (f.joined s h).1 ∙ ap (values_of s) is;
+        joined = λ i h. (f.joined i h).1 ∙ ap (values_of (joined_number v i)) is;
       }
 
   pub takes : (pass : ℕ) (v : Got T) → Pops Shares pass (Taker v) (HasTaken (Taker v))

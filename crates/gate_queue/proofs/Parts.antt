@@ -1,5 +1,5 @@
 -- The steps that cut a pass or join one keep the rule of the queues.
-use Rattle.std.proofs.Common.{◌≡◌, ◌≢◌, ℕ, suc, ◌+◌, ◌<◌, ◌≤◌, true, false, cond, List, [], ◌∷◌, ◌++◌, length, set, sym, refl, ap, ◌∙◌, subst, eqb, eq-eqb, ne_eqb, arith}
+use Rattle.std.proofs.Common.{◌≡◌, ◌≢◌, ℕ, zero, suc, ◌+◌, ◌-◌, ◌<◌, true, false, cond, List, [], ◌∷◌, length, get_or, set, sym, refl, ap, ◌∙◌, subst, eqb, eq-eqb, ne_eqb, arith}
 use mathlib.Core.Option.{some}
 use lib.ListN.{get_elem?}
 use Rattle.crossbeam_queue.specs.Fifo.{Forks, Merges}
@@ -9,9 +9,8 @@ use Rattle.gate_queue.specs.declared.known.Got.{Got}
 use Rattle.gate_queue.specs.declared.known.Known.{Known}
 use Rattle.gate_queue.specs.declared.known.Known.TheVariants.{Sender, Taker, Nothing}
 use Rattle.gate_queue.specs.Tagged.{values_of}
-use Rattle.gate_queue.specs.Sharing.{IsSender, IsTaker, Fits, Shares, planned, nothing, seated, next_sender, joined}
+use Rattle.gate_queue.specs.Sharing.{IsSender, IsTaker, Fits, Shares, joined_number, planned, nothing, seated, next_sender, joined}
 use Rattle.crossbeam_queue.proofs.Lists.{set_else}
-use Rattle.gate_queue.proofs.Lists.{longer}
 use Rattle.gate_queue.proofs.Views.{Each, each_set, each_snoc}
 
 -- the holders when seat s goes to p
@@ -34,13 +33,13 @@ module _ {T : Type 0} where
   fits_plan taker senders holder all taken pass here none j (Taker u) apart f = absurd (apart (f.here ∙ sym here))
   fits_plan taker senders holder all taken pass here none j Nothing apart f = tt
 
-  plans_at : (pass : ℕ) (v : Got T) → v.made ≡ 0 → Forks Shares pass (Taker v) (planned (Taker v)) (nothing (Taker v))
-  plans_at pass v new items views h at =
+  plans_at : (pass : ℕ) (v : Got T) → v.made ≡ 0 → length v.joined ≡ 0 → Forks Shares pass (Taker v) (planned (Taker v)) (nothing (Taker v))
+  plans_at pass v new apart items views h at =
       let w : Got T = record v { senders = v.senders + 1 } in
       let me = h.fits pass (Taker v) at in
       let none : (s : ℕ) → h.holder s ≡ 0 = λ s. (me.unmade s (let z : v.made ≡ 0 = new in omega arith)).0 in
       let mine : IsTaker h.taker (h.senders + 1) h.holder h.all h.taken pass w =
-      record { here = me.here; got = me.got; count = ap (λ n. n + 1) me.count; unmade = me.unmade; joined = me.joined } in
+      record { here = me.here; got = me.got; count = ap (λ n. n + 1) me.count; unmade = me.unmade; joined = λ i l. absurd (omega arith) } in
       let F : ℕ → Known T → Type 0 = Fits h.taker (h.senders + 1) h.holder h.all h.taken in
       record {
         taker = h.taker;
@@ -54,8 +53,8 @@ module _ {T : Type 0} where
             (each_set F views pass (Taker w) mine (λ j u apart e. fits_plan h.taker h.senders h.holder h.all h.taken pass me.here none j u apart (h.fits j u e))) tt;
       }
 
-  pub plans : (pass : ℕ) (k : Known T) (v : Got T) → k ≡ Taker v → v.made ≡ 0 → Forks Shares pass k (planned k) (nothing k)
-  plans pass k v is new = subst (λ (k : Known T). Forks Shares pass k (planned k) (nothing k)) (sym is) (plans_at pass v new)
+  pub plans : (pass : ℕ) (k : Known T) (v : Got T) → k ≡ Taker v → v.made ≡ 0 → length v.joined ≡ 0 → Forks Shares pass k (planned k) (nothing k)
+  plans pass k v is new apart = subst (λ (k : Known T). Forks Shares pass k (planned k) (nothing k)) (sym is) (plans_at pass v new apart)
 
   fits_seat : (taker senders : ℕ) (holder : ℕ → ℕ) (all taken : List (Tagged T)) (pass s p : ℕ) → pass ≡ taker → holder s ≡ 0
       → (j : ℕ) (u : Known T) → j ≢ pass → Fits taker senders holder all taken j u → Fits taker senders (given holder s p) all taken j u
@@ -65,8 +64,8 @@ module _ {T : Type 0} where
   fits_seat taker senders holder all taken pass s p here none j (Taker u) apart f = absurd (apart (f.here ∙ sym here))
   fits_seat taker senders holder all taken pass s p here none j Nothing apart f = tt
 
-  seats_at : (pass : ℕ) (v : Got T) → v.made < v.senders → length v.joined ≤ v.made → Forks Shares pass (Taker v) (seated (Taker v)) (next_sender (Taker v))
-  seats_at pass v room order items views h at =
+  seats_at : (pass : ℕ) (v : Got T) → v.made < v.senders → length v.joined ≡ 0 → Forks Shares pass (Taker v) (seated (Taker v)) (next_sender (Taker v))
+  seats_at pass v room apart items views h at =
       let w : Got T = record v { made = v.made + 1 } in
       let me = h.fits pass (Taker v) at in
       let next : Put T = record { sender = v.made; senders = v.senders; put = [] } in
@@ -79,7 +78,7 @@ module _ {T : Type 0} where
         got = me.got;
         count = me.count;
         unmade = λ s l. let none = me.unmade s (omega arith) in (given_else h.holder v.made n s (λ e. omega arith) ∙ none.0, none.1);
-        joined = λ s l. let none = me.joined s l in (given_else h.holder v.made n s (λ e. omega arith) ∙ none.0, none.1);
+        joined = λ i l. absurd (omega arith);
       } in
       let new : IsSender h.senders (given h.holder v.made n) h.all (length vs) next =
       record { seat = given_there h.holder v.made n; put = sym free.1; count = me.count; within = subst (λ k. v.made < k) me.count room } in
@@ -96,8 +95,8 @@ module _ {T : Type 0} where
             (each_set F views pass (Taker w) mine (λ j u apart e. fits_seat h.taker h.senders h.holder h.all h.taken pass v.made n me.here free.0 j u apart (h.fits j u e))) new;
       }
 
-  pub seats : (pass : ℕ) (k : Known T) (v : Got T) → k ≡ Taker v → v.made < v.senders → length v.joined ≤ v.made → Forks Shares pass k (seated k) (next_sender k)
-  seats pass k v is room order = subst (λ (k : Known T). Forks Shares pass k (seated k) (next_sender k)) (sym is) (seats_at pass v room order)
+  pub seats : (pass : ℕ) (k : Known T) (v : Got T) → k ≡ Taker v → v.made < v.senders → length v.joined ≡ 0 → Forks Shares pass k (seated k) (next_sender k)
+  seats pass k v is room apart = subst (λ (k : Known T). Forks Shares pass k (seated k) (next_sender k)) (sym is) (seats_at pass v room apart)
 
   -- what another seat knows stays when the seat of a sender is joined
   fits_join : (taker senders : ℕ) (holder : ℕ → ℕ) (all taken : List (Tagged T)) (pass other s : ℕ) → pass ≡ taker → holder s ≡ suc other
@@ -108,9 +107,14 @@ module _ {T : Type 0} where
   fits_join taker senders holder all taken pass other s here held j (Taker u) apart apart' f = absurd (apart (f.here ∙ sym here))
   fits_join taker senders holder all taken pass other s here held j Nothing apart apart' f = tt
 
-  joins_at : (pass : ℕ) (v : Got T) (other : ℕ) (w : Put T) → w.sender ≡ length v.joined → Merges Shares pass (Taker v) other (Sender w) (joined (Taker v) (Sender w)) Nothing
+  -- the numbers of the seats that are joined, when one more is
+  one_more : (v : Got T) (w : Put T) (i : ℕ) → w.sender + suc (length v.joined) ≡ v.senders → i < length v.joined → joined_number v i ≡ joined_number (record v { joined = w.put ∷ v.joined }) (suc i)
+  one_more v w i next l = omega arith
+
+  joins_at : (pass : ℕ) (v : Got T) (other : ℕ) (w : Put T) → w.sender + suc (length v.joined) ≡ v.senders
+      → Merges Shares pass (Taker v) other (Sender w) (joined (Taker v) (Sender w)) Nothing
   joins_at pass v other w next items views h at two at' =
-      let v' : Got T = record v { joined = v.joined ++ w.put ∷ [] } in
+      let v' : Got T = record v { joined = w.put ∷ v.joined } in
       let me = h.fits pass (Taker v) at in
       let vs : List (Known T) = set views pass (Taker v') in
       let was : get_elem? views other ≡ some (Sender w) = sym (set_else views pass other (Taker v') two) ∙ at' in
@@ -122,9 +126,7 @@ module _ {T : Type 0} where
         got = me.got;
         count = me.count;
         unmade = λ s l. let none = me.unmade s l in (given_none h.holder w.sender s none.0, none.1);
-        joined = longer [] (λ s l. (holder s ≡ 0) × (l ≡ values_of s h.all)) v.joined w.put
-            (λ s l. let none = me.joined s l in (given_none h.holder w.sender s none.0, none.1))
-            (subst (λ s. (holder s ≡ 0) × (w.put ≡ values_of s h.all)) next (given_there h.holder w.sender 0, it.put));
+        joined = both h.all holder v w next (given_there h.holder w.sender 0, it.put) (λ i l. let none = me.joined i l in (given_none h.holder w.sender (joined_number v i) none.0, none.1));
       } in
       let F : ℕ → Known T → Type 0 = Fits h.taker h.senders holder h.all h.taken in
       let G : ℕ → Known T → Type 0 = λ j u. j ≢ other → F j u in
@@ -140,7 +142,15 @@ module _ {T : Type 0} where
         from = h.from;
         fits = each_set F vs other Nothing tt (λ j u apart e. now j u e apart);
       }
+    where
+      both : (all : List (Tagged T)) (holder : ℕ → ℕ) (v : Got T) (w : Put T) → w.sender + suc (length v.joined) ≡ v.senders → (holder w.sender ≡ 0) × (w.put ≡ values_of w.sender all)
+          → ((i : ℕ) → i < length v.joined → (holder (joined_number v i) ≡ 0) × (get_or v.joined i [] ≡ values_of (joined_number v i) all))
+          → (i : ℕ) → i < suc (length v.joined)
+          → (holder (joined_number (record v { joined = w.put ∷ v.joined }) i) ≡ 0) × (get_or (w.put ∷ v.joined) i [] ≡ values_of (joined_number (record v { joined = w.put ∷ v.joined }) i) all)
+      both all holder v w next new old zero l =
+          let first : w.sender ≡ v.senders - suc (length v.joined) + 0 = omega arith in subst (λ s. (holder s ≡ 0) × (w.put ≡ values_of s all)) first new
+      both all holder v w next new old (suc i) l = subst (λ s. (holder s ≡ 0) × (get_or v.joined i [] ≡ values_of s all)) (one_more v w i next (omega arith)) (old i (omega arith))
 
-  pub joins : (pass : ℕ) (k : Known T) (v : Got T) (other : ℕ) (l : Known T) (w : Put T) → k ≡ Taker v → l ≡ Sender w → w.sender ≡ length v.joined
+  pub joins : (pass : ℕ) (k : Known T) (v : Got T) (other : ℕ) (l : Known T) (w : Put T) → k ≡ Taker v → l ≡ Sender w → w.sender + suc (length v.joined) ≡ v.senders
       → Merges Shares pass k other l (joined k l) Nothing
   joins pass k v other l w is is' next = subst (λ (y : Known T × Known T). Merges Shares pass y.0 other y.1 (joined y.0 y.1) Nothing) (λ i. (sym is i, sym is' i)) (joins_at pass v other w next)

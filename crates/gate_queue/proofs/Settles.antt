@@ -5,40 +5,65 @@ use Rattle.std.proofs.lemmas.List.{length-map}
 use mathlib.Core.Logic.{dite}
 use native.Mathlib.Decide.{dec_lt}
 use Rattle.crossbeam_queue.specs.Fifo.{Merges, Held}
-use Rattle.crossbeam_queue.specs.Passes.{Pass, view}
-use Rattle.atomic_table.specs.Seated.{TableId}
 use Rattle.gate_queue.specs.declared.tagged.Tagged.{Tagged}
 use Rattle.gate_queue.specs.declared.known.Got.{Got}
 use Rattle.gate_queue.specs.declared.known.Known.{Known}
 use Rattle.gate_queue.specs.declared.known.Known.TheVariants.{Taker, Nothing}
 use Rattle.gate_queue.specs.Tagged.{values_of}
-use Rattle.gate_queue.specs.Seats.{SenderSeat}
+use Rattle.gate_queue.specs.Seats.{QueueId, QueueName, SenderSeat}
 use Rattle.gate_queue.specs.States.{AreFrom, IsDelivered}
-use Rattle.gate_queue.specs.Sharing.{Shares, HasTaken, CanWait, TakerAllows, took, joined}
-use Rattle.gate_queue.specs.Views.{as_sender, with_joined, with_more, AreSeats, IsSenderRight}
+use Rattle.gate_queue.specs.Sharing.{Shares, HasTaken, CanWait, TakerAllows, joined_number, took, joined}
+use Rattle.gate_queue.specs.Views.{as_sender, sender_at, with_joined, with_more, AreSeats, KnowsSender}
 use Rattle.gate_queue.proofs.Values.{values_of-append}
 use Rattle.gate_queue.proofs.Counts.{same_length, values_of-beyond}
 use Rattle.gate_queue.proofs.Parts.{joins}
 
 module _ {T : Type 0} where
-  -- the next seat has the number of those that were joined
-  pub next_seat : (table : TableId) (senders : ℕ) (tails before rest after : List (SenderSeat T)) (x : SenderSeat T) → AreSeats table senders tails → before ++ rest ≡ tails → rest ≡ x ∷ after
-      → x.sender ≡ length (map (λ (t : SenderSeat T). t.put) before)
-  next_seat table senders tails before rest after x are is next =
-      let all : before ++ x ∷ after ≡ tails = ap (λ l. before ++ l) (sym next) ∙ is in
-      let at : get_or tails (length before) x ≡ x = ap (λ l. get_or l (length before) x) (sym all) ∙ get_or-append_seam before x after x in
-      let below : length before < length tails = (let l = ap length all in omega (arith, l, length-append before (x ∷ after))) in
-      ap (λ (t : SenderSeat T). t.sender) (sym at) ∙ (are (length before) x below).1 ∙ sym (length-map before (λ (t : SenderSeat T). t.put))
+  -- the seats that are apart, and then those that are joined, are all of them
+  pub still_all : (rest done old tails : List (SenderSeat T)) (x : SenderSeat T) → old ++ done ≡ tails → old ≡ rest ++ x ∷ [] → rest ++ x ∷ done ≡ tails
+  still_all rest done old tails x is popped = sym (append_assoc rest (x ∷ []) done) ∙ ap (λ l. l ++ done) (sym popped) ∙ is
 
-  -- joining the next seat keeps the rule
-  pub join_keeps : (pass : ℕ) (k : Known T) (v : Got T) (lists : List (List T)) (s : ℕ) (own : Pass (Tagged T) (Known T)) → k ≡ Taker (with_joined v lists) → IsSenderRight s own → s ≡ length lists
-      → Merges Shares pass k own.id (view own) (joined k (view own)) Nothing
-  join_keeps pass k v lists s own is right next = joins pass k (with_joined v lists) own.id (view own) (as_sender (view own)) is right.known (right.number ∙ next)
+  -- where the last seat that is still apart stands
+  last_at : (id : QueueId) (senders : ℕ) (tails rest done old : List (SenderSeat T)) (x : SenderSeat T) → AreSeats id senders tails → old ++ done ≡ tails → old ≡ rest ++ x ∷ []
+      → (x.queue ≡ record { id = id; senders = senders }) × (x.sender ≡ length rest)
+  last_at id senders tails rest done old x are is popped =
+      let all : rest ++ x ∷ done ≡ tails = still_all rest done old tails x is popped in
+      let at : get_or tails (length rest) x ≡ x = ap (λ l. get_or l (length rest) x) (sym all) ∙ get_or-append_seam rest x done x in
+      let below : length rest < length tails = (let l = ap length all in omega (arith, l, length-append rest (x ∷ done))) in
+      let seat = are (length rest) x below in
+      (ap (λ (t : SenderSeat T). t.queue) (sym at) ∙ seat.0, ap (λ (t : SenderSeat T). t.sender) (sym at) ∙ seat.1)
+
+  -- it is of the queue
+  pub last_queue : (id : QueueId) (senders : ℕ) (tails rest done old : List (SenderSeat T)) (x : SenderSeat T) → AreSeats id senders tails → old ++ done ≡ tails → old ≡ rest ++ x ∷ [] → x.queue.id ≡ id
+  last_queue id senders tails rest done old x are is popped = ap (λ (q : QueueName). q.id) (last_at id senders tails rest done old x are is popped).0
+
+  -- and it has the number of those before it
+  pub last_number : (id : QueueId) (senders : ℕ) (tails rest done old : List (SenderSeat T)) (x : SenderSeat T) → AreSeats id senders tails → length tails ≡ senders → old ++ done ≡ tails → old ≡ rest ++ x ∷ []
+      → x.sender + suc (length (map (λ (t : SenderSeat T). t.put) done)) ≡ senders
+  last_number id senders tails rest done old x are many is popped =
+      let l = ap length (still_all rest done old tails x is popped) in
+      let number = (last_at id senders tails rest done old x are is popped).1 in
+      omega (arith, l, number, many, length-append rest (x ∷ done), length-map done (λ (t : SenderSeat T). t.put))
+
+  -- joining that seat keeps the rule
+  pub join_keeps : (pass : ℕ) (k : Known T) (v : Got T) (lists : List (List T)) (s other : ℕ) (own : Known T) → k ≡ Taker (with_joined v lists) → KnowsSender s own → s + suc (length lists) ≡ v.senders
+      → Merges Shares pass k other own (joined k own) Nothing
+  join_keeps pass k v lists s other own is knows next = joins pass k (with_joined v lists) other own (as_sender own) is knows.known (ap (λ n. n + suc (length lists)) knows.number ∙ next)
+
+  -- what the taker knows then
+  pub joined_more : (k : Known T) (v : Got T) (done : List (SenderSeat T)) (id : QueueId) (own : Known T) (x : SenderSeat T) → k ≡ Taker (with_joined v (map (λ (t : SenderSeat T). t.put) done)) → KnowsSender x.sender own
+      → sender_at id x.sender own ≡ x → joined k own ≡ Taker (with_joined v (map (λ (t : SenderSeat T). t.put) (x ∷ done)))
+  joined_more k v done id own x is knows seen = (λ i. joined (is i) (knows.known i)) ∙ ap (λ l. Taker (with_joined v (l ∷ map (λ (t : SenderSeat T). t.put) done))) (ap (λ (t : SenderSeat T). t.put) seen)
+
+  -- where each seat is joined, they have their senders' numbers
+  all_numbers : (v : Got T) (s : ℕ) → length v.joined ≡ v.senders → joined_number v s ≡ s
+  all_numbers v s whole = omega arith
 
   count_by_sender : (v : Got T) (xs items after : List (Tagged T)) → length v.joined ≡ v.senders → TakerAllows v items → TakerAllows (with_more v xs) after
       → (s : ℕ) → values_of s (v.taken ++ items) ≡ values_of s ((v.taken ++ xs) ++ after)
   count_by_sender v xs items after whole before now s =
-      dite (dec_lt s v.senders) (λ below. sym (before.joined s (omega arith)) ∙ now.joined s (omega arith))
+      dite (dec_lt s v.senders)
+      (λ below. subst (λ n. values_of n (v.taken ++ items) ≡ values_of n ((v.taken ++ xs) ++ after)) (all_numbers v s whole) (sym (before.joined s (omega arith)) ∙ now.joined s (omega arith)))
       (λ beyond.
       let reach : v.senders ≤ s = omega arith in
       values_of-beyond v.senders s (v.taken ++ items) reach before.from ∙ sym (values_of-beyond v.senders s ((v.taken ++ xs) ++ after) reach now.from))
@@ -86,6 +111,6 @@ module _ {T : Type 0} where
       let none : held.0 ≡ [] = no_more held.0 held.1 in
       let allows = subst (λ (l : Known T). CanWait l held.0) is held.2 in
       let all : (v.taken ++ xs) ++ held.0 ≡ v.taken ++ xs = ap (λ l. (v.taken ++ xs) ++ l) none ∙ append-nil (v.taken ++ xs) in (
-        (λ s below. sym (values_of-append s v.taken xs) ∙ ap (values_of s) (sym all) ∙ sym (allows.joined s (omega arith))),
+        (λ s below. sym (values_of-append s v.taken xs) ∙ ap (values_of s) (sym all) ∙ sym (subst (λ n. get_or v.joined s [] ≡ values_of n ((v.taken ++ xs) ++ held.0)) (all_numbers v s whole) (allows.joined s (omega arith)))),
         (outer v.senders v.taken xs (subst (AreFrom v.senders) all allows.from), inner v.senders v.taken xs (subst (AreFrom v.senders) all allows.from)),
       )

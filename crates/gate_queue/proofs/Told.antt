@@ -2,17 +2,16 @@
 use Rattle.std.proofs.Common.{◌≡◌, ℕ, suc, ◌<◌, ◌≤◌, List, [], ◌∷◌, ◌++◌, length, sym, refl, ap, ◌∙◌, subst, arith, append-nil, length-append}
 use Rattle.std.specs.Prelude.{Option, Some, None, IfSome, IfNone, MatchOption}
 use Rattle.crossbeam_queue.specs.Fifo.{Pushes, Pops, Learns, Held}
-use Rattle.crossbeam_queue.specs.Passes.{Pass, view}
 use Rattle.gate_queue.specs.declared.tagged.Tagged.{Tagged}
 use Rattle.gate_queue.specs.declared.known.Put.{Put}
 use Rattle.gate_queue.specs.declared.known.Got.{Got}
 use Rattle.gate_queue.specs.declared.known.Known.{Known}
 use Rattle.gate_queue.specs.declared.known.Known.TheVariants.{Sender, Taker}
 use Rattle.gate_queue.specs.Tagged.{values_of}
-use Rattle.gate_queue.specs.Seats.{Shape, SenderSeat, TakerSeat, IsTailOf, IsHeadOf}
+use Rattle.gate_queue.specs.Seats.{QueueId, Shape, SenderSeat, TakerSeat, IsTailOf, IsHeadOf}
 use Rattle.gate_queue.specs.States.{AreFrom, MayBeFull, MayBeEmpty}
 use Rattle.gate_queue.specs.Sharing.{Shares, HasPut, HasTaken, CanWait, SenderAllows, TakerAllows}
-use Rattle.gate_queue.specs.Views.{as_sender, as_taker, sender_seat, taker_seat, IsSenderRight, IsTakerRight}
+use Rattle.gate_queue.specs.Views.{as_sender, as_taker, sender_at, taker_at, KnowsSender, KnowsTaker}
 use Rattle.gate_queue.proofs.Values.{values_of-append, length-values_of-only}
 use Rattle.gate_queue.proofs.Keeps.{puts, takes, learns}
 
@@ -56,13 +55,13 @@ module _ {T : Type 0} where
       )
 
   -- what a refused put tells
-  pub full_told : (n s : ℕ) (p : Pass (Tagged T) (Known T)) (queue : Shape) (tail : SenderSeat T) → n ≡ queue.capacity → IsSenderRight s p → sender_seat s p ≡ tail → IsTailOf queue tail
-      → Held n (CanWait (view p)) → MayBeFull queue tail × (queue.name.senders ≡ 1 → queue.capacity ≤ length tail.put)
-  full_told n s p queue tail size right is of held =
-      let v : Put T = as_sender (view p) in
-      full_at n queue tail v size (ap (λ (t : SenderSeat T). t.queue.senders) is ∙ ap (λ q. q.senders) of) (right.number ∙ ap (λ (t : SenderSeat T). t.sender) is)
-      (ap (λ (t : SenderSeat T). t.put) is) (subst (λ k. k < v.senders) (sym right.number) right.within)
-      (subst (λ (k : Known T). Held n (CanWait k)) right.known held)
+  pub full_told : (n s : ℕ) (id : QueueId) (k : Known T) (queue : Shape) (tail : SenderSeat T) → n ≡ queue.capacity → KnowsSender s k → sender_at id s k ≡ tail → IsTailOf queue tail
+      → Held n (CanWait k) → MayBeFull queue tail × (queue.name.senders ≡ 1 → queue.capacity ≤ length tail.put)
+  full_told n s id k queue tail size knows is of held =
+      let v : Put T = as_sender k in
+      full_at n queue tail v size (ap (λ (t : SenderSeat T). t.queue.senders) is ∙ ap (λ q. q.senders) of) (knows.number ∙ ap (λ (t : SenderSeat T). t.sender) is)
+      (ap (λ (t : SenderSeat T). t.put) is) (subst (λ s. s < v.senders) (sym knows.number) knows.within)
+      (subst (λ (k : Known T). Held n (CanWait k)) knows.known held)
 
   nothing_at : (queue : Shape) (head : TakerSeat T) (v : Got T) → v.senders ≡ queue.name.senders → v.taken ≡ head.taken → Held 0 (TakerAllows v) → MayBeEmpty queue head
   nothing_at queue head v count list held =
@@ -82,23 +81,31 @@ module _ {T : Type 0} where
       empty_list [] e = refl
       empty_list (x ∷ xs) e = absurd (omega arith)
 
+  -- what finding the queue empty tells
+  pub nothing_told : (id : QueueId) (k : Known T) (queue : Shape) (head : TakerSeat T) → KnowsTaker k → taker_at id k ≡ head → IsHeadOf queue head → Held 0 (CanWait k) → MayBeEmpty queue head
+  nothing_told id k queue head knows is of held =
+      nothing_at queue head (as_taker k) (ap (λ (h : TakerSeat T). h.queue.senders) is ∙ ap (λ q. q.senders) of) (ap (λ (h : TakerSeat T). h.taken) is)
+      (subst (λ (k : Known T). Held 0 (CanWait k)) knows.known held)
+
   -- what a taking that finds nothing tells
-  pub empty_told : (r : Option (Tagged T)) (p q : Pass (Tagged T) (Known T)) (queue : Shape) (head : TakerSeat T) → IsTakerRight p → taker_seat p ≡ head → IsHeadOf queue head
-      → MatchOption r ((view q ≡ view p) × Held 0 (CanWait (view p))) (λ x. HasTaken (view p) x (view q)) → IfNone r (MayBeEmpty queue head)
-  empty_told (Some x) p q queue head right is of rule = tt
-  empty_told None p q queue head right is of rule =
-      nothing_at queue head (as_taker (view p)) (ap (λ (h : TakerSeat T). h.queue.senders) is ∙ ap (λ q. q.senders) of) (ap (λ (h : TakerSeat T). h.taken) is)
-      (subst (λ (k : Known T). Held 0 (CanWait k)) right.known rule.1)
+  pub empty_told : (r : Option (Tagged T)) (id : QueueId) (k l : Known T) (queue : Shape) (head : TakerSeat T) → KnowsTaker k → taker_at id k ≡ head → IsHeadOf queue head
+      → MatchOption r ((l ≡ k) × Held 0 (CanWait k)) (λ x. HasTaken k x l) → IfNone r (MayBeEmpty queue head)
+  empty_told (Some x) id k l queue head knows is of rule = tt
+  empty_told None id k l queue head knows is of rule = nothing_told id k queue head knows is of rule.1
 
   middle : (n : ℕ) (xs : List (Tagged T)) (x : Tagged T) (ys : List (Tagged T)) → AreFrom n ((xs ++ x ∷ []) ++ ys) → x.sender < n
   middle n [] x ys from = from 0 x (omega arith)
   middle n (z ∷ zs) x ys from = middle n zs x ys (λ k d h. from (suc k) d (omega arith))
 
-  -- what is taken comes from a sender of the queue
-  pub sender_told : (r : Option (Tagged T)) (p q : Pass (Tagged T) (Known T)) (queue : Shape) (head : TakerSeat T) → IsTakerRight p → taker_seat p ≡ head → IsHeadOf queue head
-      → MatchOption r ((view q ≡ view p) × Held 0 (CanWait (view p))) (λ x. HasTaken (view p) x (view q)) → IfSome r (λ x. x.sender < queue.name.senders)
-  sender_told None p q queue head right is of rule = tt
-  sender_told (Some x) p q queue head right is of rule =
-      let v : Got T = as_taker (view p) in
-      let has = subst (λ (k : Known T). HasTaken k x (view q)) right.known rule in
+  -- a value that was taken comes from a sender of the queue
+  pub from_told : (x : Tagged T) (id : QueueId) (k l : Known T) (queue : Shape) (head : TakerSeat T) → KnowsTaker k → taker_at id k ≡ head → IsHeadOf queue head → HasTaken k x l → x.sender < queue.name.senders
+  from_told x id k l queue head knows is of told =
+      let v : Got T = as_taker k in
+      let has = subst (λ (k : Known T). HasTaken k x l) knows.known told in
       subst (λ n. x.sender < n) (ap (λ (h : TakerSeat T). h.queue.senders) is ∙ ap (λ q. q.senders) of) (middle v.senders v.taken x has.1.0 has.1.1.from)
+
+  -- what is taken comes from a sender of the queue
+  pub sender_told : (r : Option (Tagged T)) (id : QueueId) (k l : Known T) (queue : Shape) (head : TakerSeat T) → KnowsTaker k → taker_at id k ≡ head → IsHeadOf queue head
+      → MatchOption r ((l ≡ k) × Held 0 (CanWait k)) (λ x. HasTaken k x l) → IfSome r (λ x. x.sender < queue.name.senders)
+  sender_told None id k l queue head knows is of rule = tt
+  sender_told (Some x) id k l queue head knows is of rule = from_told x id k l queue head knows is of rule

@@ -3,6 +3,9 @@ use Rattle.std.proofs.Common.{◌≡◌, ◌≢◌, ℕ, zero, suc, ◌⊎◌, L
 use mathlib.Core.Option.{some, some-injective, some-ne-none}
 use lib.ListN.{get_elem?}
 use Rattle.crossbeam_queue.proofs.Lists.{at_set}
+use Rattle.atomic_table.specs.Seated.{TableId}
+use Rattle.atomic_blocks.specs.Laid.{WebId}
+use Rattle.gate_queue.specs.Seats.{in_table, in_blocks}
 
 module _ {V : Type 0} where
   abbrev pub Each : (ℕ → V → Type 0) → List V → Type 0
@@ -21,3 +24,10 @@ module _ {V : Type 0} where
   pub each_snoc : (F : ℕ → V → Type 0) (views : List V) (w : V) → Each F views → F (length views) w → Each F (views ++ w ∷ [])
   each_snoc F views w old new j u e = ⊎_elim (λ (x : get_elem? views j ≡ some u). old j u x)
       (λ (x : (j ≡ length views) × (w ≡ u)). subst (λ (y : ℕ × V). F y.0 y.1) (λ i. (sym x.0 i, x.1 i)) new) (at_end views w u j e)
+
+-- queues of one table, and of one web of blocks
+pub same_table : (a b : TableId) → in_table a ≡ in_table b → a ≡ b
+same_table a b e = (cc)
+
+pub same_web : (a b : WebId) → in_blocks a ≡ in_blocks b → a ≡ b
+same_web a b e = (cc)

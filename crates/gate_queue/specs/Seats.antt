@@ -1,11 +1,17 @@
 -- What contracts see of a queue and of its seats, and when a seat is one of a queue's.
 use Rattle.std.specs.Prelude.{◌≡◌, ℕ, ◌<◌, List, [], ◌∷◌, ◌++◌, length, slice_index_or}
 use Rattle.atomic_table.specs.Seated.{TableId}
+use Rattle.atomic_blocks.specs.Laid.{WebId}
 use Rattle.gate_queue.specs.declared.tagged.Tagged.{Tagged}
+
+-- What no other queue has: a bounded queue's table, or an unbounded one's web of blocks
+pub data QueueId : Type 0 where
+  in_table : TableId → QueueId
+  in_blocks : WebId → QueueId
 
 -- Which queue it is: what no other queue has, and how many senders there are
 pub record QueueName : Type 0 where
-  pub table : TableId
+  pub id : QueueId
   pub senders : ℕ
 
 -- A queue: which one it is, and how many values it can hold

@@ -1,5 +1,5 @@
 -- The rule that every queue keeps, and what each step tells the seat that makes it.
-use Rattle.std.specs.Prelude.{◌≡◌, ℕ, suc, ◌+◌, ◌<◌, ◌≤◌, List, [], ◌∷◌, ◌++◌, length, slice_index_or}
+use Rattle.std.specs.Prelude.{◌≡◌, ℕ, suc, ◌+◌, ◌-◌, ◌<◌, ◌≤◌, List, [], ◌∷◌, ◌++◌, length, slice_index_or}
 use mathlib.Core.Option.{some}
 use lib.ListN.{get_elem?}
 use Rattle.gate_queue.specs.declared.tagged.Tagged.{Tagged}
@@ -18,13 +18,17 @@ module _ {T : Type 0} where
     pub count : v.senders ≡ senders
     pub within : v.sender < senders
 
+  -- the number of the sender whose seat is the i-th of those that were joined: seats are joined from the last one on
+  abbrev pub joined_number : Got T → ℕ → ℕ
+  joined_number v i = v.senders - length v.joined + i
+
   -- The taker's seat knows what was taken. No pass holds a seat that isn't made yet or was joined
   pub record IsTaker (taker senders : ℕ) (holder : ℕ → ℕ) (all taken : List (Tagged T)) (pass : ℕ) (v : Got T) : Type 0 where
     pub here : pass ≡ taker
     pub got : v.taken ≡ taken
     pub count : v.senders ≡ senders
     pub unmade : (s : ℕ) → v.made ≤ s → (holder s ≡ 0) × (values_of s all ≡ [])
-    pub joined : (s : ℕ) → s < length v.joined → (holder s ≡ 0) × (slice_index_or v.joined s [] ≡ values_of s all)
+    pub joined : (i : ℕ) → i < length v.joined → (holder (joined_number v i) ≡ 0) × (slice_index_or v.joined i [] ≡ values_of (joined_number v i) all)
 
   abbrev pub Fits : (taker senders : ℕ) → (ℕ → ℕ) → (all taken : List (Tagged T)) → ℕ → Known T → Type 0
   Fits taker senders holder all taken pass (Sender v) = IsSender senders holder all pass v
@@ -68,7 +72,7 @@ module _ {T : Type 0} where
   next_sender Nothing = Nothing
 
   abbrev pub joined_by : Got T → Known T → Known T
-  joined_by v (Sender w) = Taker (record v { joined = v.joined ++ w.put ∷ [] })
+  joined_by v (Sender w) = Taker (record v { joined = w.put ∷ v.joined })
   joined_by v (Taker w) = Taker v
   joined_by v Nothing = Taker v
 
@@ -92,7 +96,7 @@ module _ {T : Type 0} where
   -- what can wait where just this was taken
   pub record TakerAllows (v : Got T) (items : List (Tagged T)) : Type 0 where
     pub from : AreFrom v.senders (v.taken ++ items)
-    pub joined : (s : ℕ) → s < length v.joined → slice_index_or v.joined s [] ≡ values_of s (v.taken ++ items)
+    pub joined : (i : ℕ) → i < length v.joined → slice_index_or v.joined i [] ≡ values_of (joined_number v i) (v.taken ++ items)
 
   abbrev pub CanWait : Known T → List (Tagged T) → Type 0
   CanWait (Sender v) items = SenderAllows v items

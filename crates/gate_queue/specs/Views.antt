@@ -1,13 +1,12 @@
 -- How the seats are seen: by what their passes know.
 use Rattle.std.specs.Prelude.{◌≡◌, ℕ, ◌<◌, List, [], ◌++◌, length, slice_index_or}
-use Rattle.atomic_table.specs.Seated.{TableId}
 use Rattle.crossbeam_queue.specs.Passes.{Pass, view}
 use Rattle.gate_queue.specs.declared.tagged.Tagged.{Tagged}
 use Rattle.gate_queue.specs.declared.known.Put.{Put}
 use Rattle.gate_queue.specs.declared.known.Got.{Got}
 use Rattle.gate_queue.specs.declared.known.Known.{Known}
 use Rattle.gate_queue.specs.declared.known.Known.TheVariants.{Sender, Taker, Nothing}
-use Rattle.gate_queue.specs.Seats.{SenderSeat, TakerSeat}
+use Rattle.gate_queue.specs.Seats.{QueueId, in_table, SenderSeat, TakerSeat}
 
 module _ {T : Type 0} where
   abbrev pub nobody : Put T
@@ -28,11 +27,13 @@ module _ {T : Type 0} where
   as_taker (Sender v) = no_taker
   as_taker Nothing = no_taker
 
-  abbrev pub sender_seat : ℕ → Pass (Tagged T) (Known T) → SenderSeat T
-  sender_seat s p = record { queue = record { table = p.table_id; senders = (as_sender (view p)).senders }; sender = s; put = (as_sender (view p)).put }
+  -- the seat of the sender s of a queue, by what it knows
+  abbrev pub sender_at : QueueId → ℕ → Known T → SenderSeat T
+  sender_at id s k = record { queue = record { id = id; senders = (as_sender k).senders }; sender = s; put = (as_sender k).put }
 
-  abbrev pub taker_seat : Pass (Tagged T) (Known T) → TakerSeat T
-  taker_seat p = record { queue = record { table = p.table_id; senders = (as_taker (view p)).senders }; taken = (as_taker (view p)).taken }
+  -- the taker's seat of a queue, by what it knows
+  abbrev pub taker_at : QueueId → Known T → TakerSeat T
+  taker_at id k = record { queue = record { id = id; senders = (as_taker k).senders }; taken = (as_taker k).taken }
 
   -- the taker, when seats that had put these lists are joined to it
   abbrev pub with_joined : Got T → List (List T) → Got T
@@ -43,28 +44,43 @@ module _ {T : Type 0} where
   with_more v xs = record { senders = v.senders; made = v.made; taken = v.taken ++ xs; joined = v.joined }
 
   -- seats of a queue, from sender 0 on
-  abbrev pub AreSeats : TableId → ℕ → List (SenderSeat T) → Type 0
-  AreSeats table senders tails =
-      (k : ℕ) (d : SenderSeat T) → k < length tails → ((slice_index_or tails k d).queue ≡ record { table = table; senders = senders }) × ((slice_index_or tails k d).sender ≡ k)
+  abbrev pub AreSeats : QueueId → ℕ → List (SenderSeat T) → Type 0
+  AreSeats id senders tails = (k : ℕ) (d : SenderSeat T) → k < length tails → ((slice_index_or tails k d).queue ≡ record { id = id; senders = senders }) × ((slice_index_or tails k d).sender ≡ k)
 
   -- a sender's seat in which nothing was put yet
-  abbrev pub new_seat : TableId → (senders s : ℕ) → SenderSeat T
-  new_seat table senders s = record { queue = record { table = table; senders = senders }; sender = s; put = [] }
+  abbrev pub new_seat : QueueId → (senders s : ℕ) → SenderSeat T
+  new_seat id senders s = record { queue = record { id = id; senders = senders }; sender = s; put = [] }
 
   -- new seats, from sender 0 on
-  abbrev pub AreNew : TableId → ℕ → List (SenderSeat T) → Type 0
-  AreNew table senders tails = (k : ℕ) (d : SenderSeat T) → k < length tails → slice_index_or tails k d ≡ new_seat table senders k
+  abbrev pub AreNew : QueueId → ℕ → List (SenderSeat T) → Type 0
+  AreNew id senders tails = (k : ℕ) (d : SenderSeat T) → k < length tails → slice_index_or tails k d ≡ new_seat id senders k
+
+  -- it is what the sender with this number knows
+  pub record KnowsSender (s : ℕ) (k : Known T) : Type 0 where
+    pub known : k ≡ Sender (as_sender k)
+    pub number : (as_sender k).sender ≡ s
+    pub within : s < (as_sender k).senders
+
+  -- it is what the taker knows when each seat was given and none is joined
+  pub record KnowsTaker (k : Known T) : Type 0 where
+    pub known : k ≡ Taker (as_taker k)
+    pub joined : (as_taker k).joined ≡ []
+    pub made : (as_taker k).made ≡ (as_taker k).senders
+
+  -- ---- of a bounded queue
+
+  abbrev pub sender_seat : ℕ → Pass (Tagged T) (Known T) → SenderSeat T
+  sender_seat s p = sender_at (in_table p.table_id) s (view p)
+
+  abbrev pub taker_seat : Pass (Tagged T) (Known T) → TakerSeat T
+  taker_seat p = taker_at (in_table p.table_id) (view p)
 
   -- the pass is that of the sender with this number, and no slot is out with it
   pub record IsSenderRight (s : ℕ) (p : Pass (Tagged T) (Known T)) : Type 0 where
     pub at_rest : p.me.1 ≡ []
-    pub known : view p ≡ Sender (as_sender (view p))
-    pub number : (as_sender (view p)).sender ≡ s
-    pub within : s < (as_sender (view p)).senders
+    pub knows : KnowsSender s (view p)
 
-  -- the pass is the taker's, each seat was given, none is joined, and no slot is out with it
+  -- the pass is the taker's, and no slot is out with it
   pub record IsTakerRight (p : Pass (Tagged T) (Known T)) : Type 0 where
     pub at_rest : p.me.1 ≡ []
-    pub known : view p ≡ Taker (as_taker (view p))
-    pub joined : (as_taker (view p)).joined ≡ []
-    pub made : (as_taker (view p)).made ≡ (as_taker (view p)).senders
+    pub knows : KnowsTaker (view p)

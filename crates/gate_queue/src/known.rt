@@ -17,7 +17,7 @@ pub struct Put<T> {
 }
 
 /// What the taker's seat knows: how many senders there are and how many have their seat, what it took, and what each
-/// seat that was joined had put.
+/// seat that was joined had put. Seats are joined from the last sender's on.
 pub struct Got<T> {
     /// How many senders the queue has.
     pub senders: usize,
@@ -25,7 +25,7 @@ pub struct Got<T> {
     pub made: usize,
     /// What it took, in order.
     pub taken: LinkedList<Tagged<T>>,
-    /// What each joined sender had put, by number.
+    /// What each joined sender had put, by number, up to the last.
     pub joined: LinkedList<LinkedList<T>>,
 }
 
@@ -102,7 +102,7 @@ impl<T> Split<Known<T>> for Seats {
     ghost right = { next_sender };
 }
 
-/// The next sender's seat is joined to the taker's.
+/// The seat of the last sender that is still apart is joined to the taker's.
 pub struct Joins;
 
 impl<T> Join<Known<T>> for Joins {

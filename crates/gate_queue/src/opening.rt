@@ -2,7 +2,7 @@
 ghost use Rattle.std.specs.Prelude.{◌≡◌, ◌≤◌, ◌↔◌, [], All, IfOk, IsErrOf, vec_len};
 ghost use Rattle.std.specs.Vec.{vec_capacity};
 ghost use Rattle.crossbeam_queue.specs.Passes.{view, IsPassOf};
-ghost use Rattle.gate_queue.specs.Seats.{IsHeadOf, AreAllTailsOf};
+ghost use Rattle.gate_queue.specs.Seats.{in_table, IsHeadOf, AreAllTailsOf};
 ghost use Rattle.gate_queue.specs.Sharing.{opening};
 ghost use Rattle.gate_queue.specs.Views.{AreNew};
 
@@ -67,7 +67,7 @@ fn seat<T>(
     requires right { IsPassOf places.now right × (view right ≡ opening senders 0) }
     requires room { (tails.items ≡ []) × (senders ≤ vec_capacity tails) }
     ensures right { IsPassOf places.now result.0 × (view result.0 ≡ opening senders senders) }
-    ensures tails { (vec_len result.1 ≡ senders) × AreNew places.now.table.shared.table_id senders result.1.items }
+    ensures tails { (vec_len result.1 ≡ senders) × AreNew (in_table places.now.table.shared.table_id) senders result.1.items }
 {
     for sender in 0..senders {
         let own = places.another::<Seats>(&mut right);

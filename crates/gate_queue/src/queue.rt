@@ -19,13 +19,13 @@ pub struct EventQueue<T> {
 }
 
 impl<T> Model for EventQueue<T> {
-    ghost use Rattle.gate_queue.specs.Seats.{Shape};
+    ghost use Rattle.gate_queue.specs.Seats.{in_table, Shape};
     ghost use Rattle.crossbeam_queue.specs.Passes.{ruled_capacity};
 
     ghost Value = { Shape };
 
     ghost view = { λ q. record {
-      name = record { table = q.places.table.shared.table_id; senders = q.senders };
+      name = record { id = in_table q.places.table.shared.table_id; senders = q.senders };
       capacity = ruled_capacity q.places;
     } };
 }

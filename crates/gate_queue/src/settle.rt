@@ -2,7 +2,7 @@
 ghost use Rattle.std.specs.Prelude.{◌≡◌, ℕ, ◌<◌, ◌≤◌, [], ◌++◌, map, length, All, IfOk, IfErr, slice_index_or};
 ghost use Rattle.std.specs.Vec.{vec_capacity};
 ghost use Rattle.crossbeam_queue.specs.Passes.{view, IsPassOf, ruled_capacity};
-ghost use Rattle.gate_queue.specs.Seats.{IsHeadOf, AreAllTailsOf, AreTailsOf};
+ghost use Rattle.gate_queue.specs.Seats.{in_table, IsHeadOf, AreAllTailsOf, AreTailsOf};
 ghost use Rattle.gate_queue.specs.States.{AreFrom, IsDelivered};
 ghost use Rattle.gate_queue.specs.declared.known.Known.TheVariants.{Taker};
 ghost use Rattle.gate_queue.specs.Views.{as_taker, with_joined, IsTakerRight, AreSeats};
@@ -52,14 +52,15 @@ impl<T: Drop> EventQueue<T> {
     }
 }
 
-// Joins the seats of the senders to the taker's, which then knows what each had put.
-fn join<T>(places: &Places<T>, mut right: Right<T>, tails: Vec<Tail<T>>) -> Right<T>
+// Joins the seats of the senders to the taker's, from the last on. It then knows what each had put.
+fn join<T>(places: &Places<T>, mut right: Right<T>, mut tails: Vec<Tail<T>>) -> Right<T>
     requires right { IsPassOf places.now right × IsTakerRight right }
-    requires tails { AreSeats places.now.table.shared.table_id (as_taker (view right)).senders tails.items }
+    requires tails { AreSeats (in_table places.now.table.shared.table_id) (as_taker (view right)).senders tails.items }
+    requires all { length tails.items ≡ (as_taker (view right)).senders }
     ensures { IsPassOf places.now result ×
         (view result ≡ Taker (with_joined (as_taker (view right)) (map (λ tail. tail.put) tails.items))) }
 {
-    for tail in tails {
+    while let Some(tail) = tails.pop() {
         places.absorb::<Joins>(&mut right, tail.into_right());
     }
     right

@@ -3,4 +3,4 @@ use Rattle.gate_queue.proofs.Parts.{plans}
 use Rattle.gate_queue.proofs.opening.plan.Goals as goal
 
 pub another-counted-requires-clause-rule : goal.another-counted-requires-clause-rule
-another-counted-requires-clause-rule g c = plans _ _ _ c.loop-planned.invariant.1 refl
+another-counted-requires-clause-rule g c = plans _ _ _ c.loop-planned.invariant.1 refl refl
