@@ -6,3 +6,5 @@ pub mod Keeps
 pub mod Parts
 pub mod Told
 pub mod Settles
+pub mod FreeKeeps
+pub mod FreeSettles

@@ -1,5 +1,5 @@
 -- The steps that cut a pass or join one keep the rule of the queues.
-use Rattle.std.proofs.Common.{◌≡◌, ◌≢◌, ℕ, zero, suc, ◌+◌, ◌-◌, ◌<◌, true, false, cond, List, [], ◌∷◌, length, get_or, set, sym, refl, ap, ◌∙◌, subst, eqb, eq-eqb, ne_eqb, arith}
+use Rattle.std.proofs.Common.{◌≡◌, ◌≢◌, ℕ, zero, suc, ◌+◌, ◌-◌, ◌<◌, ◌≤◌, true, false, cond, List, [], ◌∷◌, length, get_or, set, sym, refl, ap, ◌∙◌, subst, eqb, eq-eqb, ne_eqb, arith}
 use mathlib.Core.Option.{some}
 use lib.ListN.{get_elem?}
 use Rattle.crossbeam_queue.specs.Fifo.{Forks, Merges}
@@ -10,6 +10,8 @@ use Rattle.gate_queue.specs.declared.known.Known.{Known}
 use Rattle.gate_queue.specs.declared.known.Known.TheVariants.{Sender, Taker, Nothing}
 use Rattle.gate_queue.specs.Tagged.{values_of}
 use Rattle.gate_queue.specs.Sharing.{IsSender, IsTaker, Fits, Shares, joined_number, planned, nothing, seated, next_sender, joined}
+use Rattle.gate_queue.specs.FreeSharing.{parted, first_joined}
+use Rattle.gate_queue.specs.Views.{with_joined}
 use Rattle.crossbeam_queue.proofs.Lists.{set_else}
 use Rattle.gate_queue.proofs.Views.{Each, each_set, each_snoc}
 
@@ -25,6 +27,10 @@ given_else holder s p q apart = rw (ne_eqb q s apart)
 
 given_none : (holder : ℕ → ℕ) (s q : ℕ) → holder q ≡ 0 → given holder s 0 q ≡ 0
 given_none holder s q none = elim (eqb q s) as (λ b. cond b 0 (holder q) ≡ 0) [ true ↦ refl | false ↦ none ]
+
+-- the numbers of the seats that are joined, when the first is given back
+one_less : (senders n i : ℕ) → n < senders → senders - suc n + suc i ≡ senders - n + i
+one_less senders n i l = omega arith
 
 module _ {T : Type 0} where
   fits_plan : (taker senders : ℕ) (holder : ℕ → ℕ) (all taken : List (Tagged T)) (pass : ℕ) → pass ≡ taker → ((s : ℕ) → holder s ≡ 0)
@@ -97,6 +103,51 @@ module _ {T : Type 0} where
 
   pub seats : (pass : ℕ) (k : Known T) (v : Got T) → k ≡ Taker v → v.made < v.senders → length v.joined ≡ 0 → Forks Shares pass k (seated k) (next_sender k)
   seats pass k v is room apart = subst (λ (k : Known T). Forks Shares pass k (seated k) (next_sender k)) (sym is) (seats_at pass v room apart)
+
+  parts_at : (pass : ℕ) (v : Got T) (l : List T) (ls : List (List T)) → v.made ≡ v.senders → length ls < v.senders
+      → Forks Shares pass (Taker (with_joined v (l ∷ ls))) (parted (Taker (with_joined v (l ∷ ls)))) (first_joined (Taker (with_joined v (l ∷ ls))))
+  parts_at pass v l ls made room items views h at =
+      let w : Got T = with_joined v ls in
+      let me = h.fits pass (Taker (with_joined v (l ∷ ls))) at in
+      let s : ℕ = v.senders - suc (length ls) in
+      let next : Put T = record { sender = s; senders = v.senders; put = l } in
+      let first : v.senders - suc (length ls) + 0 ≡ s = omega arith in
+      let free = subst (λ k. (h.holder k ≡ 0) × (l ≡ values_of k h.all)) first (me.joined zero (omega arith)) in
+      let vs : List (Known T) = set views pass (Taker w) in
+      let n : ℕ = suc (length vs) in
+      let later : (i : ℕ) → i < length ls → (h.holder (joined_number w i) ≡ 0) × (get_or ls i [] ≡ values_of (joined_number w i) h.all) = λ i b.
+      subst (λ k. (h.holder k ≡ 0) × (get_or ls i [] ≡ values_of k h.all)) (one_less v.senders (length ls) i room) (me.joined (suc i) (omega arith)) in
+      let mine : IsTaker h.taker h.senders (given h.holder s n) h.all h.taken pass w =
+      record {
+        here = me.here;
+        got = me.got;
+        count = me.count;
+        unmade = λ t b. let none = me.unmade t b in (given_else h.holder s n t (λ e. omega arith) ∙ none.0, none.1);
+        joined = λ i b. let none = later i b in (given_else h.holder s n (joined_number w i) (λ e. omega arith) ∙ none.0, none.1);
+      } in
+      let new : IsSender h.senders (given h.holder s n) h.all (length vs) next =
+      record { seat = given_there h.holder s n; put = free.1; count = me.count; within = subst (λ k. s < k) me.count (omega arith) } in
+      let F : ℕ → Known T → Type 0 = Fits h.taker h.senders (given h.holder s n) h.all h.taken in
+      record {
+        taker = h.taker;
+        senders = h.senders;
+        holder = given h.holder s n;
+        all = h.all;
+        taken = h.taken;
+        history = h.history;
+        from = h.from;
+        fits = each_snoc F vs (Sender next)
+            (each_set F views pass (Taker w) mine (λ j u apart e. fits_seat h.taker h.senders h.holder h.all h.taken pass s n me.here free.0 j u apart (h.fits j u e))) new;
+      }
+
+  -- the first seat that was joined is given back
+  pub parts : (pass : ℕ) (k : Known T) (v : Got T) → k ≡ Taker v → v.made ≡ v.senders → 0 < length v.joined → length v.joined ≤ v.senders → Forks Shares pass k (parted k) (first_joined k)
+  parts pass k v is made some_are room = subst (λ (k : Known T). Forks Shares pass k (parted k) (first_joined k)) (sym is) (by_lists v.joined v made some_are room)
+    where
+      by_lists : (lists : List (List T)) (v : Got T) → v.made ≡ v.senders → 0 < length lists → length lists ≤ v.senders
+          → Forks Shares pass (Taker (with_joined v lists)) (parted (Taker (with_joined v lists))) (first_joined (Taker (with_joined v lists)))
+      by_lists [] v made some_are room = absurd (omega arith)
+      by_lists (l ∷ ls) v made some_are room = parts_at pass v l ls made (omega arith)
 
   -- what another seat knows stays when the seat of a sender is joined
   fits_join : (taker senders : ℕ) (holder : ℕ → ℕ) (all taken : List (Tagged T)) (pass other s : ℕ) → pass ≡ taker → holder s ≡ suc other

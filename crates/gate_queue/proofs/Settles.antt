@@ -13,7 +13,7 @@ use Rattle.gate_queue.specs.Tagged.{values_of}
 use Rattle.gate_queue.specs.Seats.{QueueId, QueueName, SenderSeat}
 use Rattle.gate_queue.specs.States.{AreFrom, IsDelivered}
 use Rattle.gate_queue.specs.Sharing.{Shares, HasTaken, CanWait, TakerAllows, joined_number, took, joined}
-use Rattle.gate_queue.specs.Views.{as_sender, sender_at, with_joined, with_more, AreSeats, KnowsSender}
+use Rattle.gate_queue.specs.Views.{as_sender, with_joined, with_more, AreSeats, KnowsSender}
 use Rattle.gate_queue.proofs.Values.{values_of-append}
 use Rattle.gate_queue.proofs.Counts.{same_length, values_of-beyond}
 use Rattle.gate_queue.proofs.Parts.{joins}
@@ -49,11 +49,6 @@ module _ {T : Type 0} where
   pub join_keeps : (pass : ℕ) (k : Known T) (v : Got T) (lists : List (List T)) (s other : ℕ) (own : Known T) → k ≡ Taker (with_joined v lists) → KnowsSender s own → s + suc (length lists) ≡ v.senders
       → Merges Shares pass k other own (joined k own) Nothing
   join_keeps pass k v lists s other own is knows next = joins pass k (with_joined v lists) other own (as_sender own) is knows.known (ap (λ n. n + suc (length lists)) knows.number ∙ next)
-
-  -- what the taker knows then
-  pub joined_more : (k : Known T) (v : Got T) (done : List (SenderSeat T)) (id : QueueId) (own : Known T) (x : SenderSeat T) → k ≡ Taker (with_joined v (map (λ (t : SenderSeat T). t.put) done)) → KnowsSender x.sender own
-      → sender_at id x.sender own ≡ x → joined k own ≡ Taker (with_joined v (map (λ (t : SenderSeat T). t.put) (x ∷ done)))
-  joined_more k v done id own x is knows seen = (λ i. joined (is i) (knows.known i)) ∙ ap (λ l. Taker (with_joined v (l ∷ map (λ (t : SenderSeat T). t.put) done))) (ap (λ (t : SenderSeat T). t.put) seen)
 
   -- where each seat is joined, they have their senders' numbers
   all_numbers : (v : Got T) (s : ℕ) → length v.joined ≡ v.senders → joined_number v s ≡ s

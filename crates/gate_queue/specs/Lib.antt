@@ -3,3 +3,5 @@ pub mod Sharing
 pub mod Seats
 pub mod States
 pub mod Views
+pub mod FreeSharing
+pub mod FreeViews

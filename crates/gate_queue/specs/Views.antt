@@ -1,5 +1,5 @@
 -- How the seats are seen: by what their passes know.
-use Rattle.std.specs.Prelude.{◌≡◌, ℕ, ◌<◌, List, [], ◌++◌, length, slice_index_or}
+use Rattle.std.specs.Prelude.{◌≡◌, ℕ, suc, ◌<◌, List, [], ◌∷◌, ◌++◌, length, slice_index_or}
 use Rattle.crossbeam_queue.specs.Passes.{Pass, view}
 use Rattle.gate_queue.specs.declared.tagged.Tagged.{Tagged}
 use Rattle.gate_queue.specs.declared.known.Put.{Put}
@@ -54,6 +54,11 @@ module _ {T : Type 0} where
   -- new seats, from sender 0 on
   abbrev pub AreNew : QueueId → ℕ → List (SenderSeat T) → Type 0
   AreNew id senders tails = (k : ℕ) (d : SenderSeat T) → k < length tails → slice_index_or tails k d ≡ new_seat id senders k
+
+  -- the seats of the senders from n on, which have put these lists
+  abbrev pub seats_from : QueueId → (senders n : ℕ) → List (List T) → List (SenderSeat T)
+  seats_from id senders n [] = []
+  seats_from id senders n (l ∷ ls) = record { queue = record { id = id; senders = senders }; sender = n; put = l } ∷ seats_from id senders (suc n) ls
 
   -- it is what the sender with this number knows
   pub record KnowsSender (s : ℕ) (k : Known T) : Type 0 where

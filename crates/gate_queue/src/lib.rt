@@ -1,4 +1,4 @@
-//! A bounded queue that several senders and one taker share.
+//! Queues that several senders and one taker share: `EventQueue` has a bound, and `FreeQueue` has none.
 //!
 //! Each sender has a seat, a `Tail`, that counts what it put, and the taker has one, the `Head`, that counts what was
 //! taken. In the end `settle` gives what still waits, and then, sender by sender, what was taken followed by what waits
@@ -6,6 +6,7 @@
 #![tactic(auto)]
 
 mod fault;
+mod free;
 mod known;
 mod opening;
 mod queue;
@@ -14,6 +15,7 @@ mod settle;
 mod tagged;
 
 pub use fault::{Full, OpenFault, Unsettled};
+pub use free::{FreeHead, FreeQueue, FreeTail, Memory, UnsettledFree, open_free};
 pub use opening::open;
 pub use queue::EventQueue;
 pub use seats::{Head, Tail};

@@ -1,0 +1,13 @@
+//! A queue without a bound that several senders and one taker share.
+
+mod fault;
+mod known;
+mod opening;
+mod queue;
+mod seats;
+mod settle;
+
+pub use fault::{Memory, UnsettledFree};
+pub use opening::open_free;
+pub use queue::FreeQueue;
+pub use seats::{FreeHead, FreeTail};

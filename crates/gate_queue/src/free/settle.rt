@@ -1,0 +1,121 @@
+//! The end of a queue without a bound: what still waits.
+ghost use Rattle.std.specs.Prelude.{◌≡◌, ℕ, ◌<◌, ◌≤◌, [], map, length, All, IfOk, IfErr, slice_index_or};
+ghost use Rattle.std.specs.Vec.{vec_capacity};
+ghost use Rattle.crossbeam_queue.specs.Fifo.{Held};
+ghost use Rattle.crossbeam_queue.specs.SegTies.{IsSegPassOf};
+ghost use Rattle.gate_queue.specs.Seats.{in_blocks, IsHeadOf, AreAllTailsOf};
+ghost use Rattle.gate_queue.specs.States.{AreFrom, IsDelivered};
+ghost use Rattle.gate_queue.specs.Sharing.{CanWait};
+ghost use Rattle.gate_queue.specs.declared.known.Known.TheVariants.{Taker};
+ghost use Rattle.gate_queue.specs.Views.{as_taker, with_joined, seats_from, AreSeats};
+ghost use Rattle.gate_queue.specs.FreeViews.{known_by, IsFreeTakerRight};
+
+use super::fault::UnsettledFree;
+use super::known::{Blocks, FreeRight, Parts};
+use super::queue::FreeQueue;
+use super::seats::{FreeHead, FreeTail};
+use crate::known::{Joins, Takes};
+use crate::tagged::Tagged;
+use std::sync::Wait;
+
+impl<T: Drop> FreeQueue<T> {
+    /// Ends the queue and gives what still waits, the oldest first. All its seats are handed in, the senders' in the
+    /// order of their numbers.
+    ///
+    /// For each sender, what was taken of it, followed by what waits of it, is what it put, and nothing else was taken or
+    /// waits. Where there is no memory for what waits the queue and its seats come back, and everything waits as before.
+    pub fn settle<R: Wait>(
+        self,
+        rt: &R,
+        mut tails: Vec<FreeTail<T>>,
+        head: FreeHead<T>,
+    ) -> Result<Vec<Tagged<T>>, UnsettledFree<T>>
+        requires tails { AreAllTailsOf self tails.items }
+        requires head { IsHeadOf self head }
+        ensures delivered { IfOk result (λ rest.
+            All (λ tail. IsDelivered head.taken rest.items tail.sender tail.put) tails.items) }
+        ensures from { IfOk result (λ rest. AreFrom self.name.senders head.taken × AreFrom self.name.senders rest.items) }
+        ensures memory { IfErr result (λ back. (back.queue ≡ self) × (back.tails.items ≡ tails.items) × (back.head ≡ head)) }
+    {
+        let (blocks, senders, alloc) = self.into_parts();
+        let mut right = join(&blocks, head.into_right(), &mut tails);
+        let count = blocks.len_as::<Takes, R>(rt, &mut right);
+        let Ok(rest) = Vec::with_capacity(alloc, count) else {
+            let right = part(&blocks, right, &mut tails, senders);
+            return Err(UnsettledFree {
+                queue: FreeQueue {
+                    blocks,
+                    senders,
+                    alloc,
+                },
+                tails,
+                head: FreeHead { right },
+            });
+        };
+        let rest = drain(rt, &blocks, right, rest, count);
+        blocks.destroy();
+        Ok(rest)
+    }
+}
+
+// Joins the seats of the senders to the taker's, from the last on. It then knows what each had put.
+fn join<T: Drop>(
+    blocks: &Blocks<T>,
+    mut right: FreeRight<T>,
+    tails: &mut Vec<FreeTail<T>>,
+) -> FreeRight<T>
+    requires right { IsSegPassOf blocks.now right × IsFreeTakerRight right }
+    requires tails { AreSeats (in_blocks blocks.now.web) (as_taker (known_by right)).senders tails.old.items }
+    requires all { length tails.old.items ≡ (as_taker (known_by right)).senders }
+    ensures right { IsSegPassOf blocks.now result ×
+        (known_by result ≡ Taker (with_joined (as_taker (known_by right)) (map (λ tail. tail.put) tails.old.items))) }
+    ensures tails { (tails.new.items ≡ []) × (vec_capacity tails.new ≡ vec_capacity tails.old) }
+{
+    while let Some(tail) = tails.pop() {
+        blocks.absorb::<Joins>(&mut right, tail.into_right());
+    }
+    right
+}
+
+// Gives the seats back, from sender 0 on.
+fn part<T: Drop>(
+    blocks: &Blocks<T>,
+    mut right: FreeRight<T>,
+    tails: &mut Vec<FreeTail<T>>,
+    senders: usize,
+) -> FreeRight<T>
+    requires right { IsSegPassOf blocks.now right × (known_by right ≡ Taker (as_taker (known_by right))) }
+    requires senders { let v = as_taker (known_by right) in (v.senders ≡ senders) × (v.made ≡ senders) × (length v.joined ≡ senders) }
+    requires room { (tails.old.items ≡ []) × (senders ≤ vec_capacity tails.old) }
+    ensures right { IsSegPassOf blocks.now result × (known_by result ≡ Taker (with_joined (as_taker (known_by right)) [])) }
+    ensures tails { tails.new.items ≡ seats_from (in_blocks blocks.now.web) senders 0 (as_taker (known_by right)).joined }
+{
+    for sender in 0..senders {
+        let own = blocks.another::<Parts>(&mut right);
+        tails.push_reserved(FreeTail { sender, right: own });
+    }
+    right
+}
+
+// Takes out all that waits: so many values.
+fn drain<T: Drop, R: Wait>(
+    rt: &R,
+    blocks: &Blocks<T>,
+    mut right: FreeRight<T>,
+    mut rest: Vec<Tagged<T>>,
+    count: usize,
+) -> Vec<Tagged<T>>
+    requires right { IsSegPassOf blocks.now right × (known_by right ≡ Taker (as_taker (known_by right))) }
+    requires all_joined { length (as_taker (known_by right)).joined ≡ (as_taker (known_by right)).senders }
+    requires count { Held count (CanWait (known_by right)) }
+    requires room { (rest.items ≡ []) × (count ≤ vec_capacity rest) }
+    ensures delivered { let v = as_taker (known_by right) in
+        (s : ℕ) → s < v.senders → IsDelivered v.taken result.items s (slice_index_or v.joined s []) }
+    ensures from { let v = as_taker (known_by right) in
+        AreFrom v.senders v.taken × AreFrom v.senders result.items }
+{
+    while let Some(item) = blocks.pop_as::<Takes, R>(rt, &mut right) {
+        rest.push_reserved(item);
+    }
+    rest
+}
