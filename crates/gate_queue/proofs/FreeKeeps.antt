@@ -2,17 +2,18 @@
 use Rattle.std.proofs.Common.{◌≡◌, ◌≢◌, ℕ, zero, suc, ◌+◌, ◌<◌, ◌≤◌, List, [], ◌∷◌, ◌++◌, length, set, sym, refl, ap, ◌∙◌, subst, inl, inr, ⊎_elim, arith}
 use mathlib.Core.Option.{some, some-injective, some-ne-none}
 use lib.ListN.{get_elem?}
-use Rattle.crossbeam_queue.specs.Fifo.{Pushes, Pops, Forks, Merges, Admits, Learns}
+use Rattle.crossbeam_queue.specs.Fifo.{Pushes, Pops, PopsMany, Forks, Merges, Admits, Learns}
 use Rattle.gate_queue.specs.declared.tagged.Tagged.{Tagged}
 use Rattle.gate_queue.specs.declared.known.Put.{Put}
 use Rattle.gate_queue.specs.declared.known.Got.{Got}
 use Rattle.gate_queue.specs.declared.known.Known.{Known}
 use Rattle.gate_queue.specs.declared.known.Known.TheVariants.{Sender, Taker, Nothing}
-use Rattle.gate_queue.specs.Sharing.{Fits, Shares, newcomer, HasPut, HasTaken, CanWait, planned, nothing, seated, next_sender, joined, took}
+use Rattle.gate_queue.specs.Sharing.{Fits, Shares, newcomer, HasPut, HasTaken, HasTakenAll, CanWait, planned, nothing, seated, next_sender, joined, took}
 use Rattle.gate_queue.specs.FreeSharing.{IsFresh, HasBegun, SharesFree, begun, parted, first_joined, rest_of}
-use Rattle.gate_queue.specs.Views.{as_sender}
+use Rattle.gate_queue.specs.Views.{as_sender, with_more}
 use Rattle.gate_queue.proofs.Views.{each_set, each_snoc}
 use Rattle.gate_queue.proofs.Told.{put_keeps, take_keeps_at}
+use Rattle.gate_queue.proofs.Keeps.{takes_many}
 use Rattle.gate_queue.proofs.Parts.{plans, seats, parts}
 
 module _ {T : Type 0} where
@@ -59,6 +60,16 @@ module _ {T : Type 0} where
       (λ (b : HasBegun (x ∷ items) views).
       let now = keeps x items views b.shares at in
       let first = first_stays views pass k now.0 b.taker b.first at (stays x now.0 now.2) in
+      (now.0, inr (record { shares = now.1; taker = first.0; first = first.1 }), now.2))
+      h
+
+  lift_pops_many : (pass : ℕ) (k : Known T) (n : ℕ) (then : List (Tagged T) → Known T → Type 0) → k ≢ Nothing → ((xs : List (Tagged T)) (w : Known T) → then xs w → StaysTaker k w) → PopsMany Shares pass k n then
+      → PopsMany SharesFree pass k n then
+  lift_pops_many pass k n then role stays keeps xs items views size h at =
+      ⊎_elim (λ (f : IsFresh (xs ++ items) views). absurd (role (f.none_knows pass k at)))
+      (λ (b : HasBegun (xs ++ items) views).
+      let now = keeps xs items views size b.shares at in
+      let first = first_stays views pass k now.0 b.taker b.first at (stays xs now.0 now.2) in
       (now.0, inr (record { shares = now.1; taker = first.0; first = first.1 }), now.2))
       h
 
@@ -174,3 +185,16 @@ module _ {T : Type 0} where
   free_take_keeps pass k v is =
       let keeps = take_keeps_at pass k v is in
       (lift_pops pass k (HasTaken k) (taker_role k v is) (λ x w told. take_stays k w v x is told) keeps.0, lift_learns pass k (CanWait k) (taker_role k v is) keeps.1)
+
+  take_many_stays : (k w : Known T) (v : Got T) (xs : List (Tagged T)) → k ≡ Taker v → HasTakenAll k xs w → StaysTaker k w
+  take_many_stays k w v xs is told u e = (with_more v xs, (subst (λ (l : Known T). HasTakenAll l xs w) is told).0)
+
+  pub free_take_many_keeps : (pass : ℕ) (k : Known T) (v : Got T) (limit : ℕ) → k ≡ Taker v
+      → ((n : ℕ) → 0 < n → n ≤ limit → PopsMany SharesFree pass k n (HasTakenAll k)) × Learns SharesFree pass k (CanWait k) × Admits {T = Tagged T} {V = Known T} SharesFree Nothing
+  free_take_many_keeps pass k v limit is = (
+    (λ n some_are few.
+        lift_pops_many pass k n (HasTakenAll k) (taker_role k v is) (λ xs w told. take_many_stays k w v xs is told)
+        (subst (λ (l : Known T). PopsMany Shares pass l n (HasTakenAll l)) (sym is) (takes_many pass v n))),
+    (free_take_keeps pass k v is).1,
+    admits,
+  )

@@ -2,7 +2,7 @@
 use Rattle.std.proofs.Common.{◌≡◌, ◌≢◌, ℕ, zero, suc, ◌<◌, List, [], ◌∷◌, ◌++◌, sym, refl, ap, ◌∙◌, subst, append_assoc, arith}
 use Rattle.std.proofs.lemmas.List.Elements.{All-append}
 use mathlib.Core.Option.{some-ne-none}
-use Rattle.crossbeam_queue.specs.Fifo.{Pushes, Pops, Learns}
+use Rattle.crossbeam_queue.specs.Fifo.{Pushes, Pops, PopsMany, Learns}
 use Rattle.gate_queue.specs.declared.tagged.Tagged.{Tagged}
 use Rattle.gate_queue.specs.declared.known.Put.{Put}
 use Rattle.gate_queue.specs.declared.known.Got.{Got}
@@ -10,7 +10,8 @@ use Rattle.gate_queue.specs.declared.known.Known.{Known}
 use Rattle.gate_queue.specs.declared.known.Known.TheVariants.{Sender, Taker, Nothing}
 use Rattle.gate_queue.specs.Tagged.{values_of}
 use Rattle.gate_queue.specs.States.{AreFrom}
-use Rattle.gate_queue.specs.Sharing.{IsSender, IsTaker, Fits, Shares, newcomer, HasPut, HasTaken, CanWait, SenderAllows, TakerAllows, joined_number, took}
+use Rattle.gate_queue.specs.Views.{with_more}
+use Rattle.gate_queue.specs.Sharing.{IsSender, IsTaker, Fits, Shares, newcomer, HasPut, HasTaken, HasTakenAll, CanWait, SenderAllows, TakerAllows, joined_number}
 use Rattle.gate_queue.proofs.Values.{values_of-same, values_of-other}
 use Rattle.gate_queue.proofs.Views.{each_set, each_snoc}
 
@@ -89,14 +90,14 @@ module _ {T : Type 0} where
         joined = λ i h. (f.joined i h).1 ∙ ap (values_of (joined_number v i)) is;
       }
 
-  pub takes : (pass : ℕ) (v : Got T) → Pops Shares pass (Taker v) (HasTaken (Taker v))
-  takes pass v x items views h at =
-      let w : Got T = took v x in
+  pub takes_many : (pass : ℕ) (v : Got T) (n : ℕ) → PopsMany Shares pass (Taker v) n (HasTakenAll (Taker v))
+  takes_many pass v n xs items views size h at =
+      let w : Got T = with_more v xs in
       let me = h.fits pass (Taker v) at in
-      let taken : List (Tagged T) = h.taken ++ x ∷ [] in
-      let history : h.all ≡ taken ++ items = h.history ∙ sym (append_assoc h.taken (x ∷ []) items) in
+      let taken : List (Tagged T) = h.taken ++ xs in
+      let history : h.all ≡ taken ++ items = h.history ∙ sym (append_assoc h.taken xs items) in
       let mine : IsTaker h.taker h.senders h.holder h.all taken pass w =
-      record { here = me.here; got = ap (λ l. l ++ x ∷ []) me.got; count = me.count; unmade = me.unmade; joined = me.joined } in (
+      record { here = me.here; got = ap (λ l. l ++ xs) me.got; count = me.count; unmade = me.unmade; joined = me.joined } in (
         Taker w,
         record {
           taker = h.taker;
@@ -111,6 +112,9 @@ module _ {T : Type 0} where
         },
         (refl, (items, taker_allows h.taker h.senders h.holder h.all taken items pass w history h.from mine)),
       )
+
+  pub takes : (pass : ℕ) (v : Got T) → Pops Shares pass (Taker v) (HasTaken (Taker v))
+  takes pass v x items views h at = takes_many pass v 1 (x ∷ []) items views refl h at
 
   sender_allows : (senders : ℕ) (holder : ℕ → ℕ) (all taken items : List (Tagged T)) (pass : ℕ) (v : Put T)
       → all ≡ taken ++ items → AreFrom senders all → IsSender senders holder all pass v → SenderAllows v items

@@ -7,4 +7,5 @@ pub mod Parts
 pub mod Told
 pub mod Settles
 pub mod FreeKeeps
+pub mod FreeHeads
 pub mod FreeSettles

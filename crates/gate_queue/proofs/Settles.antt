@@ -86,11 +86,11 @@ module _ {T : Type 0} where
   pub grown_more : (w : Known T) (v : Got T) (xs ys : List (Tagged T)) → w ≡ Taker (with_more v xs) → ys ≡ xs → w ≡ Taker (with_more v ys)
   grown_more w v xs ys is same = is ∙ ap (λ (l : List (Tagged T)). Taker (with_more v l)) (sym same)
 
-  inner : (n : ℕ) (before xs : List (Tagged T)) → AreFrom n (before ++ xs) → AreFrom n xs
+  pub inner : (n : ℕ) (before xs : List (Tagged T)) → AreFrom n (before ++ xs) → AreFrom n xs
   inner n [] xs from = from
   inner n (y ∷ before) xs from = inner n before xs (λ k d h. from (suc k) d (omega arith))
 
-  outer : (n : ℕ) (xs after : List (Tagged T)) → AreFrom n (xs ++ after) → AreFrom n xs
+  pub outer : (n : ℕ) (xs after : List (Tagged T)) → AreFrom n (xs ++ after) → AreFrom n xs
   outer n [] after from k d h = absurd (omega arith)
   outer n (x ∷ xs) after from zero d h = from zero d (omega arith)
   outer n (x ∷ xs) after from (suc k) d h = outer n xs after (λ j e l. from (suc j) e (omega arith)) k d (omega arith)

@@ -1,16 +1,26 @@
 -- How a queue without a bound and its seats are seen.
-use Rattle.std.specs.Prelude.{◌≡◌, ℕ, ◌^◌, Option, None}
+use Rattle.std.specs.Prelude.{◌≡◌, ℕ, ◌-◌, ◌^◌, ◌≤◌, List, ◌++◌, length, take, Option, None}
 use Rattle.atomic_blocks.specs.declared.web.Seat.{Seat}
 use Rattle.crossbeam_queue.specs.SegTies.{SegId}
 use Rattle.crossbeam_queue.specs.declared.seg_queue.Going.{Going}
 use Rattle.gate_queue.specs.declared.tagged.Tagged.{Tagged}
 use Rattle.gate_queue.specs.declared.known.Known.{Known}
-use Rattle.gate_queue.specs.Seats.{in_blocks, Shape, SenderSeat, TakerSeat}
-use Rattle.gate_queue.specs.Views.{sender_at, taker_at, KnowsSender, KnowsTaker}
+use Rattle.gate_queue.specs.Seats.{QueueId, in_blocks, Shape, SenderSeat, TakerSeat}
+use Rattle.gate_queue.specs.Views.{as_taker, sender_at, KnowsSender, KnowsTaker}
+use Rattle.gate_queue.specs.States.{AreFrom}
 
 -- a queue of these blocks: it has no bound, so its capacity is more than memory has room for
 abbrev pub free_shape : {A : Type 0} → SegId A → ℕ → Shape
 free_shape blocks senders = record { name = record { id = in_blocks blocks.web; senders = senders }; capacity = 2 ^ 64 }
+
+module _ {T : Type 0} where
+  -- what was handed out of what was taken: all but what is ready
+  abbrev pub handed_out : (taken ready : List (Tagged T)) → List (Tagged T)
+  handed_out taken ready = take (length taken - length ready) taken
+
+  -- the seat of a taker that knows this, when these values are ready
+  abbrev pub seat_with : QueueId → Known T → List (Tagged T) → TakerSeat T
+  seat_with id k ready = record { queue = record { id = id; senders = (as_taker k).senders }; taken = handed_out (as_taker k).taken ready }
 
 abbrev pub FreePass : Type 0 → Type 0 → Type 0
 FreePass T A = Seat (Option (Tagged T)) (Going (Tagged T) (Known T)) A
@@ -23,8 +33,9 @@ module _ {T A : Type 0} where
   abbrev pub free_sender_seat : ℕ → FreePass T A → SenderSeat T
   free_sender_seat s p = sender_at (in_blocks p.web) s (known_by p)
 
-  abbrev pub free_taker_seat : FreePass T A → TakerSeat T
-  free_taker_seat p = taker_at (in_blocks p.web) (known_by p)
+  -- the taker's seat, when these values are ready
+  abbrev pub free_taker_seat : FreePass T A → List (Tagged T) → TakerSeat T
+  free_taker_seat p ready = seat_with (in_blocks p.web) (known_by p) ready
 
   -- the pass carries nothing
   abbrev pub IsAtRest : FreePass T A → Type 0
@@ -35,7 +46,10 @@ module _ {T A : Type 0} where
     pub at_rest : IsAtRest p
     pub knows : KnowsSender s (known_by p)
 
-  -- the pass is the taker's, and carries nothing
-  pub record IsFreeTakerRight (p : FreePass T A) : Type 0 where
+  -- the pass is the taker's, and carries nothing; what is ready was taken last, and there is room for a block of values
+  pub record IsFreeTakerRight (p : FreePass T A) (ready : List (Tagged T)) (places : ℕ) : Type 0 where
     pub at_rest : IsAtRest p
     pub knows : KnowsTaker (known_by p)
+    pub split : handed_out (as_taker (known_by p)).taken ready ++ ready ≡ (as_taker (known_by p)).taken
+    pub from : AreFrom (as_taker (known_by p)).senders ready
+    pub room : 31 ≤ places

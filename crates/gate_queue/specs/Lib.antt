@@ -5,3 +5,4 @@ pub mod States
 pub mod Views
 pub mod FreeSharing
 pub mod FreeViews
+pub mod Batches

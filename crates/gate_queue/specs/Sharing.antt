@@ -9,6 +9,7 @@ use Rattle.gate_queue.specs.declared.known.Known.{Known}
 use Rattle.gate_queue.specs.declared.known.Known.TheVariants.{Sender, Taker, Nothing}
 use Rattle.gate_queue.specs.Tagged.{values_of}
 use Rattle.gate_queue.specs.States.{AreFrom}
+use Rattle.gate_queue.specs.Views.{with_more}
 
 module _ {T : Type 0} where
   -- A seat of a sender knows what the values in the queue's history have of it. Seat s is held by pass p where `holder s ≡ p + 1`
@@ -111,3 +112,9 @@ module _ {T : Type 0} where
   HasTaken (Taker v) x w = (w ≡ Taker (took v x)) × ((items : List (Tagged T)) × TakerAllows (took v x) items)
   HasTaken (Sender v) x w = Unit {0}
   HasTaken Nothing x w = Unit {0}
+
+  -- what taking several at once tells
+  abbrev pub HasTakenAll : Known T → List (Tagged T) → Known T → Type 0
+  HasTakenAll (Taker v) xs w = (w ≡ Taker (with_more v xs)) × ((items : List (Tagged T)) × TakerAllows (with_more v xs) items)
+  HasTakenAll (Sender v) xs w = Unit {0}
+  HasTakenAll Nothing xs w = Unit {0}

@@ -1,5 +1,6 @@
 //! A queue without a bound that several senders and one taker share.
 
+mod batch;
 mod fault;
 mod known;
 mod opening;
@@ -7,6 +8,7 @@ mod queue;
 mod seats;
 mod settle;
 
+pub use batch::Batch;
 pub use fault::{Memory, UnsettledFree};
 pub use opening::open_free;
 pub use queue::FreeQueue;

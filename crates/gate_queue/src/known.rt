@@ -2,7 +2,7 @@
 //! made.
 
 use crate::tagged::Tagged;
-use crossbeam_queue::protocol::{Join, Lesson, Outcome, Protocol, Split};
+use crossbeam_queue::protocol::{Join, Lesson, Outcome, Outcomes, Protocol, Split};
 use crossbeam_queue::{Pass, RuledArrayQueue};
 use std::collections::LinkedList;
 
@@ -65,13 +65,19 @@ impl<T> Lesson<Tagged<T>, Known<T>> for Puts {
     ghost fact = { CanWait };
 }
 
-/// A taking.
+/// A taking, of one value or of several.
 pub struct Takes;
 
 impl<T> Outcome<Tagged<T>, Known<T>> for Takes {
     ghost use Rattle.gate_queue.specs.Sharing.{HasTaken};
 
     ghost then = { HasTaken };
+}
+
+impl<T> Outcomes<Tagged<T>, Known<T>> for Takes {
+    ghost use Rattle.gate_queue.specs.Sharing.{HasTakenAll};
+
+    ghost then_all = { HasTakenAll };
 }
 
 impl<T> Lesson<Tagged<T>, Known<T>> for Takes {

@@ -15,7 +15,7 @@ mod settle;
 mod tagged;
 
 pub use fault::{Full, OpenFault, Unsettled};
-pub use free::{FreeHead, FreeQueue, FreeTail, Memory, UnsettledFree, open_free};
+pub use free::{Batch, FreeHead, FreeQueue, FreeTail, Memory, UnsettledFree, open_free};
 pub use opening::open;
 pub use queue::EventQueue;
 pub use seats::{Head, Tail};

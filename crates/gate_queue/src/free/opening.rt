@@ -7,11 +7,13 @@ ghost use Rattle.gate_queue.specs.Sharing.{opening};
 ghost use Rattle.gate_queue.specs.Views.{AreNew};
 ghost use Rattle.gate_queue.specs.FreeViews.{known_by};
 
+use super::batch::BLOCK;
 use super::known::{Begins, Blocks, FreeRight};
 use super::queue::FreeQueue;
 use super::seats::{FreeHead, FreeTail};
 use crate::known::{Plans, Seats};
 use std::alloc::{AllocError, Global};
+use std::collections::VecDeque;
 
 /// Opens a queue without a bound, with one seat for each of `senders` senders, numbered from 0 in the order of the list,
 /// and the taker's seat. There may be no sender.
@@ -27,6 +29,7 @@ pub fn open_free<T: Drop>(
     ensures head { IfOk result (λ opened. IsHeadOf opened.0 opened.2 × (opened.2.taken ≡ [])) }
 {
     let tails = Vec::with_capacity(alloc, senders)?;
+    let ready = VecDeque::with_capacity(alloc, BLOCK)?;
     let (blocks, mut right) = Blocks::with_rule(alloc)?;
     let _begun = blocks.another::<Begins>(&mut right);
     let right = plan(&blocks, right, senders);
@@ -36,7 +39,7 @@ pub fn open_free<T: Drop>(
         senders,
         alloc,
     };
-    Ok((queue, tails, FreeHead { right }))
+    Ok((queue, tails, FreeHead { right, ready }))
 }
 
 // Lets the taker know how many senders there will be, before any has its seat.

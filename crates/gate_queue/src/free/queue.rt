@@ -1,6 +1,7 @@
 //! The queue without a bound, and the calls that threads make.
-ghost use Rattle.std.specs.Prelude.{◌≡◌, ◌<◌, IfSome, IfNone, IfErr, OnOk};
+ghost use Rattle.std.specs.Prelude.{◌≡◌, ◌<◌, ◌≤◌, IfSome, IfNone, IfErr, OnOk};
 
+use super::batch::Batch;
 use super::fault::Memory;
 use super::known::Blocks;
 use super::seats::{FreeHead, FreeTail};
@@ -34,6 +35,7 @@ impl<T: Drop> FreeQueue<T> {
     ghost use Rattle.gate_queue.specs.Seats.{IsTailOf, IsHeadOf, with_put, with_taken};
     ghost use Rattle.gate_queue.specs.States.{MayBeEmpty};
     ghost use Rattle.gate_queue.specs.FreeViews.{free_shape};
+    ghost use Rattle.gate_queue.specs.Batches.{batch_head, batch_lender, batch_left};
 
     /// Puts a value behind those that wait, as one more of this seat's list and of no other. The seat is one of this
     /// queue's.
@@ -68,7 +70,33 @@ impl<T: Drop> FreeQueue<T> {
         ensures seat { head.new.queue ≡ head.old.queue }
         ensures empty { IfNone result (MayBeEmpty self.now head.old) }
     {
+        if let Some(item) = head.ready.pop_front() {
+            return Some(item);
+        }
         self.blocks.pop_as::<Takes, R>(rt, &mut head.right)
+    }
+
+    /// Takes at most `k` of the values that have waited longest in one step, and gives them in their order: at most the 31
+    /// of a block. It takes no memory. Each value joins the seat's list as the batch gives it, and those that it does not
+    /// give stay with the seat (`Batch`).
+    ///
+    /// That a batch gives no value tells nothing. The seat is this queue's.
+    pub fn take_some<'h, R: Wait>(
+        &self,
+        rt: &R,
+        head: &'h mut FreeHead<T>,
+        k: usize,
+    ) -> Batch<'h, T>
+        requires { IsHeadOf self.now head.old }
+        ensures same_reference { batch_lender result ≡ head.entry.ghost_name }
+        ensures head { batch_head result ≡ head.old }
+        ensures count { batch_left result ≤ k }
+    {
+        let ready = head.fetch(rt, &self.blocks, k);
+        Batch {
+            head,
+            left: ready.min(k),
+        }
     }
 
     // What the queue is made of.

@@ -1,5 +1,5 @@
 //! The end of a queue without a bound: what still waits.
-ghost use Rattle.std.specs.Prelude.{◌≡◌, ℕ, ◌<◌, ◌≤◌, [], map, length, All, IfOk, IfErr, slice_index_or};
+ghost use Rattle.std.specs.Prelude.{◌≡◌, ℕ, ◌+◌, ◌<◌, ◌≤◌, List, [], ◌++◌, map, length, All, IfOk, IfErr, slice_index_or};
 ghost use Rattle.std.specs.Vec.{vec_capacity};
 ghost use Rattle.crossbeam_queue.specs.Fifo.{Held};
 ghost use Rattle.crossbeam_queue.specs.SegTies.{IsSegPassOf};
@@ -7,8 +7,8 @@ ghost use Rattle.gate_queue.specs.Seats.{in_blocks, IsHeadOf, AreAllTailsOf};
 ghost use Rattle.gate_queue.specs.States.{AreFrom, IsDelivered};
 ghost use Rattle.gate_queue.specs.Sharing.{CanWait};
 ghost use Rattle.gate_queue.specs.declared.known.Known.TheVariants.{Taker};
-ghost use Rattle.gate_queue.specs.Views.{as_taker, with_joined, seats_from, AreSeats};
-ghost use Rattle.gate_queue.specs.FreeViews.{known_by, IsFreeTakerRight};
+ghost use Rattle.gate_queue.specs.Views.{as_taker, with_joined, seats_from, AreSeats, KnowsTaker};
+ghost use Rattle.gate_queue.specs.FreeViews.{known_by};
 
 use super::fault::UnsettledFree;
 use super::known::{Blocks, FreeRight, Parts};
@@ -16,6 +16,7 @@ use super::queue::FreeQueue;
 use super::seats::{FreeHead, FreeTail};
 use crate::known::{Joins, Takes};
 use crate::tagged::Tagged;
+use std::collections::VecDeque;
 use std::sync::Wait;
 
 impl<T: Drop> FreeQueue<T> {
@@ -38,9 +39,10 @@ impl<T: Drop> FreeQueue<T> {
         ensures memory { IfErr result (λ back. (back.queue ≡ self) × (back.tails.items ≡ tails.items) × (back.head ≡ head)) }
     {
         let (blocks, senders, alloc) = self.into_parts();
-        let mut right = join(&blocks, head.into_right(), &mut tails);
+        let (right, ready) = head.into_parts();
+        let mut right = join(&blocks, right, &mut tails);
         let count = blocks.len_as::<Takes, R>(rt, &mut right);
-        let Ok(rest) = Vec::with_capacity(alloc, count) else {
+        let Ok(rest) = Vec::with_capacity(alloc, ready.len().saturating_add(count)) else {
             let right = part(&blocks, right, &mut tails, senders);
             return Err(UnsettledFree {
                 queue: FreeQueue {
@@ -49,13 +51,25 @@ impl<T: Drop> FreeQueue<T> {
                     alloc,
                 },
                 tails,
-                head: FreeHead { right },
+                head: FreeHead { right, ready },
             });
         };
-        let rest = drain(rt, &blocks, right, rest, count);
+        let rest = drain(rt, &blocks, right, move_all(ready, rest), count);
         blocks.destroy();
         Ok(rest)
     }
+}
+
+// The values that are ready, which come first.
+fn move_all<T: Drop>(ready: VecDeque<Tagged<T>>, mut rest: Vec<Tagged<T>>) -> Vec<Tagged<T>>
+    requires { (rest.items ≡ []) × (length ready.items ≤ vec_capacity rest) }
+    ensures items { result.items ≡ ready.items }
+    ensures room { vec_capacity result ≡ vec_capacity rest }
+{
+    for item in ready {
+        rest.push_reserved(item);
+    }
+    rest
 }
 
 // Joins the seats of the senders to the taker's, from the last on. It then knows what each had put.
@@ -64,7 +78,7 @@ fn join<T: Drop>(
     mut right: FreeRight<T>,
     tails: &mut Vec<FreeTail<T>>,
 ) -> FreeRight<T>
-    requires right { IsSegPassOf blocks.now right × IsFreeTakerRight right }
+    requires right { IsSegPassOf blocks.now right × KnowsTaker (known_by right) }
     requires tails { AreSeats (in_blocks blocks.now.web) (as_taker (known_by right)).senders tails.old.items }
     requires all { length tails.old.items ≡ (as_taker (known_by right)).senders }
     ensures right { IsSegPassOf blocks.now result ×
@@ -97,7 +111,7 @@ fn part<T: Drop>(
     right
 }
 
-// Takes out all that waits: so many values.
+// Takes out all that waits in the blocks: so many values, behind those that were taken before.
 fn drain<T: Drop, R: Wait>(
     rt: &R,
     blocks: &Blocks<T>,
@@ -108,11 +122,12 @@ fn drain<T: Drop, R: Wait>(
     requires right { IsSegPassOf blocks.now right × (known_by right ≡ Taker (as_taker (known_by right))) }
     requires all_joined { length (as_taker (known_by right)).joined ≡ (as_taker (known_by right)).senders }
     requires count { Held count (CanWait (known_by right)) }
-    requires room { (rest.items ≡ []) × (count ≤ vec_capacity rest) }
+    requires room { length rest.items + count ≤ vec_capacity rest }
     ensures delivered { let v = as_taker (known_by right) in
-        (s : ℕ) → s < v.senders → IsDelivered v.taken result.items s (slice_index_or v.joined s []) }
+        (before : List (Tagged T)) → v.taken ≡ before ++ rest.items → (s : ℕ) → s < v.senders →
+        IsDelivered before result.items s (slice_index_or v.joined s []) }
     ensures from { let v = as_taker (known_by right) in
-        AreFrom v.senders v.taken × AreFrom v.senders result.items }
+        (before : List (Tagged T)) → v.taken ≡ before ++ rest.items → AreFrom v.senders before × AreFrom v.senders result.items }
 {
     while let Some(item) = blocks.pop_as::<Takes, R>(rt, &mut right) {
         rest.push_reserved(item);
