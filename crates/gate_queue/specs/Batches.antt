@@ -1,5 +1,5 @@
 -- What contracts see of a batch.
-use Rattle.std.specs.Prelude.{◌≡◌, ℕ, ◌<◌, Option, MatchOption}
+use Rattle.std.specs.Prelude.{◌≡◌, ℕ, ◌+◌, ◌<◌, Option, MatchOption}
 use Rattle.std.specs.Borrow.{GName}
 use Rattle.gate_queue.specs.declared.tagged.Tagged.{Tagged}
 use Rattle.gate_queue.specs.declared.free.batch.Batch.{Batch}
@@ -18,8 +18,10 @@ module _ {T : Type 0} where
   abbrev pub batch_left : Batch T → ℕ
   batch_left b = b.left
 
-  -- the next value comes from a sender of the queue and joins the list of the seat; where none comes, the list stays
+  -- the next value comes from a sender of the queue and joins the list of the seat
+  abbrev pub BatchGives : Batch T → Tagged T → Batch T → Type 0
+  BatchGives b x c = (batch_head c ≡ with_taken (batch_head b) x) × (x.sender < (batch_head b).queue.senders) × (batch_left c + 1 ≡ batch_left b)
+
+  -- a call of `next`: where no value comes, the list of the seat stays
   abbrev pub BatchSteps : Batch T → Option (Tagged T) → Batch T → Type 0
-  BatchSteps b item c =
-      (batch_lender c ≡ batch_lender b)
-      × MatchOption item (batch_head c ≡ batch_head b) (λ x. (batch_head c ≡ with_taken (batch_head b) x) × (x.sender < (batch_head b).queue.senders))
+  BatchSteps b item c = (batch_lender c ≡ batch_lender b) × MatchOption item (batch_head c ≡ batch_head b) (λ x. BatchGives b x c)

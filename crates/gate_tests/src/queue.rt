@@ -1,3 +1,4 @@
+mod free;
 mod threads;
 
 ghost use Rattle.std.specs.Prelude.{◌≡◌};
