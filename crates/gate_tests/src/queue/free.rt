@@ -181,7 +181,12 @@ fn nothing_is_lost_with_a_batch(rt: HostRuntime) -> Result<(), Fail> {
         queue,
         tails,
         head,
-        &[tagged(0, 'c'), tagged(1, 'd'), tagged(1, 'e'), tagged(0, 'f')],
+        &[
+            tagged(0, 'c'),
+            tagged(1, 'd'),
+            tagged(1, 'e'),
+            tagged(0, 'f'),
+        ],
     )
 }
 
@@ -222,7 +227,11 @@ fn pour<R: Threads + Wait + Sync>(
             requires { IsHeadOf shared.now head }
         { gather(rt, alloc, shared, &mut head, 64, all.len(), 1_000_000_000) },
     );
-    if put { Ok(gathered?) } else { Err(Fail::from("memory")) }
+    if put {
+        Ok(gathered?)
+    } else {
+        Err(Fail::from("memory"))
+    }
 }
 
 #[test]
