@@ -130,15 +130,6 @@ module _ {T : Type 0} where
       let has = subst (λ (l : Known T). HasTakenAll l xs w) is told in
       subst (AreFrom v.senders) (sym same) (inner v.senders v.taken xs (outer v.senders (v.taken ++ xs) has.1.0 has.1.1.from))
 
-  -- and the taker has taken them
-  pub taken_all : (k w l : Known T) (v : Got T) (xs ready : List (Tagged T)) → k ≡ Taker v → HasTakenAll k xs w → l ≡ w → ready ≡ xs → l ≡ Taker (with_more v ready)
-  taken_all k w l v xs ready is told same same' =
-      let has = subst (λ (m : Known T). HasTakenAll m xs w) is told in
-      same ∙ has.0 ∙ ap (λ l. Taker (with_more v l)) (sym same')
-
-  pub taken_none : (k : Known T) (v : Got T) (ready : List (Tagged T)) → k ≡ Taker v → ready ≡ [] → k ≡ Taker (with_more v ready)
-  taken_none k v ready is none = is ∙ (λ i. Taker (record { senders = v.senders; made = v.made; taken = sym (ap (λ l. v.taken ++ l) none ∙ append-nil v.taken) i; joined = v.joined }))
-
   more_handed : (k l : Known T) (ready after : List (Tagged T)) → ready ≡ [] → l ≡ Taker (with_more (as_taker k) after) → handed_out (as_taker l).taken after ≡ (as_taker k).taken
   more_handed k l ready after none is = handed (as_taker k).taken (as_taker l).taken after (sym (ap (λ (m : Known T). (as_taker m).taken) is))
 

@@ -14,7 +14,7 @@ pub record QueueName : Type 0 where
   pub id : QueueId
   pub senders : ℕ
 
--- A queue: which one it is, and how many values it can hold
+-- A queue: which one it is, and how many values it can hold (without a bound, more than memory has room for)
 pub record Shape : Type 0 where
   pub name : QueueName
   pub capacity : ℕ

@@ -1,8 +1,8 @@
 //! Queues that several senders and one taker share: `EventQueue` has a bound, and `FreeQueue` has none.
 //!
-//! Each sender has a seat, a `Tail`, that counts what it put, and the taker has one, the `Head`, that counts what was
-//! taken. In the end `settle` gives what still waits, and then, sender by sender, what was taken followed by what waits
-//! is what was put.
+//! Each sender has a seat, a `Tail` or `FreeTail`, that counts what it put, and the taker has one, the `Head` or
+//! `FreeHead`, that counts what was taken. In the end `settle` gives what still waits, and then, sender by sender, what
+//! was taken followed by what waits is what was put.
 #![tactic(auto)]
 
 mod fault;
