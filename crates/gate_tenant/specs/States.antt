@@ -1,5 +1,6 @@
 -- The state of a dispatch, and what its calls make of it.
 use Rattle.std.specs.Prelude.{ℕ, ◌-◌, List, [], ◌∷◌, ◌++◌, Bool, not, ◌&&◌, ◌==◌, Option, Some, None, length, flat_map, if◌then◌else◌}
+use Rattle.std.specs.Vec.{vec_capacity}
 use Rattle.gate_record.specs.declared.ids.PipelineId.{PipelineId}
 use Rattle.gate_record.specs.declared.transit.TenantItem.{TenantItem}
 use Rattle.gate_record.specs.declared.transit.PipelineItem.{PipelineItem}
@@ -26,6 +27,10 @@ config_of dispatch = dispatch.config.now
 -- the number of its tenant
 abbrev pub tenant_of : Dispatch → ℕ
 tenant_of dispatch = dispatch.tenant.0
+
+-- how many items more are gathered without memory
+abbrev pub reserved_of : Dispatch → ℕ
+reserved_of dispatch = vec_capacity dispatch.gathered - length dispatch.gathered.items
 
 -- how many items may be gathered until the next matching
 abbrev pub room_of : State → ℕ

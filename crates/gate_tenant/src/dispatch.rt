@@ -1,6 +1,6 @@
 ghost use Rattle.gate_match.specs.Selecting.{config_of as program_config, tenant_of as program_tenant};
 ghost use Rattle.gate_tenant.specs.declared.TheConstants.{MAX_GATHERED};
-ghost use Rattle.std.specs.Prelude.{◌≡◌, ◌≤◌, ◌==◌, ◌∷◌, ◌++◌, ◌<◌, [], true, false, length, is_some, None, not, IfErr, IfOk, OnErr, OnOk};
+ghost use Rattle.std.specs.Prelude.{◌≡◌, ◌≤◌, ◌==◌, ◌∷◌, ◌++◌, ◌<◌, [], true, false, length, is_some, None, not, ◌+◌, IfErr, IfOk, IsOk, OnErr, OnOk};
 
 use crate::MAX_GATHERED;
 use crate::hand::Hand;
@@ -35,7 +35,7 @@ pub struct Dispatch<'c> {
 }
 
 impl<'c> Dispatch<'c> {
-    ghost use Rattle.gate_tenant.specs.States.{config_of, first_state, has_ended, matched, moved_out, put_back, room_of, state_of, tenant_of};
+    ghost use Rattle.gate_tenant.specs.States.{config_of, first_state, has_ended, matched, moved_out, put_back, reserved_of, room_of, state_of, tenant_of};
 
     /// The dispatch of a tenant, with nothing gathered. `Memory` where the end marks of a tenant that lists no connection
     /// find no room.
@@ -60,7 +60,7 @@ impl<'c> Dispatch<'c> {
     }
 
     /// Gathers an item, behind those that are gathered. Where memory is refused the item comes back, and all is as
-    /// before.
+    /// before; it isn't where [`make_room`](Dispatch::make_room) made room for it.
     pub fn gather(&mut self, item: TenantItem) -> Result<(), AllocFailed<TenantItem>>
         requires in_hand { (state_of self.old).out ≡ None }
         requires room { 0 < room_of (state_of self.old) }
@@ -69,8 +69,25 @@ impl<'c> Dispatch<'c> {
         ensures tenant { tenant_of self.new ≡ tenant_of self.old }
         ensures gathers { OnOk result (state_of self.new ≡ record (state_of self.old) { gathered = (state_of self.old).gathered ++ item ∷ [] }) }
         ensures refused { IfErr result (λ refused. (state_of self.new ≡ state_of self.old) × (refused.value ≡ item)) }
+        ensures succeeds { 0 < reserved_of self.old → IsOk result }
+        ensures uses { reserved_of self.old ≤ reserved_of self.new + 1 }
     {
         self.gathered.push(item)
+    }
+
+    /// Makes room for so many more items, of which each is then gathered without memory. It takes no more than
+    /// [`room`](Dispatch::room) says. Where memory is refused, all is as before.
+    pub fn make_room(&mut self, count: usize) -> Result<(), Memory>
+        requires in_hand { (state_of self.old).out ≡ None }
+        requires room { count ≤ room_of (state_of self.old) }
+        ensures config { config_of self.new ≡ config_of self.old }
+        ensures tenant { tenant_of self.new ≡ tenant_of self.old }
+        ensures state { state_of self.new ≡ state_of self.old }
+        ensures makes { OnOk result (count ≤ reserved_of self.new) }
+        ensures needs { OnErr result (reserved_of self.old < count) }
+    {
+        self.gathered.reserve(count)?;
+        Ok(())
     }
 
     /// How many items may be gathered: 256 less those that are, and none while the hand isn't empty.
