@@ -1,9 +1,13 @@
-//! Times the shared queue beside the plain `ArrayQueue`. Without words it prints nothing.
+//! Times the shared queues beside the plain ones: the one with a bound beside `ArrayQueue`, and the one without beside `SegQueue`.
+//! Without words it prints nothing.
 #![tactic(auto)]
 
+mod free;
 mod plain;
+mod plain_free;
 mod shared;
 
+use crate::free::Taking;
 use anyhow::{Context, Result};
 use std::env;
 use std::time::Duration;
@@ -24,6 +28,12 @@ fn main(rt: HostRuntime) -> Result<()> {
         println!(rt; "{name} plain {}", per_second(senders, each, took))?;
         let took = shared::run(&rt, rt.alloc(), senders, each)?;
         println!(rt; "{name} shared {}", per_second(senders, each, took))?;
+        let took = plain_free::run(&rt, rt.alloc(), senders, each)?;
+        println!(rt; "{name} plain-free {}", per_second(senders, each, took))?;
+        let took = free::run(&rt, rt.alloc(), senders, each, Taking::Singly)?;
+        println!(rt; "{name} free {}", per_second(senders, each, took))?;
+        let took = free::run(&rt, rt.alloc(), senders, each, Taking::InBatches)?;
+        println!(rt; "{name} batches {}", per_second(senders, each, took))?;
     }
     Ok(())
 }
