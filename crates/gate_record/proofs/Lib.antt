@@ -1,4 +1,5 @@
 pub mod Categories
+pub mod Found
 pub mod JsonOf
 pub mod Kept
 pub mod LineExamples

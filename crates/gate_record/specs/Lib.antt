@@ -8,3 +8,4 @@ pub mod Numbers
 pub mod Prefixes
 pub mod Queues
 pub mod Reading
+pub mod Tapes
