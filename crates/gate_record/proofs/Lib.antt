@@ -1,4 +1,5 @@
 pub mod Categories
+pub mod Fitting
 pub mod Found
 pub mod JsonOf
 pub mod Kept
