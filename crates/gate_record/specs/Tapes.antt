@@ -1,10 +1,12 @@
 -- What stands at a place of a tape, in serde_json's words.
-use Rattle.std.specs.Prelude.{◌≡◌, ◌&&◌, ◌+◌, ◌-◌, ℕ, List, [], ◌∷◌, Bool, true, nat_lt, Option, Some, None, option_map, option_and_then, is_some, MatchOption}
+use Rattle.std.specs.Prelude.{◌≡◌, ◌&&◌, ◌+◌, ◌-◌, ℕ, List, [], ◌∷◌, Bool, true, nat_lt, Option, Some, None, option_map, option_and_then, is_some, unwrap_or, MatchOption}
 use Rattle.json.specs.Token.{Token}
 use Rattle.json.specs.Json as json
 use Rattle.json.specs.Find.{BeginsWith, InItems}
 use Rattle.serde_json.specs.Data.{Data}
+use Rattle.serde_json.specs.Find.{as_array}
 use Rattle.serde_json.specs.Read.{max_depth, number_of, of_json}
+use Rattle.gate_record.specs.Json.{items_in}
 
 -- the tokens begin with this value
 abbrev pub Begins : List Token → Data → Type 0
@@ -26,6 +28,14 @@ GoesOn tokens values = (js : json.Items) × InItems tokens js × AreOf js values
 -- the values of a list that begins at a place
 abbrev pub Lists : Option (List Token) → List Data → Type 0
 Lists place values = MatchOption place (values ≡ []) (λ tokens. GoesOn tokens values)
+
+-- what follows is the first of these values, and the others behind it
+abbrev pub Follows : Option (List Token) → List Data → List Token → Type 0
+Follows place values after = MatchOption place (values ≡ []) (λ tokens. (value : Data) × (rest : List Data) × (values ≡ value ∷ rest) × Begins tokens value × GoesOn after rest)
+
+-- the values of a list, and none of anything else
+abbrev pub items_of : Data → List Data
+items_of value = unwrap_or (option_map items_in (as_array value)) []
 
 -- Whether serde_json takes these tokens of JSON, at this level of nesting: no level is above its last, and each number fits
 -- a float.

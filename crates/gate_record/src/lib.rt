@@ -6,10 +6,13 @@
 mod approvals;
 mod event;
 mod ids;
+mod limits;
 mod memory;
 mod names;
 mod number;
+mod numeral;
 mod paths;
+mod places;
 mod queue;
 mod read;
 mod reading;
