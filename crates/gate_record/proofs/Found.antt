@@ -137,7 +137,7 @@ text_number (boolean b) text e = absurd (cc)
 text_number (number n) text e = absurd (cc)
 text_number (string s) text e = ap number_in (Some_inj _ _ e)
 text_number (array items) text e = absurd (cc)
-text_number (object members) text e = absurd (cc)
+text_number (object ms) text e = absurd (cc)
 
 -- anything else is a number where it is a JSON number
 pub no_text_number : (value : Data) → None ≡ as_str value → option_and_then as_i64 (as_number value) ≡ gate_number value
@@ -146,7 +146,7 @@ no_text_number (boolean b) e = refl
 no_text_number (number n) e = refl
 no_text_number (string s) e = absurd (cc)
 no_text_number (array items) e = refl
-no_text_number (object members) e = refl
+no_text_number (object ms) e = refl
 
 are_of : (js : json.Items) (items : Items) → of_items js ≡ Some items → AreOf js (items_in items)
 are_of json.no_items items e = ap items_in (sym (Some_inj _ _ e))

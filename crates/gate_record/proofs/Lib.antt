@@ -5,4 +5,5 @@ pub mod JsonOf
 pub mod Kept
 pub mod LineExamples
 pub mod Numbers
+pub mod Readings
 pub mod Views

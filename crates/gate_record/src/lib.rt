@@ -5,6 +5,7 @@
 
 mod approvals;
 mod event;
+mod fields;
 mod ids;
 mod limits;
 mod memory;
@@ -15,6 +16,7 @@ mod paths;
 mod places;
 mod queue;
 mod read;
+mod reader;
 mod reading;
 mod record;
 mod sequence;
@@ -30,6 +32,7 @@ pub use names::name_text;
 pub use number::{number_of_text, read_number};
 pub use queue::Queue;
 pub use read::read_record;
+pub use reader::RecordReader;
 pub use reading::{Reading, Why};
 pub use record::{MAX_LINE, Record};
 pub use sequence::Sequence;

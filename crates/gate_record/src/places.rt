@@ -1,10 +1,10 @@
 // What stands at a place of a tape, and at the keys of an object there.
-ghost use Rattle.std.specs.Prelude.{◌≡◌, ◌<◌, ◌∷◌, [], ℕ, List, MatchOption, OnSome, length, option_map};
+ghost use Rattle.std.specs.Prelude.{◌≡◌, ◌<◌, ◌∷◌, [], List, Option, OnSome, length, option_and_then, option_map};
 ghost use Rattle.serde_json.specs.Data.{Data};
-ghost use Rattle.serde_json.specs.Find.{as_str, get};
+ghost use Rattle.serde_json.specs.Find.{as_i64, as_number, as_str, get};
 ghost use Rattle.gate_record.specs.Json.{items_at, number_at, text_at};
 ghost use Rattle.gate_record.specs.Numbers.{number_of};
-ghost use Rattle.gate_record.specs.Tapes.{Begins, Finds, GoesOn, Lists};
+ghost use Rattle.gate_record.specs.Tapes.{Begins, Finds, Follows, GoesOn, Lists, items_of};
 
 use crate::number::number_of_text;
 use crate::numeral::integer;
@@ -83,8 +83,8 @@ fn items<'t, 'a>(place: &Element<'t, 'a>) -> Option<Items<'t, 'a>>
 
 /// The text at a key of the object at another, which was looked up.
 pub(crate) fn text_in<'a>(outer: &Option<Element<'_, 'a>>, key: &str) -> Option<&'a str>
-    ensures { (name : List ℕ) (value : Data) → Finds outer.now (get name value)
-        → option_map (λ t. t.now) result ≡ text_at (name ∷ key.now ∷ []) value }
+    ensures { (found : Option Data) → Finds outer.now found
+        → option_map (λ t. t.now) result ≡ option_and_then (text_at (key.now ∷ [])) found }
 {
     match outer {
         Some(outer) => text_at(outer, key),
@@ -94,8 +94,8 @@ pub(crate) fn text_in<'a>(outer: &Option<Element<'_, 'a>>, key: &str) -> Option<
 
 /// The number at a key of the object at another, which was looked up.
 pub(crate) fn number_in(outer: &Option<Element<'_, '_>>, key: &str) -> Option<i64>
-    ensures { (name : List ℕ) (value : Data) → Finds outer.now (get name value)
-        → result ≡ number_at (name ∷ key.now ∷ []) value }
+    ensures { (found : Option Data) → Finds outer.now found
+        → result ≡ option_and_then (number_at (key.now ∷ [])) found }
 {
     match outer {
         Some(outer) => number_at(outer, key),
@@ -110,7 +110,3 @@ pub(crate) fn next_of<'t, 'a>(items: &mut Items<'t, 'a>) -> Option<Element<'t, '
 {
     items.next()
 }
-
-ghost use Rattle.std.specs.Prelude.{option_and_then};
-ghost use Rattle.serde_json.specs.Find.{as_i64, as_number};
-ghost use Rattle.gate_record.specs.Tapes.{Follows, items_of};
