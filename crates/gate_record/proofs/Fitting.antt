@@ -1,14 +1,13 @@
 -- What serde_json takes of JSON, by its tokens.
-use Rattle.std.proofs.Common.{◌≡◌, ◌∙◌, ◌<◌, ◌≤◌, ◌+◌, ◌-◌, ◌&&◌, ℕ, suc, max, List, [], ◌∷◌, ◌++◌, Bool, true, false, Option, Some, None, is_some, option_map, option_and_then, refl, sym, ap, subst, arith, append_assoc, append-nil, ltb, lt-ltb, ltb-true}
+use Rattle.std.proofs.Common.{◌≡◌, ◌∙◌, ◌<◌, ◌≤◌, ◌+◌, ◌-◌, ◌&&◌, ℕ, List, [], ◌∷◌, ◌++◌, Bool, true, false, Option, Some, None, is_some, option_map, option_and_then, refl, sym, ap, subst, arith, append_assoc, append-nil, ltb, lt-ltb, ltb-true}
 use Rattle.json.specs.Token.{Token}
 use Rattle.json.specs.Lex.{tokens}
 use Rattle.json.specs.Json as json
 use Rattle.json.specs.Tree.{json_tokens, items_tokens, members_tokens, depth, items_depth, members_depth}
-use Rattle.json.proofs.Found.{Some_inj}
 use Rattle.json.proofs.Nesting.{value-depth}
 use Rattle.json.proofs.Printed.Trees.{value-json_tokens}
 use Rattle.json.proofs.Unique.Spelling.{tokens-document, value-json_tokens_back}
-use Rattle.serde_json.specs.Data.{Data, number, array, object, Items, item, no_items, Members, no_members, put}
+use Rattle.serde_json.specs.Data.{Data, number, array, object, Items, item, Members, no_members, put}
 use Rattle.serde_json.specs.Read.{max_depth, number_of, of_json, of_items, of_members, read}
 use Rattle.gate_record.specs.Tapes.{fit}
 use Rattle.gate_record.proofs.Found.{mapped, chained}

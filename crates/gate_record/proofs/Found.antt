@@ -8,7 +8,7 @@ use Rattle.json.specs.Json as json
 use Rattle.json.specs.Find as find
 use Rattle.json.specs.Find.{BeginsWith, InItems, later_or}
 use Rattle.json.proofs.Found.{Some_inj}
-use Rattle.serde_json.specs.Data.{Data, null, boolean, number, string, array, object, Items, item, no_items, Members, no_members, put}
+use Rattle.serde_json.specs.Data.{Data, null, boolean, number, string, array, object, Items, item, Members, no_members, put}
 use Rattle.serde_json.specs.Find.{get, get_member, as_i64, as_str, as_number}
 use Rattle.serde_json.specs.Read.{number_of, of_json, of_items, of_members}
 use Rattle.serde_json.proofs.Views.{get_member-put, get_member-put_other}
@@ -65,7 +65,6 @@ found_at name (json.object ms) value e =
     let members = mapped object (of_members ms no_members) value e in
     subst (λ d. MatchOption (find.get_member name ms) (get name d ≡ None) (λ inner. (found : Data) × (of_json inner ≡ Some found) × (get name d ≡ Some found))) members.2
     (at_place name members.0 (find.get_member name ms) (found_among name ms no_members members.0 members.1))
-
 
 -- what a tape finds at a name
 pub finds : (name : List ℕ) (tokens : List Token) (value : Data) (place : Option (List Token)) → ((j : json.Json) → BeginsWith tokens j → find.Finds place (find.get name j)) → Begins tokens value

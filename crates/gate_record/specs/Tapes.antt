@@ -1,5 +1,5 @@
 -- What stands at a place of a tape, in serde_json's words.
-use Rattle.std.specs.Prelude.{◌≡◌, ◌&&◌, ◌+◌, ◌-◌, ℕ, List, [], ◌∷◌, Bool, true, nat_lt, Option, Some, None, option_map, option_and_then, is_some, unwrap_or, MatchOption}
+use Rattle.std.specs.Prelude.{◌≡◌, ◌&&◌, ◌+◌, ◌-◌, ℕ, List, [], ◌∷◌, Bool, true, nat_lt, Option, Some, None, option_map, is_some, unwrap_or, MatchOption}
 use Rattle.json.specs.Token.{Token}
 use Rattle.json.specs.Json as json
 use Rattle.json.specs.Find.{BeginsWith, InItems}

@@ -1,11 +1,12 @@
 // The fields of an event in a tape.
-ghost use Rattle.std.specs.Prelude.{◌≡◌, ◌≤◌, ◌++◌, IfOk, OnOk, length, List, option_map, option_to_list, take};
+ghost use Rattle.std.specs.Prelude.{◌≡◌, ◌≤◌, ◌++◌, IfOk, OnOk, List, codes, length, option_map, option_to_list, take};
 ghost use Rattle.std.specs.List.{filter_map};
 ghost use Rattle.serde_json.specs.Data.{Data};
+ghost use Rattle.serde_json.specs.Find.{get};
 ghost use Rattle.gate_record.specs.Approvals.{approval_of, approvals_of};
-ghost use Rattle.gate_record.specs.Fields.{AreFields};
-ghost use Rattle.gate_record.specs.Reading.{event_of};
-ghost use Rattle.gate_record.specs.Tapes.{Begins, GoesOn};
+ghost use Rattle.gate_record.specs.Fields.{AreFields, account_in, label_of, labelled};
+ghost use Rattle.gate_record.specs.Reading.{account_of, event_of, project_of};
+ghost use Rattle.gate_record.specs.Tapes.{Begins, Finds, GoesOn};
 ghost use Rattle.gate_record.specs.declared.approvals.TheConstants.{MAX_APPROVALS};
 
 use crate::approvals::{MAX_APPROVALS, category};
@@ -33,11 +34,7 @@ pub(crate) struct Fields<'a> {
 }
 
 /// The event of a record's object, whose `type` is this text. `Memory` where a field finds no room.
-pub(crate) fn event(
-    alloc: Global,
-    object: &Element<'_, '_>,
-    kind: &str,
-) -> Result<Event, Memory>
+pub(crate) fn event(alloc: Global, object: &Element<'_, '_>, kind: &str) -> Result<Event, Memory>
     ensures { (value : Data) → Begins object.now value → IfOk result (λ event. event ≡ event_of value kind.now) }
 {
     let fields = fields_of(object, kind);
@@ -179,9 +176,3 @@ fn labelled(
         _ => Ok(None),
     }
 }
-
-ghost use Rattle.std.specs.Prelude.{codes};
-ghost use Rattle.serde_json.specs.Find.{get};
-ghost use Rattle.gate_record.specs.Reading.{account_of, project_of};
-ghost use Rattle.gate_record.specs.Tapes.{Finds};
-ghost use Rattle.gate_record.specs.Fields.{account_in, label_of, labelled};

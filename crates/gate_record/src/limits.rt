@@ -39,13 +39,7 @@ fn level_after(level: usize, node: &Node<'_>) -> Option<usize>
             }
         }
         Node::EndObject | Node::EndArray => Some(level.saturating_sub(1)),
-        Node::Number(text) => {
-            if is_taken(text) {
-                Some(level)
-            } else {
-                None
-            }
-        }
+        Node::Number(text) => { if is_taken(text) { Some(level) } else { None } }
         Node::Key(_) | Node::String(_) | Node::Bool(_) | Node::Null => Some(level),
     }
 }

@@ -1,5 +1,6 @@
 // What serde_json makes of the text of a JSON number.
-ghost use Rattle.std.specs.Prelude.{◌≡◌, ◌==◌, ◌<◌, length, is_some, option_and_then, option_map, slice_index, IsTrue};
+ghost use Rattle.std.specs.Prelude.{◌≡◌, ◌==◌, ◌<◌, length, is_some, option_and_then, option_map, slice_index, true, false, IsTrue};
+ghost use Rattle.serde_json.specs.Data.{unsigned};
 ghost use Rattle.serde_json.specs.Find.{as_i64};
 ghost use Rattle.serde_json.specs.Read.{float_of, number_from, number_of};
 
@@ -75,6 +76,3 @@ fn nearest(negative: bool, numeral: &Numeral<'_>) -> Option<Option<i64>>
     let float: f64 = numeral.to_float(negative);
     if float.is_finite() { Some(None) } else { None }
 }
-
-ghost use Rattle.std.specs.Prelude.{true, false};
-ghost use Rattle.serde_json.specs.Data.{unsigned};

@@ -1,4 +1,4 @@
-use Rattle.std.proofs.Common.{◌≡◌, ◌<◌, ◌∙◌, ◌++◌, Some, ap, arith, length, sym, take}
+use Rattle.std.proofs.Common.{◌<◌, ◌∙◌, ◌++◌, ap, arith, length, sym, take}
 use Rattle.std.specs.Option.{option_to_list}
 use Rattle.gate_record.specs.declared.approvals.TheConstants.{MAX_APPROVALS}
 use Rattle.gate_record.proofs.Kept.{full, none, room}

@@ -11,7 +11,7 @@ abbrev pub invariant-loop-entry : goal.invariant-loop-entry
 invariant-loop-entry l =
     (length l.approvals ≤ MAX_APPROVALS)
     × ((values : List Data) → GoesOn l.initial.entries values
-      → (rest : List Data) × GoesOn l.entries rest × (take MAX_APPROVALS (l.approvals ++ filter_map approval_of rest) ≡ take MAX_APPROVALS (l.initial.approvals ++ filter_map approval_of values)))
+    → (rest : List Data) × GoesOn l.entries rest × (take MAX_APPROVALS (l.approvals ++ filter_map approval_of rest) ≡ take MAX_APPROVALS (l.initial.approvals ++ filter_map approval_of values)))
 
 abbrev pub decreases-loop-entry : goal.decreases-loop-entry
 decreases-loop-entry l = length l.entries
