@@ -2,7 +2,7 @@
 #![tactic(auto)]
 
 use anyhow::{Context, Result, bail};
-use gate_record::{Reading, Record, Sequence, read_record};
+use gate_record::{Reading, Record, RecordReader, Sequence, read_record};
 use serde_json::Value;
 use std::alloc::Global;
 use std::env;
@@ -21,18 +21,28 @@ fn main(rt: HostRuntime) -> Result<()> {
         .context("the number of records")?;
     let record = Record::Line(Sequence::new(RECORD.as_bytes().to_vec(rt.alloc())?));
     let start = Instant::now(&rt)?;
+    read_by_reader(rt.alloc(), &record, records)?;
+    let by_reader = micros(start.elapsed(&rt)?);
+    let start = Instant::now(&rt)?;
     read_records(rt.alloc(), &record, records)?;
     let by_record = micros(start.elapsed(&rt)?);
     let start = Instant::now(&rt)?;
     read_values(rt.alloc(), RECORD.as_bytes(), records)?;
     let by_value = micros(start.elapsed(&rt)?);
-    let percent = by_record.saturating_mul(100) / by_value.max(1);
     println!(rt;
-        "{records} records of {} bytes, {by_record} us by read_record, {by_value} us by serde_json alone, ratio {}.{:02}",
-        RECORD.len(),
-        percent / 100,
-        percent % 100
+        "{records} records of {} bytes, {by_reader} us by a RecordReader, {by_record} us by read_record, {by_value} us by serde_json alone",
+        RECORD.len()
     )?;
+    Ok(())
+}
+
+fn read_by_reader(alloc: Global, record: &Record, count: u32) -> Result<()> {
+    let mut reader = RecordReader::new();
+    for _ in 0..count {
+        let Reading::Event(_) = reader.read(alloc, record)? else {
+            bail!("the record is no event");
+        };
+    }
     Ok(())
 }
 

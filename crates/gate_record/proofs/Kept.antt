@@ -1,5 +1,5 @@
 -- The first few of a list that is made by and by.
-use Rattle.std.proofs.Common.{◌≡◌, ◌∙◌, ◌<◌, ◌≤◌, ◌++◌, ◌+◌, ℕ, zero, suc, List, [], ◌∷◌, length, take, map, get_or, refl, sym, ap, Option, Some, None, arith, append-nil}
+use Rattle.std.proofs.Common.{◌≡◌, ◌∙◌, ◌<◌, ◌≤◌, ◌++◌, ◌+◌, ℕ, zero, suc, List, [], ◌∷◌, length, take, map, get_or, refl, sym, ap, Option, Some, None, arith, append-nil, append_assoc}
 use Rattle.std.specs.List.{filter_map, cons_option}
 use Rattle.std.specs.Option.{option_to_list}
 use Rattle.std.proofs.lemmas.List.{length-append, length-take, map-append, take_all, take_at, take_more}
@@ -37,3 +37,15 @@ pub kept_more : {X A B : Type 0} (n : ℕ) (f : A → Option B) (v : X → A) (i
 kept_more n f v items i x h e =
     take-take-append n (filter_map f (map v (take i items))) (option_to_list (f (v x)))
     ∙ ap (take n) (sym (ap (λ l. filter_map f (map v l)) (take_more items i x h) ∙ ap (filter_map f) (map-append v (take i items) (get_or items i x ∷ [])) ∙ filter_map-append f (map v (take i items)) (v (get_or items i x) ∷ []) ∙ ap (λ l. filter_map f (map v (take i items)) ++ l) (one f (v (get_or items i x)) ∙ ap (λ y. option_to_list (f (v y))) (sym e))))
+
+-- one more behind what was kept, and the others behind it
+pub kept_next : {B : Type 0} (n : ℕ) (xs : List B) (o : Option B) (rest : List B) → take n (take n (xs ++ option_to_list o) ++ rest) ≡ take n (xs ++ cons_option o rest)
+kept_next {B} n xs o rest = take-take-append n (xs ++ option_to_list o) rest ∙ ap (take n) (append_assoc xs (option_to_list o) rest ∙ ap (λ l. xs ++ l) (by o))
+  where
+    by : (p : Option B) → option_to_list p ++ rest ≡ cons_option p rest
+    by None = refl
+    by (Some y) = refl
+
+-- nothing more
+pub kept_all : {B : Type 0} (n : ℕ) (xs : List B) → length xs ≤ n → xs ≡ take n (xs ++ [])
+kept_all n xs h = sym (append-nil xs) ∙ sym (take_all n (xs ++ []) (omega (arith, length-append xs [])))

@@ -1,6 +1,7 @@
 pub mod Approvals
 pub mod Entries
 pub mod Events
+pub mod Fields
 pub mod Json
 pub mod Lines
 pub mod Names
@@ -8,3 +9,4 @@ pub mod Numbers
 pub mod Prefixes
 pub mod Queues
 pub mod Reading
+pub mod Tapes

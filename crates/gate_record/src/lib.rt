@@ -5,13 +5,18 @@
 
 mod approvals;
 mod event;
+mod fields;
 mod ids;
+mod limits;
 mod memory;
 mod names;
 mod number;
+mod numeral;
 mod paths;
+mod places;
 mod queue;
 mod read;
+mod reader;
 mod reading;
 mod record;
 mod sequence;
@@ -27,6 +32,7 @@ pub use names::name_text;
 pub use number::{number_of_text, read_number};
 pub use queue::Queue;
 pub use read::read_record;
+pub use reader::RecordReader;
 pub use reading::{Reading, Why};
 pub use record::{MAX_LINE, Record};
 pub use sequence::Sequence;

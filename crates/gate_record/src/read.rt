@@ -25,7 +25,7 @@ pub fn read_record(alloc: Global, record: &Record) -> Result<Reading, Memory>
     }
 }
 
-fn read_line(alloc: Global, bytes: &[u8]) -> Result<Reading, Memory>
+pub(crate) fn read_line(alloc: Global, bytes: &[u8]) -> Result<Reading, Memory>
     ensures { IfOk result (λ reading. reading ≡ reading_of_json (json_of bytes.now)) }
 {
     match Value::from_slice(alloc, bytes) {
@@ -68,7 +68,7 @@ fn read_event(alloc: Global, value: &Value, kind: &str) -> Result<Event, Memory>
     })
 }
 
-fn copied(alloc: Global, text: Option<&str>) -> Result<Option<Text>, Memory>
+pub(crate) fn copied(alloc: Global, text: Option<&str>) -> Result<Option<Text>, Memory>
     ensures { IfOk result (λ copy. copy ≡ option_map (λ t. t.now) text.entry) }
 {
     match text {
@@ -87,7 +87,7 @@ fn project(value: &Value) -> Option<&str>
 }
 
 // The key of the account whose event it is.
-fn account(kind: &str) -> Option<&'static str>
+pub(crate) fn account(kind: &str) -> Option<&'static str>
     ensures { option_map (λ t. t.now) result ≡ account_of kind.now }
 {
     match kind {

@@ -1,0 +1,33 @@
+-- The fields of an event, where they stand in a tape.
+use Rattle.std.specs.Prelude.{◌≡◌, ℕ, ℤ, List, [], ◌∷◌, codes, Option, option_and_then, option_map}
+use Rattle.std.specs.Option.{option_or}
+use Rattle.serde_json.specs.Data.{Data}
+use Rattle.serde_json.specs.Find.{get}
+use Rattle.gate_record.specs.Approvals.{category}
+use Rattle.gate_record.specs.Json.{number_at, text_at}
+use Rattle.gate_record.specs.Reading.{account_of, account_text, project_of}
+use Rattle.gate_record.specs.declared.fields.Fields.{Fields}
+
+-- the account of this name
+abbrev pub account_in : Option (List ℕ) → Data → Option Data
+account_in name value = option_and_then (λ key. get key value) name
+
+-- these are the texts and numbers of the event of this type
+pub record AreFields (value : Data) (kind : List ℕ) (fields : Fields) : Type 0 where
+  pub project : option_map (λ t. t.now) fields.project ≡ project_of value
+  pub branch : option_map (λ t. t.now) fields.branch ≡ text_at (codes "change" ∷ codes "branch" ∷ []) value
+  pub change : fields.change ≡ number_at (codes "change" ∷ codes "number" ∷ []) value
+  pub patchset : fields.patchset ≡ number_at (codes "patchSet" ∷ codes "number" ∷ []) value
+  pub refname : option_map (λ t. t.now) fields.refname ≡ text_at (codes "refUpdate" ∷ codes "refName" ∷ []) value
+  pub newrev : option_map (λ t. t.now) fields.newrev ≡ text_at (codes "refUpdate" ∷ codes "newRev" ∷ []) value
+  pub comment : option_map (λ t. t.now) fields.comment ≡ text_at (codes "comment" ∷ []) value
+  pub username : option_map (λ t. t.now) fields.username ≡ account_text (account_of kind) (codes "username") value
+  pub email : option_map (λ t. t.now) fields.email ≡ account_text (account_of kind) (codes "email") value
+
+-- the name of the label of an entry
+abbrev pub label_of : Data → Option (List ℕ)
+label_of entry = option_or (text_at (codes "description" ∷ []) entry) (text_at (codes "type" ∷ []) entry)
+
+-- the approval of a label and a vote
+abbrev pub labelled : Option (List ℕ) → Option ℤ → Option (List ℕ × ℤ)
+labelled label vote = option_and_then (λ name. option_map (λ vote'. (name, vote')) vote) (option_map category label)

@@ -1,0 +1,112 @@
+// What stands at a place of a tape, and at the keys of an object there.
+ghost use Rattle.std.specs.Prelude.{◌≡◌, ◌<◌, ◌∷◌, [], List, Option, OnSome, length, option_and_then, option_map};
+ghost use Rattle.serde_json.specs.Data.{Data};
+ghost use Rattle.serde_json.specs.Find.{as_i64, as_number, as_str, get};
+ghost use Rattle.gate_record.specs.Json.{items_at, number_at, text_at};
+ghost use Rattle.gate_record.specs.Numbers.{number_of};
+ghost use Rattle.gate_record.specs.Tapes.{Begins, Finds, Follows, GoesOn, Lists, items_of};
+
+use crate::number::number_of_text;
+use crate::numeral::integer;
+use json::{Element, Items};
+
+/// What stands at a key.
+pub(crate) fn member<'t, 'a>(outer: &Element<'t, 'a>, key: &str) -> Option<Element<'t, 'a>>
+    ensures { (value : Data) → Begins outer.now value → Finds result (get key.now value) }
+{
+    outer.get(key)
+}
+
+// The text that begins here.
+fn text<'a>(place: &Element<'_, 'a>) -> Option<&'a str>
+    ensures { (value : Data) → Begins place.now value → option_map (λ t. t.now) result ≡ as_str value }
+{
+    place.as_str()
+}
+
+// The number that begins here.
+fn number(place: &Element<'_, '_>) -> Option<i64>
+    ensures { (value : Data) → Begins place.now value → result ≡ number_of value }
+{
+    match place.as_str() {
+        Some(text) => number_of_text(text),
+        None => json_number(place),
+    }
+}
+
+// The JSON number that begins here.
+fn json_number(place: &Element<'_, '_>) -> Option<i64>
+    ensures { (value : Data) → Begins place.now value → result ≡ option_and_then as_i64 (as_number value) }
+{
+    match place.as_number() {
+        Some(text) => integer(text),
+        None => None,
+    }
+}
+
+/// The text at a key.
+pub(crate) fn text_at<'a>(outer: &Element<'_, 'a>, key: &str) -> Option<&'a str>
+    ensures { (value : Data) → Begins outer.now value → option_map (λ t. t.now) result ≡ text_at (key.now ∷ []) value }
+{
+    match member(outer, key) {
+        Some(place) => text(&place),
+        None => None,
+    }
+}
+
+/// The number at a key.
+pub(crate) fn number_at(outer: &Element<'_, '_>, key: &str) -> Option<i64>
+    ensures { (value : Data) → Begins outer.now value → result ≡ number_at (key.now ∷ []) value }
+{
+    match member(outer, key) {
+        Some(place) => number(&place),
+        None => None,
+    }
+}
+
+/// The values of the list at a key, if a list stands there.
+pub(crate) fn items_at<'t, 'a>(outer: &Element<'t, 'a>, key: &str) -> Option<Items<'t, 'a>>
+    ensures { (value : Data) → Begins outer.now value → Lists result (items_at (key.now ∷ []) value) }
+{
+    match member(outer, key) {
+        Some(place) => items(&place),
+        None => None,
+    }
+}
+
+// The values of the list that begins here.
+fn items<'t, 'a>(place: &Element<'t, 'a>) -> Option<Items<'t, 'a>>
+    ensures { (value : Data) → Begins place.now value → Lists result (items_of value) }
+{
+    place.items()
+}
+
+/// The text at a key of the object at another, which was looked up.
+pub(crate) fn text_in<'a>(outer: &Option<Element<'_, 'a>>, key: &str) -> Option<&'a str>
+    ensures { (found : Option Data) → Finds outer.now found
+        → option_map (λ t. t.now) result ≡ option_and_then (text_at (key.now ∷ [])) found }
+{
+    match outer {
+        Some(outer) => text_at(outer, key),
+        None => None,
+    }
+}
+
+/// The number at a key of the object at another, which was looked up.
+pub(crate) fn number_in(outer: &Option<Element<'_, '_>>, key: &str) -> Option<i64>
+    ensures { (found : Option Data) → Finds outer.now found
+        → result ≡ option_and_then (number_at (key.now ∷ [])) found }
+{
+    match outer {
+        Some(outer) => number_at(outer, key),
+        None => None,
+    }
+}
+
+/// The next value of a list.
+pub(crate) fn next_of<'t, 'a>(items: &mut Items<'t, 'a>) -> Option<Element<'t, 'a>>
+    ensures value { (values : List Data) → GoesOn items.old values → Follows result values items.new }
+    ensures shorter { OnSome result (length items.new < length items.old) }
+{
+    items.next()
+}
