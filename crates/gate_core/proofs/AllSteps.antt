@@ -1,7 +1,8 @@
 -- Each step keeps what holds.
-use Rattle.std.proofs.Common.{◌≡◌, ◌∙◌, refl, sym, ap, subst, ℕ, zero, suc, ◌+◌, ◌==◌, List, [], ◌∷◌, ◌++◌, Bool, true, false, length, Option, Some, None, slice_set, append-nil, arith, if◌then◌else◌}
-use Rattle.std.specs.Prelude.{◌&&◌, is_some, nat_lt, not, slice_get}
-use Rattle.std.proofs.lemmas.Bool.{ltb-true}
+use Rattle.std.proofs.Common.{◌≡◌, ◌∙◌, refl, sym, ap, subst, ℕ, zero, suc, ◌+◌, ◌≤◌, ◌==◌, List, [], ◌∷◌, ◌++◌, Bool, true, false, length, Option, Some, None, slice_set, append-nil, arith, if◌then◌else◌}
+use Rattle.std.specs.Prelude.{is_some, min, nat_lt, slice_get}
+use Rattle.std.proofs.lemmas.Bool.{eqb-false, ltb-true}
+use Rattle.std.proofs.Math.Nat.{min-le_left, min-le_right}
 use Rattle.gate_record.specs.declared.ids.ConnId.{ConnId}
 use Rattle.gate_record.specs.declared.ids.PipelineId.{PipelineId}
 use Rattle.gate_record.specs.declared.ids.Stamp.{Stamp}
@@ -37,8 +38,8 @@ use Rattle.gate_pipeline.specs.Histories.{triggering}
 use Rattle.gate_core.specs.History.{History, finished, manage_posts, result_posts}
 use Rattle.gate_core.specs.History.{turned as turned_of}
 use Rattle.gate_core.specs.Pipelines.{answer_of, first_ended, first_managed, first_triggered, found_where, passed_on, post_manage, post_result, took, turned, turned_by}
-use Rattle.gate_core.specs.States.{ConnectionState, TenantState, State}
-use Rattle.gate_core.specs.Steps.{close, fetch, fetch_from, give, give_from, give_to, match_from, match_gathered, may_gather, offer, send_from, on_pipeline, send_of, send_to, step_of, take, take_from, with_connection, with_pipeline, with_tenant}
+use Rattle.gate_core.specs.States.{ConnectionState, TenantState, State, with_gathered}
+use Rattle.gate_core.specs.Steps.{close, fetch, fetched, give, give_from, give_to, match_from, match_gathered, offer, send_from, on_pipeline, send_of, send_to, step_of, take, take_from, with_connection, with_pipeline, with_tenant}
 use Rattle.gate_core.proofs.Going.{closed_holds, offered_holds, taken_holds}
 use Rattle.gate_core.proofs.Fits.{IsNoTrigger, PipeFits, fits_end, fits_manage_post, fits_passed, fits_result_post, fits_same, frees_action, frees_event, holds_ended, holds_event, holds_managed}
 use Rattle.gate_core.proofs.Pushes.{IsQuiet, or_false, or_true, puts_quiet, quiet_closed, quiet_full, quiet_idle, quiet_passed, same_quiet, takes_quiet}
@@ -137,16 +138,10 @@ module _ (config : Config) (h : History) (state : State) (holds : Holds config h
 
   -- ---- from connections to tenants
 
-  send_by : (d : ConnId) (k : ConnectionState) (first : TenantId × TenantItem) (hand : List (TenantId × TenantItem)) → slice_get state.connections d.0 ≡ Some k → k.hand ≡ first ∷ hand →
-      (ten : TenantState) → slice_get state.tenants first.0.0 ≡ Some ten → (room : Bool) →
-      Goes config h (step.Send d) (if room then (record { connections = slice_set state.connections d.0 (record k { hand = hand }); tenants = slice_set state.tenants first.0.0 (record ten { queue = ten.queue ++ first.1 ∷ [] }) }, Moved) else (state, Full))
-  send_by d k first hand at front ten whose true = sent_holds config h state d k first hand ten at front whose holds
-  send_by d k first hand at front ten whose false = quiet config h state (step.Send d) Full quiet_full holds
-
   send_to_goes : (d : ConnId) (k : ConnectionState) (first : TenantId × TenantItem) (hand : List (TenantId × TenantItem)) → slice_get state.connections d.0 ≡ Some k → k.hand ≡ first ∷ hand →
       (o : Option TenantState) → slice_get state.tenants first.0.0 ≡ o → Goes config h (step.Send d) (send_to d.0 k first.0.0 first.1 hand o state)
   send_to_goes d k first hand at front None whose = quiet config h state (step.Send d) Idle quiet_idle holds
-  send_to_goes d k first hand at front (Some ten) whose = send_by d k first hand at front ten whose (nat_lt (length ten.queue) 4096)
+  send_to_goes d k first hand at front (Some ten) whose = sent_holds config h state d k first hand ten at front whose holds
 
   send_from_goes : (d : ConnId) (k : ConnectionState) → slice_get state.connections d.0 ≡ Some k → (hand : List (TenantId × TenantItem)) → k.hand ≡ hand → Goes config h (step.Send d) (send_from d.0 k hand state)
   send_from_goes d k at [] e = quiet config h state (step.Send d) Idle quiet_idle holds
@@ -164,27 +159,21 @@ module _ (config : Config) (h : History) (state : State) (holds : Holds config h
   idle : (s : Step) (t : ℕ) (ten : TenantState) → slice_get state.tenants t ≡ Some ten → TenantGoes s t (ten, Idle)
   idle s t ten at = tenant_quiet config h state s Idle t ten at quiet_idle holds
 
-  both : (a b : Bool) → (a && b) ≡ true → (a ≡ true) × (b ≡ true)
-  both true b e = (refl, e)
-  both false b e = absurd (cc)
-
-  is_not : (b : Bool) → not b ≡ true → b ≡ false
-  is_not false e = refl
-  is_not true e = absurd (cc)
-
-  fetch_by : (tid : TenantId) (n : ℕ) (ten : TenantState) → slice_get state.tenants tid.0 ≡ Some ten → (may : Bool) → ((n == 1) && may_gather config tid.0 ten) ≡ may → (queue : List TenantItem) → ten.queue ≡ queue →
-      TenantGoes (step.Fetch tid n) tid.0 (if may then fetch_from queue ten else (ten, Idle))
-  fetch_by tid n ten at false e queue f = idle (step.Fetch tid n) tid.0 ten at
-  fetch_by tid n ten at true e [] f = idle (step.Fetch tid n) tid.0 ten at
-  fetch_by tid n ten at true e (x ∷ queue) f =
-      let may = both (nat_lt 0 (room_of ten.dispatch)) (not (has_ended config tid.0 ten.dispatch)) (both (n == 1) (may_gather config tid.0 ten) e).1 in
+  fetch_by : (tid : TenantId) (n : ℕ) (ten : TenantState) → slice_get state.tenants tid.0 ≡ Some ten → (ended : Bool) → has_ended config tid.0 ten.dispatch ≡ ended →
+      (count : ℕ) → (if ended then 0 else min (min n (room_of ten.dispatch)) (length ten.queue)) ≡ count → (none : Bool) → (count == 0) ≡ none →
+      TenantGoes (step.Fetch tid n) tid.0 (if none then (ten, Idle) else (with_gathered count ten, Moved))
+  fetch_by tid n ten at ended e count f true g = idle (step.Fetch tid n) tid.0 ten at
+  fetch_by tid n ten at true e count f false g = absurd (eqb-false count 0 g (sym f))
+  fetch_by tid n ten at false e count f false g =
+      let queued : min (min n (room_of ten.dispatch)) (length ten.queue) ≤ min n (room_of ten.dispatch) = min-le_left (min n (room_of ten.dispatch)) (length ten.queue) in
+      let roomy : min n (room_of ten.dispatch) ≤ room_of ten.dispatch = min-le_right n (room_of ten.dispatch) in
       fetched_holds config h state (step.Fetch tid n) Moved tid.0 ten at
       (λ past. ((λ c. conn_untouched c past (step.Fetch tid n) Moved refl refl refl), (λ t p. pipe_untouched t p past (step.Fetch tid n) Moved refl refl refl)))
-      x queue f (ltb-true 0 (room_of ten.dispatch) may.0) (is_not (has_ended config tid.0 ten.dispatch) may.1) holds
+      count (omega (arith, f, queued, roomy)) e holds
 
   fetch_goes : (tid : TenantId) (n : ℕ) (o : Option TenantState) → slice_get state.tenants tid.0 ≡ o → Goes config h (step.Fetch tid n) (with_tenant (fetch config tid.0 n) tid.0 o state)
   fetch_goes tid n None at = quiet config h state (step.Fetch tid n) Idle quiet_idle holds
-  fetch_goes tid n (Some ten) at = fetch_by tid n ten at ((n == 1) && may_gather config tid.0 ten) refl ten.queue refl
+  fetch_goes tid n (Some ten) at = fetch_by tid n ten at (has_ended config tid.0 ten.dispatch) refl (fetched config tid.0 n ten) refl (fetched config tid.0 n ten == 0) refl
 
   match_by : (tid : TenantId) (ten : TenantState) → slice_get state.tenants tid.0 ≡ Some ten → (items : List TenantItem) → ten.dispatch.gathered ≡ items → TenantGoes (step.Match tid) tid.0 (match_from config tid.0 items ten)
   match_by tid ten at [] e = idle (step.Match tid) tid.0 ten at
@@ -198,19 +187,18 @@ module _ (config : Config) (h : History) (state : State) (holds : Holds config h
   match_goes tid (Some ten) at = match_by tid ten at ten.dispatch.gathered refl
 
   give_by : (tid : TenantId) (ten : TenantState) → slice_get state.tenants tid.0 ≡ Some ten → (first : PipelineId × PipelineItem) (hand : List (PipelineId × PipelineItem)) → ten.dispatch.items ≡ first ∷ hand →
-      (pipe : Pipeline) → slice_get ten.pipelines first.0.0 ≡ Some pipe → (room : Bool) →
+      (pipe : Pipeline) → slice_get ten.pipelines first.0.0 ≡ Some pipe →
       TenantGoes (step.Give tid) tid.0
-      (if room then (record ten { dispatch = record ten.dispatch { items = hand; out = None }; pipelines = slice_set ten.pipelines first.0.0 (record pipe { triggers = pipe.triggers ++ first.1 ∷ [] }) }, Moved) else (ten, Full))
-  give_by tid ten at first hand front pipe whose true =
+      (record ten { dispatch = record ten.dispatch { items = hand; out = None }; pipelines = slice_set ten.pipelines first.0.0 (record pipe { triggers = pipe.triggers ++ first.1 ∷ [] }) }, Moved)
+  give_by tid ten at first hand front pipe whose =
       given_holds config h state (step.Give tid) Moved tid.0 ten at
       (λ past. ((λ c. conn_untouched c past (step.Give tid) Moved refl refl refl), (λ t p. pipe_untouched t p past (step.Give tid) Moved refl refl refl)))
       first hand pipe front whose holds
-  give_by tid ten at first hand front pipe whose false = tenant_quiet config h state (step.Give tid) Full tid.0 ten at quiet_full holds
 
   give_to_goes : (tid : TenantId) (ten : TenantState) → slice_get state.tenants tid.0 ≡ Some ten → (first : PipelineId × PipelineItem) (hand : List (PipelineId × PipelineItem)) → ten.dispatch.items ≡ first ∷ hand →
       (o : Option Pipeline) → slice_get ten.pipelines first.0.0 ≡ o → TenantGoes (step.Give tid) tid.0 (give_to first.0 first.1 hand o ten)
   give_to_goes tid ten at first hand front None whose = idle (step.Give tid) tid.0 ten at
-  give_to_goes tid ten at first hand front (Some pipe) whose = give_by tid ten at first hand front pipe whose (nat_lt (length pipe.triggers) 4096)
+  give_to_goes tid ten at first hand front (Some pipe) whose = give_by tid ten at first hand front pipe whose
 
   give_from_goes : (tid : TenantId) (ten : TenantState) → slice_get state.tenants tid.0 ≡ Some ten → (hand : List (PipelineId × PipelineItem)) → ten.dispatch.items ≡ hand → TenantGoes (step.Give tid) tid.0 (give_from hand ten)
   give_from_goes tid ten at [] e = idle (step.Give tid) tid.0 ten at

@@ -62,14 +62,9 @@ module _ (n : ℕ) (state : State) (few : AcceptedAtMost n state) where
   takes config c k [] [] = omega arith
   takes config c k [] (x ∷ queue) = omega arith
 
-  send_by : (d : ℕ) (k : ConnectionState) (u : ℕ) (x : TenantItem) (hand : List (TenantId × TenantItem)) (ten : TenantState) → slice_get state.connections d ≡ Some k → (room : Bool) →
-      AcceptedAtMost (n + 1) (if◌then◌else◌ {A = State × Answer} room (record { connections = slice_set state.connections d (record k { hand = hand }); tenants = slice_set state.tenants u (record ten { queue = ten.queue ++ x ∷ [] }) }, Moved) (state, Full)).0
-  send_by d k u x hand ten at true = changes (slice_set state.tenants u (record ten { queue = ten.queue ++ x ∷ [] })) d k (record k { hand = hand }) at (omega arith)
-  send_by d k u x hand ten at false = no_more
-
   sends_to : (d : ℕ) (k : ConnectionState) (u : ℕ) (x : TenantItem) (hand : List (TenantId × TenantItem)) (o : Option TenantState) → slice_get state.connections d ≡ Some k → AcceptedAtMost (n + 1) (send_to d k u x hand o state).0
   sends_to d k u x hand None at = no_more
-  sends_to d k u x hand (Some ten) at = send_by d k u x hand ten at (nat_lt (length ten.queue) 4096)
+  sends_to d k u x hand (Some ten) at = changes (slice_set state.tenants u (record ten { queue = ten.queue ++ x ∷ [] })) d k (record k { hand = hand }) at (omega arith)
 
   sends_from : (d : ℕ) (k : ConnectionState) (hand : List (TenantId × TenantItem)) → slice_get state.connections d ≡ Some k → AcceptedAtMost (n + 1) (send_from d k hand state).0
   sends_from d k [] at = no_more

@@ -1,15 +1,13 @@
 -- The hand of a connection's forwarder while one item is sent, and what becomes of it.
 use Rattle.std.proofs.Common.{◌≡◌, ◌∙◌, sym, ap, refl, ℕ, ◌<◌, ◌≤◌, List, [], ◌∷◌, ◌++◌, length, Option, Some, None, Ok, Err, slice_set, subst}
 use Rattle.std.specs.Prelude.{slice_get}
-use Rattle.std.proofs.lemmas.Bool.{le-ltb, lt-ltb}
 use Rattle.gate_record.specs.declared.ids.TenantId.{TenantId}
 use Rattle.gate_record.specs.declared.transit.TenantItem.{TenantItem}
 use Rattle.gate_forward.specs.Hands.{Hand, moved_out, put_back}
 use Rattle.gate_core.specs.declared.answer.Answer.{Answer}
-use Rattle.gate_core.specs.declared.answer.Answer.TheVariants.{Full, Idle, Moved}
+use Rattle.gate_core.specs.declared.answer.Answer.TheVariants.{Idle, Moved}
 use Rattle.gate_core.specs.Answers.{Changes}
 use Rattle.gate_record.specs.declared.memory.Memory.{Memory}
-use Rattle.gate_core.specs.declared.TheConstants.{PLACES}
 use Rattle.gate_core.specs.Sends.{Sends, state}
 use Rattle.gate_core.specs.States.{ConnectionState, State, TenantState}
 use Rattle.gate_core.specs.Steps.{send, send_from, send_of, send_to}
@@ -79,26 +77,21 @@ module _ (conn conn' : ConnectionState) (tenants tenants' : List TenantState) wh
     pub sends_nowhere : slice_get tenants first.0.0 ≡ None → conn' ≡ conn → tenants' ≡ tenants → Sends conn tenants conn' tenants' (Ok Idle)
     sends_nowhere there same sames c connections at = ap (λ s. (s, Idle)) (unmoved c connections at same sames) ∙ sym (sending c connections None at there)
 
-    -- to a tenant whose queue is full
-    pub finds_full : (tenant : TenantState) → slice_get tenants first.0.0 ≡ Some tenant → PLACES ≤ length tenant.queue → conn' ≡ conn → tenants' ≡ tenants → Sends conn tenants conn' tenants' (Ok Full)
-    finds_full tenant there full same sames c connections at =
-        ap (λ s. (s, Full)) (unmoved c connections at same sames) ∙ sym (sending c connections (Some tenant) at there ∙ rw (le-ltb (length tenant.queue) PLACES full))
-
-    -- to a tenant that has a place for it
-    goes : (tenant : TenantState) (c : ℕ) (connections : List ConnectionState) → slice_get connections c ≡ Some conn → slice_get tenants first.0.0 ≡ Some tenant → length tenant.queue < PLACES →
+    -- to a tenant
+    goes : (tenant : TenantState) (c : ℕ) (connections : List ConnectionState) → slice_get connections c ≡ Some conn → slice_get tenants first.0.0 ≡ Some tenant →
         send c (state connections tenants) ≡ (state (slice_set connections c (record conn { hand = rest })) (slice_set tenants first.0.0 (record tenant { queue = tenant.queue ++ first.1 ∷ [] })), Moved)
-    goes tenant c connections at there room = sending c connections (Some tenant) at there ∙ rw (lt-ltb (length tenant.queue) PLACES room)
+    goes tenant c connections at there = sending c connections (Some tenant) at there
 
     -- which gets it
-    pub sends_item : (tenant : TenantState) → slice_get tenants first.0.0 ≡ Some tenant → length tenant.queue < PLACES → conn' ≡ record conn { hand = rest } →
+    pub sends_item : (tenant : TenantState) → slice_get tenants first.0.0 ≡ Some tenant → conn' ≡ record conn { hand = rest } →
         tenants' ≡ slice_set tenants first.0.0 (record tenant { queue = tenant.queue ++ first.1 ∷ [] }) → Sends conn tenants conn' tenants' (Ok Moved)
-    sends_item tenant there room same sames c connections at =
+    sends_item tenant there same sames c connections at =
         ap (λ k. (state (slice_set connections c k) tenants', Moved)) same ∙ ap (λ ts. (state (slice_set connections c (record conn { hand = rest })) ts, Moved)) sames
-        ∙ sym (goes tenant c connections at there room)
+        ∙ sym (goes tenant c connections at there)
 
     -- which would get it, where memory is refused
-    pub refuses : (memory : Memory) (tenant : TenantState) → slice_get tenants first.0.0 ≡ Some tenant → length tenant.queue < PLACES → conn' ≡ conn → tenants' ≡ tenants → Sends conn tenants conn' tenants' (Err memory)
-    refuses memory tenant there room same sames c connections at = (
+    pub refuses : (memory : Memory) (tenant : TenantState) → slice_get tenants first.0.0 ≡ Some tenant → conn' ≡ conn → tenants' ≡ tenants → Sends conn tenants conn' tenants' (Err memory)
+    refuses memory tenant there same sames c connections at = (
       unmoved c connections at same sames,
-      subst (λ (after : State × Answer). Changes after.1) (sym (goes tenant c connections at there room)) tt,
+      subst (λ (after : State × Answer). Changes after.1) (sym (goes tenant c connections at there)) tt,
     )

@@ -21,8 +21,8 @@ use Rattle.gate_core.specs.Chains.{Attempt, IsChain, IsNext, answered_history, l
 use Rattle.gate_core.specs.History.{is_turn, turned_in}
 use Rattle.gate_core.specs.History.{processed as processed_by, turned as turned_of}
 use Rattle.gate_core.specs.Pipelines.{Found, answer_of, found, found_where, holding, post_manage, post_result, refused, refused_by, turned, turned_by}
-use Rattle.gate_core.specs.States.{ConnectionState, State, TenantState, pipeline_at}
-use Rattle.gate_core.specs.Steps.{close, fetch, fetch_from, give, give_from, give_to, match_from, match_gathered, may_gather, offer, on_pipeline, refused_in, refused_step, send_from, send_of, send_to, step_of, take, with_connection, with_pipeline, with_refused, with_tenant}
+use Rattle.gate_core.specs.States.{ConnectionState, State, TenantState, pipeline_at, with_gathered}
+use Rattle.gate_core.specs.Steps.{close, fetch, fetched, give, give_from, give_to, match_from, match_gathered, offer, on_pipeline, refused_in, refused_step, send_from, send_of, send_to, step_of, take, with_connection, with_pipeline, with_refused, with_tenant}
 use Rattle.gate_core.proofs.Spots.{AfterSet, after_set, another, it}
 use Rattle.gate_core.proofs.Arrivals.{same_as_itself}
 use Rattle.gate_core.proofs.Working.{the_same}
@@ -72,14 +72,9 @@ module _ (config : Config) (state : State) (t p : ℕ) where
   conn_leaves move c None = refl
   conn_leaves move c (Some conn) = refl
 
-  send_by : (c : ℕ) (conn : ConnectionState) (u : ℕ) (x : TenantItem) (hand : List (TenantId × TenantItem)) (ten : TenantState) → slice_get state.tenants u ≡ Some ten → (room : Bool) →
-      Leaves (if◌then◌else◌ {A = State × Answer} room (record { connections = slice_set state.connections c (record conn { hand = hand }); tenants = slice_set state.tenants u (record ten { queue = ten.queue ++ x ∷ [] }) }, Moved) (state, Full)).0
-  send_by c conn u x hand ten at true = tenant_keeps state (slice_set state.connections c (record conn { hand = hand })) t p u ten (record ten { queue = ten.queue ++ x ∷ [] }) at refl
-  send_by c conn u x hand ten at false = refl
-
   send_to_leaves : (c : ℕ) (conn : ConnectionState) (u : ℕ) (x : TenantItem) (hand : List (TenantId × TenantItem)) (o : Option TenantState) → slice_get state.tenants u ≡ o → Leaves (send_to c conn u x hand o state).0
   send_to_leaves c conn u x hand None at = refl
-  send_to_leaves c conn u x hand (Some ten) at = send_by c conn u x hand ten at (nat_lt (length ten.queue) 4096)
+  send_to_leaves c conn u x hand (Some ten) at = tenant_keeps state (slice_set state.connections c (record conn { hand = hand })) t p u ten (record ten { queue = ten.queue ++ x ∷ [] }) at refl
 
   send_from_leaves : (c : ℕ) (conn : ConnectionState) (hand : List (TenantId × TenantItem)) → Leaves (send_from c conn hand state).0
   send_from_leaves c conn [] = refl
@@ -93,14 +88,13 @@ module _ (config : Config) (state : State) (t p : ℕ) where
   keeps : (u : ℕ) (ten ten' : TenantState) → slice_get state.tenants u ≡ Some ten → ten'.pipelines ≡ ten.pipelines → Leaves (record state { tenants = slice_set state.tenants u ten' })
   keeps u ten ten' at same = tenant_keeps state state.connections t p u ten ten' at same
 
-  fetch_keeps : (may : Bool) (queue : List TenantItem) (ten : TenantState) → (if◌then◌else◌ {A = TenantState × Answer} may (fetch_from queue ten) (ten, Idle)).0.pipelines ≡ ten.pipelines
-  fetch_keeps true [] ten = refl
-  fetch_keeps true (x ∷ queue) ten = refl
-  fetch_keeps false queue ten = refl
+  fetch_keeps : (n : ℕ) (none : Bool) (ten : TenantState) → (if◌then◌else◌ {A = TenantState × Answer} none (ten, Idle) (with_gathered n ten, Moved)).0.pipelines ≡ ten.pipelines
+  fetch_keeps n true ten = refl
+  fetch_keeps n false ten = refl
 
   fetch_leaves : (u n : ℕ) (o : Option TenantState) → slice_get state.tenants u ≡ o → Leaves (with_tenant (fetch config u n) u o state).0
   fetch_leaves u n None at = refl
-  fetch_leaves u n (Some ten) at = keeps u ten (fetch config u n ten).0 at (fetch_keeps ((n == 1) && may_gather config u ten) ten.queue ten)
+  fetch_leaves u n (Some ten) at = keeps u ten (fetch config u n ten).0 at (fetch_keeps (fetched config u n ten) (fetched config u n ten == 0) ten)
 
   match_keeps : (u : ℕ) (items : List TenantItem) (ten : TenantState) → (match_from config u items ten).0.pipelines ≡ ten.pipelines
   match_keeps u [] ten = refl
@@ -110,17 +104,16 @@ module _ (config : Config) (state : State) (t p : ℕ) where
   match_leaves u None at = refl
   match_leaves u (Some ten) at = keeps u ten (match_gathered config u ten).0 at (match_keeps u ten.dispatch.gathered ten)
 
-  give_by : (u : ℕ) (ten : TenantState) → slice_get state.tenants u ≡ Some ten → (q : PipelineId) (x : PipelineItem) (hand : List (PipelineId × PipelineItem)) (pipe : Pipeline) → slice_get ten.pipelines q.0 ≡ Some pipe → (room : Bool) →
-      Leaves (record state { tenants = slice_set state.tenants u (if◌then◌else◌ {A = TenantState × Answer} room (record ten { dispatch = record ten.dispatch { items = hand; out = None }; pipelines = slice_set ten.pipelines q.0 (record pipe { triggers = pipe.triggers ++ x ∷ [] }) }, Moved) (ten, Full)).0 })
-  give_by u ten at q x hand pipe whose true =
+  give_by : (u : ℕ) (ten : TenantState) → slice_get state.tenants u ≡ Some ten → (q : PipelineId) (x : PipelineItem) (hand : List (PipelineId × PipelineItem)) (pipe : Pipeline) → slice_get ten.pipelines q.0 ≡ Some pipe →
+      Leaves (record state { tenants = slice_set state.tenants u (record ten { dispatch = record ten.dispatch { items = hand; out = None }; pipelines = slice_set ten.pipelines q.0 (record pipe { triggers = pipe.triggers ++ x ∷ [] }) }) })
+  give_by u ten at q x hand pipe whose =
       pipe_changes state state.connections t p u ten (record ten { dispatch = record ten.dispatch { items = hand; out = None }; pipelines = slice_set ten.pipelines q.0 (record pipe { triggers = pipe.triggers ++ x ∷ [] }) }) at
       q.0 pipe (record pipe { triggers = pipe.triggers ++ x ∷ [] }) whose refl (λ both. refl)
-  give_by u ten at q x hand pipe whose false = keeps u ten ten at refl
 
   give_to_leaves : (u : ℕ) (ten : TenantState) → slice_get state.tenants u ≡ Some ten → (q : PipelineId) (x : PipelineItem) (hand : List (PipelineId × PipelineItem)) (o : Option Pipeline) → slice_get ten.pipelines q.0 ≡ o →
       Leaves (record state { tenants = slice_set state.tenants u (give_to q x hand o ten).0 })
   give_to_leaves u ten at q x hand None whose = keeps u ten ten at refl
-  give_to_leaves u ten at q x hand (Some pipe) whose = give_by u ten at q x hand pipe whose (nat_lt (length pipe.triggers) 4096)
+  give_to_leaves u ten at q x hand (Some pipe) whose = give_by u ten at q x hand pipe whose
 
   give_from_leaves : (u : ℕ) (ten : TenantState) → slice_get state.tenants u ≡ Some ten → (hand : List (PipelineId × PipelineItem)) → Leaves (record state { tenants = slice_set state.tenants u (give_from hand ten).0 })
   give_from_leaves u ten at [] = keeps u ten ten at refl

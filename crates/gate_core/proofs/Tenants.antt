@@ -1,18 +1,21 @@
 -- Steps of a tenant at work, by what its dispatch and one of its pipelines do.
-use Rattle.std.proofs.Common.{◌≡◌, ◌∙◌, sym, ap, refl, subst, ℕ, List, [], ◌∷◌, true, false, length, nat_lt, Option, Some, None, Result, Ok, Err, slice_set}
+use Rattle.std.proofs.Common.{◌≡◌, ◌∙◌, sym, ap, refl, subst, ℕ, ◌+◌, ◌-◌, ◌≤◌, ◌==◌, List, [], ◌∷◌, ◌++◌, Bool, true, false, length, take, drop, Option, Some, None, Result, Ok, Err, slice_set, append-nil, append_assoc, arith, if◌then◌else◌}
 use Rattle.std.specs.Prelude.{slice_get}
+use Rattle.std.proofs.Math.Seq.{take-add}
+use Rattle.std.proofs.lemmas.List.{drop-drop, length-append}
+use Rattle.gate_record.specs.declared.transit.TenantItem.{TenantItem}
+use Rattle.gate_tenant.specs.declared.TheConstants.{MAX_GATHERED}
 use Rattle.gate_record.specs.declared.memory.Memory.{Memory}
 use Rattle.gate_record.specs.declared.ids.PipelineId.{PipelineId}
 use Rattle.gate_record.specs.declared.transit.PipelineItem.{PipelineItem}
-use Rattle.gate_tenant.specs.States.{State as DispatchState, moved_out, put_back}
+use Rattle.gate_tenant.specs.States.{State as DispatchState, moved_out, put_back, room_of}
 use Rattle.gate_config.specs.declared.config.Config.{Config}
 use Rattle.gate_core.specs.declared.answer.Answer.{Answer}
-use Rattle.gate_core.specs.declared.answer.Answer.TheVariants.{Full, Moved}
+use Rattle.gate_core.specs.declared.answer.Answer.TheVariants.{Moved}
 use Rattle.gate_core.specs.declared.pipeline.Pipeline.{Pipeline}
-use Rattle.gate_core.specs.declared.TheConstants.{PLACES}
 use Rattle.gate_core.specs.Answers.{Does, Changes}
 use Rattle.gate_core.specs.Pipelines.{refused, turned}
-use Rattle.gate_core.specs.States.{TenantState}
+use Rattle.gate_core.specs.States.{TenantState, with_gathered}
 use Rattle.gate_core.specs.Steps.{give, give_from, give_to, on_pipeline, refused_turn, with_item, with_pipeline, with_refused}
 use Rattle.gate_core.proofs.Elements.{written_back}
 
@@ -38,6 +41,29 @@ turns config p tenant pipeline new (Err memory) e does = (
   ap (λ x. with_pipelines tenant (slice_set tenant.pipelines p x)) does.0 ∙ sym (ap (λ o. with_refused p o tenant) e),
   subst Changes (sym (ap (λ o. (with_pipeline (turned config) p o tenant).1) e)) does.1,
 )
+
+-- ---- items are gathered
+
+-- none
+pub none_gathered : (tenant : TenantState) → tenant ≡ with_gathered 0 tenant
+none_gathered tenant = ap (λ items. record tenant { dispatch = record tenant.dispatch { gathered = items } }) (sym (append-nil tenant.dispatch.gathered))
+
+-- one more
+pub one_more : (n : ℕ) (tenant : TenantState) → with_gathered 1 (with_gathered n tenant) ≡ with_gathered (n + 1) tenant
+one_more n tenant =
+    let gathered = append_assoc tenant.dispatch.gathered (take n tenant.queue) (take 1 (drop n tenant.queue)) ∙ ap (λ items. tenant.dispatch.gathered ++ items) (sym (take-add n 1 tenant.queue)) in
+    λ i. record tenant { queue = drop-drop 1 n tenant.queue i; dispatch = record tenant.dispatch { gathered = gathered i } }
+
+-- these leave room for so many others
+pub room_after : (dispatch : DispatchState) (items : List TenantItem) (n : ℕ) → length items + n ≤ room_of dispatch → n ≤ room_of (record dispatch { gathered = dispatch.gathered ++ items })
+room_after dispatch items n room = by (length dispatch.items == 0) room
+  where
+    more : length (dispatch.gathered ++ items) ≡ length dispatch.gathered + length items
+    more = length-append dispatch.gathered items
+
+    by : (empty : Bool) → length items + n ≤ (if empty then MAX_GATHERED - length dispatch.gathered else 0) → n ≤ (if empty then MAX_GATHERED - length (dispatch.gathered ++ items) else 0)
+    by true room' = omega (arith, more, room')
+    by false room' = omega (arith, room')
 
 -- what is known once the first item of the hand is out
 pub record IsOut (old new : DispatchState) (first : PipelineId × PipelineItem) : Type 0 where
@@ -73,14 +99,6 @@ went old new first out = ap (λ (s : DispatchState). record s { out = None }) ou
 
 module _ (tenant : TenantState) (new : DispatchState) (first : PipelineId × PipelineItem) (out : IsOut tenant.dispatch new first)
     (pipeline : Pipeline) (at : slice_get tenant.pipelines first.0.0 ≡ Some pipeline) where
-  giving : give tenant ≡ give_to first.0 first.1 new.items (Some pipeline) tenant
-  giving = ap (λ xs. give_from xs tenant) out.items ∙ ap (λ o. give_to first.0 first.1 new.items o tenant) at
-
-  -- the pipeline's queue is full
-  pub gives_full : nat_lt (length pipeline.triggers) PLACES ≡ false → give tenant ≡ (tenant, Full)
-  gives_full full = giving ∙ rw full
-
   -- the pipeline gets it
-  pub gives : nat_lt (length pipeline.triggers) PLACES ≡ true →
-      give tenant ≡ (record tenant { dispatch = record tenant.dispatch { items = new.items; out = None }; pipelines = slice_set tenant.pipelines first.0.0 (with_item pipeline first.1) }, Moved)
-  gives room = giving ∙ rw room
+  pub gives : give tenant ≡ (record tenant { dispatch = record tenant.dispatch { items = new.items; out = None }; pipelines = slice_set tenant.pipelines first.0.0 (with_item pipeline first.1) }, Moved)
+  gives = ap (λ xs. give_from xs tenant) out.items ∙ ap (λ o. give_to first.0 first.1 new.items o tenant) at

@@ -1,22 +1,23 @@
 -- The steps of a tenant keep what holds.
-use Rattle.std.proofs.Common.{◌≡◌, ◌∙◌, refl, sym, ap, subst, ℕ, ◌<◌, ◌==◌, List, [], ◌∷◌, ◌++◌, false, length, Option, Some, None, slice_set, if◌then◌else◌, append_assoc}
-use Rattle.std.specs.Prelude.{slice_get, is_some, unwrap_or}
+use Rattle.std.proofs.Common.{◌≡◌, ◌∙◌, refl, sym, ap, subst, ℕ, zero, suc, ◌+◌, ◌-◌, ◌<◌, ◌≤◌, ◌==◌, List, [], ◌∷◌, ◌++◌, Bool, true, false, length, take, drop, Option, Some, None, slice_set, if◌then◌else◌, append_assoc, append-nil, arith}
+use Rattle.std.specs.Prelude.{min, slice_get, is_some, unwrap_or}
 use Rattle.std.specs.List.{filter}
 use Rattle.std.specs.Option.{option_to_list}
-use Rattle.std.proofs.lemmas.List.{length-set}
+use Rattle.std.proofs.lemmas.List.{length-append, length-set, length-take, take-append-drop}
+use Rattle.std.proofs.Math.Nat.{min-le_left}
 use Rattle.gate_record.specs.declared.ids.PipelineId.{PipelineId}
 use Rattle.gate_record.specs.declared.transit.TenantItem.{TenantItem}
 use Rattle.gate_record.specs.declared.transit.PipelineItem.{PipelineItem}
 use Rattle.gate_config.specs.declared.config.Config.{Config}
 use Rattle.gate_forward.specs.Forwarding.{forwarded}
 use Rattle.gate_forward.specs.Histories.{items_to}
-use Rattle.gate_tenant.specs.Histories.{gathers, gives, item_for, items_for, matches, moves}
+use Rattle.gate_tenant.specs.Histories.{History as Past, Happens, gathers, gives, item_for, items_for, matches, moves}
 use Rattle.gate_tenant.specs.States.{State as DispatchState, has_ended, matched, room_of}
 use Rattle.gate_core.specs.declared.answer.Answer.{Answer}
 use Rattle.gate_core.specs.declared.pipeline.Pipeline.{Pipeline}
 use Rattle.gate_core.specs.declared.step.Step.{Step}
 use Rattle.gate_core.specs.History.{History, finished, turned}
-use Rattle.gate_core.specs.States.{TenantState, State}
+use Rattle.gate_core.specs.States.{TenantState, State, with_gathered}
 use Rattle.gate_core.specs.Steps.{with_item}
 use Rattle.gate_tenant.specs.Dispatching.{is_from}
 use Rattle.gate_core.proofs.Arrivals.{same_as_itself}
@@ -24,6 +25,7 @@ use Rattle.gate_core.proofs.Fits.{fits_given, fits_still}
 use Rattle.gate_core.proofs.Maps.{filter_map_push, filter_map_still}
 use Rattle.gate_core.proofs.Sendings.{differs}
 use Rattle.gate_core.proofs.Spots.{AfterSet, after_set, another, it}
+use Rattle.gate_core.proofs.Tenants.{room_after}
 use Rattle.gate_core.proofs.Streams.{ConnSame, Holds, PipeHolds, PipeSame, TenantHolds, conn_same, hand_of, pipe_of, pipe_same, put_same, queue_of, tenant_same}
 
 pub the_same : {X : Type 0} (x y : X) → Some x ≡ Some y → x ≡ y
@@ -60,6 +62,30 @@ module _ (config : Config) (h h' : History) (state : State) (t0 : ℕ) (ten ten'
     others = λ t p none'. none_goes t p (after_set state.tenants t0 t ten ten' at) none' none holds;
   }
 
+-- ---- several items are gathered
+
+abbrev gathering : List TenantItem → Past → Past
+gathering items past = record past { state = record past.state { gathered = past.state.gathered ++ items }; taken = past.taken ++ items }
+
+gathers_all : (config : Config) (t : ℕ) (items : List TenantItem) (past : Past) → Happens config t past → past.out ≡ None → length items ≤ room_of past.state → has_ended config t past.state ≡ false → Happens config t (gathering items past)
+gathers_all config t [] past happens out room goes_on =
+    subst (Happens config t) (λ i. record past { state = record past.state { gathered = sym (append-nil past.state.gathered) i }; taken = sym (append-nil past.taken) i }) happens
+gathers_all config t (item ∷ items) past happens out room goes_on =
+    subst (Happens config t) (λ i. record past { state = record past.state { gathered = append_assoc past.state.gathered (item ∷ []) items i }; taken = append_assoc past.taken (item ∷ []) items i })
+    (gathers_all config t items (gathering (item ∷ []) past) (gathers item happens out (some_room (length items) (room_of past.state) room) goes_on) out (room_after past.state (item ∷ []) (length items) (one_of (length items) (room_of past.state) room)) goes_on)
+  where
+    some_room : (n m : ℕ) → suc n ≤ m → 0 < m
+    some_room n m e = omega (arith, e)
+
+    one_of : (n m : ℕ) → suc n ≤ m → 1 + n ≤ m
+    one_of n m e = omega (arith, e)
+
+within : (n : ℕ) (items : List TenantItem) (room : ℕ) → n ≤ room → length (take n items) ≤ room
+within n items room low =
+    let few : length (take n items) ≡ min n (length items) = length-take n items in
+    let less : min n (length items) ≤ n = min-le_left n (length items) in
+    omega (arith, low, few, less)
+
 -- a step of a tenant by which its pipelines process nothing
 abbrev IsInside : Step → Answer → Type 0
 IsInside s a = (h : History) → ((c : ℕ) → ConnSame c h (h ++ (s, a) ∷ [])) × ((t p : ℕ) → PipeSame t p h (h ++ (s, a) ∷ []))
@@ -81,21 +107,23 @@ module _ (config : Config) (h : History) (state : State) (s : Step) (a : Answer)
       let old = none_before config h state t ten at holds q (subst (λ ps. is_some (slice_get ps q) ≡ false) same none) in
       (((inside h).1 t q).turns ∙ old.0, ((inside h).1 t q).finishes ∙ old.1)) holds
 
-  pub fetched_holds : (item : TenantItem) (queue : List TenantItem) → ten.queue ≡ item ∷ queue → 0 < room_of ten.dispatch → has_ended config t ten.dispatch ≡ false → Holds config h state →
-      Holds config h1 (record state { tenants = slice_set state.tenants t (record ten { queue = queue; dispatch = record ten.dispatch { gathered = ten.dispatch.gathered ++ item ∷ [] } }) })
-  fetched_holds item queue front room goes_on holds =
+  pub fetched_holds : (n : ℕ) → n ≤ room_of ten.dispatch → has_ended config t ten.dispatch ≡ false → Holds config h state →
+      Holds config h1 (record state { tenants = slice_set state.tenants t (with_gathered n ten) })
+  fetched_holds n room goes_on holds =
       let old = holds.tenants t ten at in
-      dispatch_goes (record ten { queue = queue; dispatch = record ten.dispatch { gathered = ten.dispatch.gathered ++ item ∷ [] } }) refl
+      let items = take n ten.queue in
+      dispatch_goes (with_gathered n ten) refl
       (record {
-        past = record old.past { state = record old.past.state { gathered = old.past.state.gathered ++ item ∷ [] }; taken = old.past.taken ++ item ∷ [] };
-        happens = gathers item old.happens old.in_hand (subst (λ (d : DispatchState). 0 < room_of d) (sym old.now) room) (subst (λ (d : DispatchState). has_ended config t d ≡ false) (sym old.now) goes_on);
-        now = ap (λ (d : DispatchState). record d { gathered = d.gathered ++ item ∷ [] }) old.now;
+        past = gathering items old.past;
+        happens = gathers_all config t items old.past old.happens old.in_hand (subst (λ (d : DispatchState). length items ≤ room_of d) (sym old.now) (within n ten.queue (room_of ten.dispatch) room))
+            (subst (λ (d : DispatchState). has_ended config t d ≡ false) (sym old.now) goes_on);
+        now = ap (λ (d : DispatchState). record d { gathered = d.gathered ++ items }) old.now;
         in_hand = old.in_hand;
         count = old.count;
         pipes = λ p pipe there. pipe_same config h h1 t p old.past.given pipe ((inside h).1 t p) (old.pipes p pipe there);
         ways = λ c.
             ap (λ xs. filter (is_from c) xs ++ (items_to t (hand_of (slice_get state.connections c)) ++ forwarded config t c (queue_of (slice_get state.connections c))))
-            (append_assoc old.past.taken (item ∷ []) queue ∙ ap (λ xs. old.past.taken ++ xs) (sym front))
+            (append_assoc old.past.taken items (drop n ten.queue) ∙ ap (λ xs. old.past.taken ++ xs) (take-append-drop n ten.queue))
             ∙ old.ways c ∙ ap (forwarded config t c) (put_same c h h1 ((inside h).0 c));
       }) holds
 

@@ -1,5 +1,5 @@
 -- What moves in a world, as plain lists.
-use Rattle.std.specs.Prelude.{ℕ, List, Bool, Option, option_and_then, option_map, slice_get}
+use Rattle.std.specs.Prelude.{ℕ, List, ◌++◌, Bool, Option, drop, option_and_then, option_map, slice_get, take}
 use Rattle.gate_record.specs.declared.ids.TenantId.{TenantId}
 use Rattle.gate_record.specs.declared.transit.ConnEntry.{ConnEntry}
 use Rattle.gate_record.specs.declared.transit.TenantItem.{TenantItem}
@@ -20,6 +20,10 @@ pub record TenantState : Type 0 where
   pub queue : List TenantItem
   pub dispatch : DispatchState
   pub pipelines : List Pipeline
+
+-- the first n items of its queue are gathered
+abbrev pub with_gathered : ℕ → TenantState → TenantState
+with_gathered n tenant = record tenant { queue = drop n tenant.queue; dispatch = record tenant.dispatch { gathered = tenant.dispatch.gathered ++ take n tenant.queue } }
 
 -- the connections and the tenants by number
 pub record State : Type 0 where

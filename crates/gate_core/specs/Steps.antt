@@ -1,6 +1,6 @@
 -- The state after a step, and what the step answers: the core as a machine over plain lists, with any number of
 -- connections, tenants and pipelines.
-use Rattle.std.specs.Prelude.{ℕ, ◌+◌, ◌==◌, ◌&&◌, List, [], ◌∷◌, ◌++◌, Bool, true, false, not, nat_lt, length, map, Option, Some, None, slice_get, slice_set, if◌then◌else◌}
+use Rattle.std.specs.Prelude.{ℕ, ◌+◌, ◌==◌, List, [], ◌∷◌, ◌++◌, true, false, nat_lt, min, length, map, Option, Some, None, slice_get, slice_set, if◌then◌else◌}
 use Rattle.std.specs.List.{range_with_len}
 use Rattle.gate_record.specs.declared.ids.PipelineId.{PipelineId}
 use Rattle.gate_record.specs.declared.ids.TenantId.{TenantId}
@@ -20,7 +20,7 @@ use Rattle.gate_core.specs.declared.step.Step.{Step}
 use Rattle.gate_core.specs.declared.step.Step.TheVariants as step
 use Rattle.gate_core.specs.declared.TheConstants.{PLACES}
 use Rattle.gate_core.specs.Pipelines.{fresh_pipeline, post_manage, post_result, refused, turned}
-use Rattle.gate_core.specs.States.{ConnectionState, TenantState, State}
+use Rattle.gate_core.specs.States.{ConnectionState, TenantState, State, with_gathered}
 
 -- ---- the state in which nothing was offered yet
 
@@ -61,18 +61,16 @@ take config c conn = take_from config c conn.hand conn.queue conn
 
 -- ---- steps of a tenant
 
--- the tenant may gather one more item: its hand is empty, the batch isn't whole, and not all of its end marks were matched
-abbrev pub may_gather : Config → ℕ → TenantState → Bool
-may_gather config t tenant = nat_lt 0 (room_of tenant.dispatch) && not (has_ended config t tenant.dispatch)
+-- how many items a fetch of `count` gathers: as many as wait, and as there is room for; none once all end marks were matched
+abbrev pub fetched : Config → ℕ → ℕ → TenantState → ℕ
+fetched config t count tenant = if has_ended config t tenant.dispatch then 0 else min (min count (room_of tenant.dispatch)) (length tenant.queue)
 
--- with these in the queue
-abbrev pub fetch_from : List TenantItem → TenantState → TenantState × Answer
-fetch_from [] tenant = (tenant, Idle)
-fetch_from (item ∷ queue) tenant = (record tenant { queue = queue; dispatch = record tenant.dispatch { gathered = tenant.dispatch.gathered ++ item ∷ [] } }, Moved)
+-- where so many are gathered
+abbrev pub fetch_first : ℕ → TenantState → TenantState × Answer
+fetch_first n tenant = if n == 0 then (tenant, Idle) else (with_gathered n tenant, Moved)
 
--- one item is fetched at a time, for now
 abbrev pub fetch : Config → ℕ → ℕ → TenantState → TenantState × Answer
-fetch config t count tenant = if (count == 1) && may_gather config t tenant then fetch_from tenant.queue tenant else (tenant, Idle)
+fetch config t count tenant = fetch_first (fetched config t count tenant) tenant
 
 -- with these gathered
 abbrev pub match_from : Config → ℕ → List TenantItem → TenantState → TenantState × Answer
@@ -90,9 +88,7 @@ with_item pipeline item = record pipeline { triggers = pipeline.triggers ++ item
 abbrev pub give_to : PipelineId → PipelineItem → List (PipelineId × PipelineItem) → Option Pipeline → TenantState → TenantState × Answer
 give_to p item hand None tenant = (tenant, Idle)
 give_to p item hand (Some pipeline) tenant =
-    if nat_lt (length pipeline.triggers) PLACES
-    then (record tenant { dispatch = record tenant.dispatch { items = hand; out = None }; pipelines = slice_set tenant.pipelines p.0 (with_item pipeline item) }, Moved)
-    else (tenant, Full)
+    (record tenant { dispatch = record tenant.dispatch { items = hand; out = None }; pipelines = slice_set tenant.pipelines p.0 (with_item pipeline item) }, Moved)
 
 -- with these in the hand
 abbrev pub give_from : List (PipelineId × PipelineItem) → TenantState → TenantState × Answer
@@ -138,9 +134,7 @@ on_tenant move t state = with_tenant move t (slice_get state.tenants t) state
 abbrev pub send_to : ℕ → ConnectionState → ℕ → TenantItem → List (TenantId × TenantItem) → Option TenantState → State → State × Answer
 send_to c conn t item hand None state = (state, Idle)
 send_to c conn t item hand (Some tenant) state =
-    if nat_lt (length tenant.queue) PLACES
-    then (record { connections = slice_set state.connections c (record conn { hand = hand }); tenants = slice_set state.tenants t (record tenant { queue = tenant.queue ++ item ∷ [] }) }, Moved)
-    else (state, Full)
+    (record { connections = slice_set state.connections c (record conn { hand = hand }); tenants = slice_set state.tenants t (record tenant { queue = tenant.queue ++ item ∷ [] }) }, Moved)
 
 -- with these in the forwarder's hand
 abbrev pub send_from : ℕ → ConnectionState → List (TenantId × TenantItem) → State → State × Answer

@@ -10,7 +10,7 @@ use gate_pipeline::{Pipeline as Worker, Taken, Which};
 use gate_record::{Memory, PipelineId, PipelineItem, Queue, TenantId};
 use std::alloc::Global;
 
-/// A pipeline at work: what waits for it, at most 4,096 values of each kind, and its worker.
+/// A pipeline at work: what waits for it, of management events and of results at most 4,096 each, and its worker.
 #[derive(Drop)]
 pub struct Pipeline {
     /// The queue of management events.

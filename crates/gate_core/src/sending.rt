@@ -5,11 +5,11 @@ ghost use Rattle.gate_core.specs.Views.{AreTenants, config_of_connection, connec
 
 use crate::answer::Answer;
 use crate::connection::Connection;
-use crate::tenant::{Tenant, Unput};
+use crate::tenant::Tenant;
 use gate_record::Memory;
 
-/// Sends the next item of a connection's forwarder to the tenant that is to get it: `Full` where 4,096 items wait there.
-/// Where memory is refused, all is as before.
+/// Sends the next item of a connection's forwarder to the tenant that is to get it. Where memory is refused, all is as
+/// before.
 pub(crate) fn send<'c>(
     connection: &mut Connection<'c>,
     tenants: &mut Vec<Tenant<'c>>,
@@ -32,12 +32,8 @@ pub(crate) fn send<'c>(
                 connection.forward.sent();
                 Ok(Answer::Moved)
             }
-            Err(Unput::Full(item)) => {
-                connection.forward.unsent(item);
-                Ok(Answer::Full)
-            }
-            Err(Unput::Memory(item)) => {
-                connection.forward.unsent(item);
+            Err(refused) => {
+                connection.forward.unsent(refused.value);
                 Err(Memory)
             }
         },

@@ -1,21 +1,19 @@
-ghost use Rattle.std.specs.Prelude.{◌≡◌, ◌∷◌, ◌++◌, [], IfOk, None, MatchResult};
-ghost use Rattle.gate_core.specs.declared.TheConstants.{PLACES};
-ghost use Rattle.gate_tenant.specs.States.{state_of};
+ghost use Rattle.std.specs.Prelude.{◌≡◌, ◌<◌, ◌≤◌, ◌+◌, ◌∷◌, ◌++◌, [], false, IfErr, IfOk, None, OnOk};
+ghost use Rattle.gate_tenant.specs.States.{has_ended, reserved_of, room_of, state_of};
 
-use crate::PLACES;
 use crate::answer::Answer;
 use crate::pipeline::Pipeline;
 use gate_config::Config;
 use gate_items::{JobResult, Manage};
 use gate_record::{Memory, PipelineId, TenantId, TenantItem};
 use gate_tenant::Dispatch;
-use std::alloc::Global;
+use std::alloc::{AllocFailed, Global};
 use std::collections::VecDeque;
 
 /// A tenant at work: its queue, the dispatch of its worker, and its pipelines by number.
 #[derive(Drop)]
 pub struct Tenant<'c> {
-    /// What waits for the worker, at most 4,096 items.
+    /// What waits for the worker.
     pub queue: VecDeque<TenantItem>,
     /// What the worker gathered, and what was matched and waits to be given.
     pub dispatch: Dispatch<'c>,
@@ -25,22 +23,13 @@ pub struct Tenant<'c> {
     pub ghost in_hand: { (state_of dispatch).out ≡ None },
 }
 
-/// An item that wasn't put into a tenant's queue.
-#[derive(Drop)]
-pub enum Unput {
-    /// The queue has 4,096 items.
-    Full(TenantItem),
-    /// Memory was refused.
-    Memory(TenantItem),
-}
-
 impl<'c> Tenant<'c> {
     ghost use Rattle.std.specs.Prelude.{OnErr};
     ghost use Rattle.gate_core.specs.Answers.{Does};
     ghost use Rattle.gate_core.specs.Needs.{TenantTurnNeeds};
     ghost use Rattle.gate_core.specs.Steps.{new_tenant, fetch, match_gathered, give, on_pipeline, refused_turn};
+    ghost use Rattle.gate_core.specs.States.{with_gathered};
     ghost use Rattle.gate_core.specs.Pipelines.{post_manage, post_result, turned};
-    ghost use Rattle.gate_core.specs.Sends.{Puts};
     ghost use Rattle.gate_core.specs.Views.{tenant_view, config_of_tenant, number_of_tenant};
 
     /// The tenant of this number before anything came. `Memory` where its pipelines, or the end marks of a tenant that
@@ -58,41 +47,56 @@ impl<'c> Tenant<'c> {
         })
     }
 
-    /// Puts an item at the back of the queue. An item that isn't put comes back, and all is as before.
-    pub fn put(&mut self, item: TenantItem) -> Result<(), Unput>
+    /// Puts an item at the back of the queue. Where memory is refused the item comes back, and all is as before.
+    pub fn put(&mut self, item: TenantItem) -> Result<(), AllocFailed<TenantItem>>
         ensures config { config_of_tenant self.new ≡ config_of_tenant self.old }
         ensures number { number_of_tenant self.new ≡ number_of_tenant self.old }
-        ensures puts { Puts (tenant_view self.old) item (tenant_view self.new) result }
+        ensures puts { OnOk result (tenant_view self.new ≡ record (tenant_view self.old) { queue = (tenant_view self.old).queue ++ item ∷ [] }) }
+        ensures refused { IfErr result (λ refused. (tenant_view self.new ≡ tenant_view self.old) × (refused.value ≡ item)) }
     {
-        if self.queue.len() >= PLACES {
-            return Err(Unput::Full(item));
-        }
-        match self.queue.push_back(item) {
-            Ok(()) => Ok(()),
-            Err(refused) => Err(Unput::Memory(refused.value)),
-        }
+        self.queue.push_back(item)
     }
 
-    /// Gathers the next item of the queue, where the dispatch has room and goes on. Only one item at a time is fetched for
-    /// now. Where memory is refused, all is as before, as in each step.
+    /// Gathers the next items of the queue: as many as are asked for and wait, and as the dispatch has room for, where it
+    /// goes on. Where memory is refused, all is as before, as in each step.
     pub fn fetch(&mut self, count: u32) -> Result<Answer, Memory>
         ensures config { config_of_tenant self.new ≡ config_of_tenant self.old }
         ensures number { number_of_tenant self.new ≡ number_of_tenant self.old }
         ensures does { Does (tenant_view self.old) (fetch (config_of_tenant self.old) (number_of_tenant self.old) count (tenant_view self.old)) (tenant_view self.new) result }
     {
-        if count != 1 || self.dispatch.room() == 0 || self.dispatch.ended() {
+        if self.dispatch.ended() {
             return Ok(Answer::Idle);
         }
+        let count = (count as usize)
+            .min(self.dispatch.room())
+            .min(self.queue.len());
+        if count == 0 {
+            return Ok(Answer::Idle);
+        }
+        self.dispatch.make_room(count)?;
+        for _fetched in 0..count {
+            self.gather_next();
+        }
+        Ok(Answer::Moved)
+    }
+
+    // Gathers the next item of the queue, for which room was made.
+    fn gather_next(&mut self)
+        requires waits { 0 < length (tenant_view self.old).queue }
+        requires room { 0 < room_of (tenant_view self.old).dispatch }
+        requires goes_on { has_ended (config_of_tenant self.old) (number_of_tenant self.old) (tenant_view self.old).dispatch ≡ false }
+        requires reserved { 0 < reserved_of self.old.dispatch }
+        ensures config { config_of_tenant self.new ≡ config_of_tenant self.old }
+        ensures number { number_of_tenant self.new ≡ number_of_tenant self.old }
+        ensures gathers { tenant_view self.new ≡ with_gathered 1 (tenant_view self.old) }
+        ensures uses { reserved_of self.old.dispatch ≤ reserved_of self.new.dispatch + 1 }
+    {
         let Some(item) = self.queue.pop_front() else {
-            return Ok(Answer::Idle);
+            unreachable!()
         };
-        match self.dispatch.gather(item) {
-            Ok(()) => Ok(Answer::Moved),
-            Err(refused) => {
-                self.queue.push_front_reserved(refused.value);
-                Err(Memory)
-            }
-        }
+        let Ok(()) = self.dispatch.gather(item) else {
+            unreachable!()
+        };
     }
 
     /// Matches what is gathered against the rules of the pipelines.
@@ -108,7 +112,7 @@ impl<'c> Tenant<'c> {
         Ok(Answer::Moved)
     }
 
-    /// Gives the next matched item to its pipeline: `Full` where 4,096 values wait there.
+    /// Gives the next matched item to its pipeline.
     pub fn give(&mut self) -> Result<Answer, Memory>
         ensures config { config_of_tenant self.new ≡ config_of_tenant self.old }
         ensures number { number_of_tenant self.new ≡ number_of_tenant self.old }
@@ -121,10 +125,6 @@ impl<'c> Tenant<'c> {
             None => {
                 self.dispatch.ungiven(item);
                 Ok(Answer::Idle)
-            }
-            Some(worker) if worker.triggers.len() >= PLACES => {
-                self.dispatch.ungiven(item);
-                Ok(Answer::Full)
             }
             Some(worker) => match worker.triggers.push(item) {
                 Ok(()) => {

@@ -1,13 +1,12 @@
-use Rattle.std.proofs.Common.{◌∙◌, ap, refl, map, slice_set, subst, Err}
+use Rattle.std.proofs.Common.{◌∙◌, ap, refl, map, slice_set}
 use Rattle.std.proofs.lemmas.List.{map-set}
 use Rattle.std.proofs.lemmas.Option.{slice_get_past}
 use Rattle.gate_record.specs.declared.ids.TenantId.{TenantId}
 use Rattle.gate_record.specs.declared.transit.TenantItem.{TenantItem}
 use Rattle.gate_forward.specs.Hands.{Hand, hand_of, put_back}
-use Rattle.gate_core.specs.Sends.{Puts}
 use Rattle.gate_core.specs.Views.{IsTenant, connection_view, tenant_view}
 use Rattle.gate_core.proofs.Elements.{each_set, lent, seen, seen_same, unseen}
-use Rattle.gate_core.proofs.Hands.{came_back, finds_full, is_out, refuses, sends_item, sends_nothing, sends_nowhere, was_empty}
+use Rattle.gate_core.proofs.Hands.{came_back, is_out, refuses, sends_item, sends_nothing, sends_nowhere, was_empty}
 use Rattle.gate_core.proofs.sending.send.Goals as goal
 
 pub returns-in_default-clause-does : goal.returns-in_default-clause-does
@@ -51,21 +50,20 @@ returns-in-Ok-clause-does c =
     let worker = c.in-Some-get_mut.worker.now in
     let item = c.in-Some-get_mut.ensures.item in
     let at = lent tenants first.0.0 worker item.3.0 item.1 in
-    let puts = c.in-Ok.ensures.puts in
-    sends_item conn _ (map tenant_view tenants) _ first new.items out.items (tenant_view worker) (seen tenant_view tenants first.0.0 worker at) puts.0
+    sends_item conn _ (map tenant_view tenants) _ first new.items out.items (tenant_view worker) (seen tenant_view tenants first.0.0 worker at)
     (ap (λ (h : Hand). record conn { hand = h.items }) c.sent.ensures.closes)
-    (map-set tenant_view tenants first.0.0 c.put.new.self ∙ ap (slice_set (map tenant_view tenants) first.0.0) puts.1)
+    (map-set tenant_view tenants first.0.0 c.put.new.self ∙ ap (slice_set (map tenant_view tenants) first.0.0) c.in-Ok.ensures.puts)
 
-pub returns-in-Err-Full-clause-tenants : goal.returns-in-Err-Full-clause-tenants
-returns-in-Err-Full-clause-tenants c config all =
+pub returns-in-Err-clause-tenants : goal.returns-in-Err-clause-tenants
+returns-in-Err-clause-tenants c config all =
     let tenants = c.args.tenants.now.items in
     let item = c.in-Some-get_mut.ensures.item in
     let at = lent tenants c.in-Some.tenant.0 c.in-Some-get_mut.worker.now item.3.0 item.1 in
     let was = all c.in-Some.tenant.0 c.in-Some-get_mut.worker.now at in
-    each_set (IsTenant config) tenants c.in-Some.tenant.0 c.in-Some-get_mut.worker.now c.put.new.self at all (c.in-Err-Full.ensures.config ∙ was.0, c.in-Err-Full.ensures.number ∙ was.1)
+    each_set (IsTenant config) tenants c.in-Some.tenant.0 c.in-Some-get_mut.worker.now c.put.new.self at all (c.in-Err.ensures.config ∙ was.0, c.in-Err.ensures.number ∙ was.1)
 
-pub returns-in-Err-Full-clause-does : goal.returns-in-Err-Full-clause-does
-returns-in-Err-Full-clause-does c =
+pub returns-in-Err-clause-does : goal.returns-in-Err-clause-does
+returns-in-Err-clause-does c =
     let conn = connection_view c.args.connection.now in
     let tenants = c.args.tenants.now.items in
     let old = hand_of c.args.connection.now.forward in
@@ -75,31 +73,7 @@ returns-in-Err-Full-clause-does c =
     let worker = c.in-Some-get_mut.worker.now in
     let item = c.in-Some-get_mut.ensures.item in
     let at = lent tenants first.0.0 worker item.3.0 item.1 in
-    let puts = subst (λ unput. Puts (tenant_view worker) first.1 (tenant_view c.put.new.self) (Err unput)) c.in-Err-Full.field-0-is c.in-Err-Full.ensures.puts in
-    let back = came_back old new (hand_of c.unsent-in-Err-Full.new.self) first out (c.unsent-in-Err-Full.ensures.fills ∙ ap (λ i. put_back i new.out new) puts.2) in
-    finds_full conn _ (map tenant_view tenants) _ first new.items out.items (tenant_view worker) (seen tenant_view tenants first.0.0 worker at) puts.0
-    (ap (λ items. record conn { hand = items }) back) (seen_same tenant_view tenants first.0.0 worker c.put.new.self at puts.1)
-
-pub returns-in-Err-Memory-clause-tenants : goal.returns-in-Err-Memory-clause-tenants
-returns-in-Err-Memory-clause-tenants c config all =
-    let tenants = c.args.tenants.now.items in
-    let item = c.in-Some-get_mut.ensures.item in
-    let at = lent tenants c.in-Some.tenant.0 c.in-Some-get_mut.worker.now item.3.0 item.1 in
-    let was = all c.in-Some.tenant.0 c.in-Some-get_mut.worker.now at in
-    each_set (IsTenant config) tenants c.in-Some.tenant.0 c.in-Some-get_mut.worker.now c.put.new.self at all (c.in-Err-Memory.ensures.config ∙ was.0, c.in-Err-Memory.ensures.number ∙ was.1)
-
-pub returns-in-Err-Memory-clause-does : goal.returns-in-Err-Memory-clause-does
-returns-in-Err-Memory-clause-does c =
-    let conn = connection_view c.args.connection.now in
-    let tenants = c.args.tenants.now.items in
-    let old = hand_of c.args.connection.now.forward in
-    let new = hand_of c.next.new.self in
-    let first : TenantId × TenantItem = (c.in-Some.tenant, c.in-Some.item) in
-    let out = is_out old new first c.in-Some.ensures.moves in
-    let worker = c.in-Some-get_mut.worker.now in
-    let item = c.in-Some-get_mut.ensures.item in
-    let at = lent tenants first.0.0 worker item.3.0 item.1 in
-    let puts = subst (λ unput. Puts (tenant_view worker) first.1 (tenant_view c.put.new.self) (Err unput)) c.in-Err-Memory.field-0-is c.in-Err-Memory.ensures.puts in
-    let back = came_back old new (hand_of c.unsent-in-Err-Memory.new.self) first out (c.unsent-in-Err-Memory.ensures.fills ∙ ap (λ i. put_back i new.out new) puts.2) in
-    refuses conn _ (map tenant_view tenants) _ first new.items out.items _ (tenant_view worker) (seen tenant_view tenants first.0.0 worker at) puts.0
-    (ap (λ items. record conn { hand = items }) back) (seen_same tenant_view tenants first.0.0 worker c.put.new.self at puts.1)
+    let refused = c.in-Err.ensures.refused in
+    let back = came_back old new (hand_of c.unsent-in-Err.new.self) first out (c.unsent-in-Err.ensures.fills ∙ ap (λ i. put_back i new.out new) refused.1) in
+    refuses conn _ (map tenant_view tenants) _ first new.items out.items _ (tenant_view worker) (seen tenant_view tenants first.0.0 worker at)
+    (ap (λ items. record conn { hand = items }) back) (seen_same tenant_view tenants first.0.0 worker c.put.new.self at refused.0)
