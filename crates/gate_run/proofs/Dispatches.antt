@@ -1,5 +1,5 @@
 -- What the steps of a tenant's worker keep.
-use Rattle.std.proofs.Common.{◌≡◌, ◌∙◌, refl, sym, ap, subst, ℕ, ◌<◌, ◌==◌, List, [], ◌∷◌, ◌++◌, Bool, true, false, length, map, slice_index_or, Option, Some, None, if◌then◌else◌, append-nil, append_assoc}
+use Rattle.std.proofs.Common.{◌≡◌, ◌∙◌, refl, sym, ap, subst, ℕ, suc, ◌+◌, ◌-◌, ◌<◌, ◌≤◌, ◌==◌, arith, List, [], ◌∷◌, ◌++◌, Bool, true, false, length, map, slice_index_or, Option, Some, None, if◌then◌else◌}
 use Rattle.std.specs.List.{cons_option}
 use Rattle.std.specs.Option.{option_to_list}
 use Rattle.std.proofs.lemmas.List.Elements.{filter_map-append}
@@ -8,26 +8,25 @@ use Rattle.gate_record.specs.declared.transit.PipelineItem.{PipelineItem}
 use Rattle.gate_record.specs.declared.transit.TenantItem.{TenantItem}
 use Rattle.gate_config.specs.declared.config.Config.{Config}
 use Rattle.gate_config.specs.Lookups.{pipelines_of}
+use Rattle.gate_tenant.specs.declared.dispatch.Dispatch.{Dispatch}
+use Rattle.gate_tenant.specs.declared.TheConstants.{MAX_GATHERED}
 use Rattle.gate_tenant.specs.Dispatching.{chosen}
 use Rattle.gate_tenant.specs.Histories.{EachGetsItsOwn, NothingIsLost, beginning, begins, gathers, gives, item_for, items_for, matches, moves}
 use Rattle.gate_tenant.specs.States.{State, config_of, first_state, has_ended, matched, moved_out, put_back, room_of, state_of, tenant_of}
 use Rattle.gate_queue.specs.declared.tagged.Tagged.{Tagged}
 use Rattle.gate_queue.specs.Seats.{IsHeadOf, SenderSeat, Shape, TakerSeat}
-use Rattle.gate_run.specs.declared.dispatcher.Dispatching.{Dispatching}
 use Rattle.gate_run.specs.Dispatchers.{GivenInOrder, HasDispatched, IsDispatching}
 use Rattle.gate_run.specs.Seats.{PutAt, fresh_head, fresh_tail, seat_in, seat_of, values}
-use Rattle.gate_run.proofs.Seated.{fresh_put, fresh_seats, taken_more}
+use Rattle.gate_run.proofs.Seated.{fresh_put, fresh_seats, values_more}
 
-module _ {config : Config} {t : ℕ} {f : Dispatching} (f' : Dispatching) (was : IsDispatching config t f) (conf : config_of f'.dispatch ≡ config_of f.dispatch) (tenant : tenant_of f'.dispatch ≡ tenant_of f.dispatch) where
-  puts : f'.tails.items ≡ f.tails.items → (p : ℕ) (d : SenderSeat PipelineItem) → p < length f'.tails.items → (slice_index_or f'.tails.items p d).put ≡ items_for p was.past.given
-  puts tails p d low = ap (λ zs. (slice_index_or zs p d).put) tails ∙ was.put p d (subst (λ zs. p < length zs) tails low)
-
-  same_taken : f'.head.taken ≡ f.head.taken → f'.kept ≡ f.kept → was.past.taken ++ option_to_list f'.kept ≡ values f'.head.taken
-  same_taken taken kept = ap (λ (o : Option TenantItem). was.past.taken ++ option_to_list o) kept ∙ was.gathered ∙ ap values (sym taken)
+module _ {config : Config} {t : ℕ} {d : Dispatch} {head : TakerSeat TenantItem} {tails : List (SenderSeat PipelineItem)} (d' : Dispatch) (head' : TakerSeat TenantItem) (tails' : List (SenderSeat PipelineItem))
+    (was : IsDispatching config t d head tails) (conf : config_of d' ≡ config_of d) (tenant : tenant_of d' ≡ tenant_of d) where
+  puts : tails' ≡ tails → (p : ℕ) (e : SenderSeat PipelineItem) → p < length tails' → (slice_index_or tails' p e).put ≡ items_for p was.past.given
+  puts same p e low = ap (λ zs. (slice_index_or zs p e).put) same ∙ was.put p e (subst (λ zs. p < length zs) same low)
 
   -- nothing changed
-  pub still : state_of f'.dispatch ≡ state_of f.dispatch → f'.head.taken ≡ f.head.taken → f'.kept ≡ f.kept → f'.tails.items ≡ f.tails.items → IsDispatching config t f'
-  still state taken kept tails = record {
+  pub still : state_of d' ≡ state_of d → head'.taken ≡ head.taken → tails' ≡ tails → IsDispatching config t d' head' tails'
+  still state taken same = record {
     by_config = conf ∙ was.by_config;
     of_tenant = tenant ∙ was.of_tenant;
     past = was.past;
@@ -35,45 +34,30 @@ module _ {config : Config} {t : ℕ} {f : Dispatching} (f' : Dispatching) (was :
     now = was.now ∙ sym state;
     in_hand = was.in_hand;
     place = ap (λ (s : State). s.out) state ∙ was.place;
-    gathered = same_taken taken kept;
-    put = puts tails;
-  }
-
-  -- an item was taken and is kept
-  pub kept_one : (x : Tagged TenantItem) → f.kept ≡ None → f'.head.taken ≡ f.head.taken ++ x ∷ [] → f'.tails.items ≡ f.tails.items → (item : TenantItem) → f'.kept ≡ Some item → state_of f'.dispatch ≡ state_of f.dispatch → x.value ≡ item → IsDispatching config t f'
-  kept_one x free more tails item kept state is = record {
-    by_config = conf ∙ was.by_config;
-    of_tenant = tenant ∙ was.of_tenant;
-    past = was.past;
-    happens = was.happens;
-    now = was.now ∙ sym state;
-    in_hand = was.in_hand;
-    place = ap (λ (s : State). s.out) state ∙ was.place;
-    gathered = ap (λ (o : Option TenantItem). was.past.taken ++ option_to_list o) kept ∙ taken_more was.past.taken f.kept f.head.taken f'.head.taken x item was.gathered free is more;
-    put = puts tails;
+    gathered = was.gathered ∙ ap values (sym taken);
+    put = puts same;
   }
 
   -- an item was taken and gathered
-  pub gathered_one : (x : Tagged TenantItem) → f.kept ≡ None → f'.head.taken ≡ f.head.taken ++ x ∷ [] → f'.tails.items ≡ f.tails.items → f'.kept ≡ None → 0 < room_of (state_of f.dispatch) → has_ended (config_of f.dispatch) (tenant_of f.dispatch) (state_of f.dispatch) ≡ false →
-      state_of f'.dispatch ≡ record (state_of f.dispatch) { gathered = (state_of f.dispatch).gathered ++ x.value ∷ [] } → IsDispatching config t f'
-  gathered_one x free more tails none room goes_on state = record {
+  pub gathered_one : (x : Tagged TenantItem) → head'.taken ≡ head.taken ++ x ∷ [] → tails' ≡ tails → 0 < room_of (state_of d) → has_ended (config_of d) (tenant_of d) (state_of d) ≡ false →
+      state_of d' ≡ record (state_of d) { gathered = (state_of d).gathered ++ x.value ∷ [] } → IsDispatching config t d' head' tails'
+  gathered_one x more same room goes_on state = record {
     by_config = conf ∙ was.by_config;
     of_tenant = tenant ∙ was.of_tenant;
     past = record was.past { state = record was.past.state { gathered = was.past.state.gathered ++ x.value ∷ [] }; taken = was.past.taken ++ x.value ∷ [] };
     happens = gathers x.value was.happens was.in_hand (subst (λ (s : State). 0 < room_of s) (sym was.now) room)
-        (ap (has_ended config t) was.now ∙ (λ i. has_ended (sym was.by_config i) (sym was.of_tenant i) (state_of f.dispatch)) ∙ goes_on);
+        (ap (has_ended config t) was.now ∙ (λ i. has_ended (sym was.by_config i) (sym was.of_tenant i) (state_of d)) ∙ goes_on);
     now = ap (λ (s : State). record s { gathered = s.gathered ++ x.value ∷ [] }) was.now ∙ sym state;
     in_hand = was.in_hand;
     place = ap (λ (s : State). s.out) state ∙ was.place;
-    gathered = ap (λ (o : Option TenantItem). (was.past.taken ++ x.value ∷ []) ++ option_to_list o) none ∙ append-nil (was.past.taken ++ x.value ∷ [])
-        ∙ taken_more was.past.taken f.kept f.head.taken f'.head.taken x x.value was.gathered free refl more;
-    put = puts tails;
+    gathered = ap (λ zs. zs ++ x.value ∷ []) was.gathered ∙ sym (values_more head.taken x) ∙ ap values (sym more);
+    put = puts same;
   }
 
   -- what was gathered was matched
-  pub matched_all : f'.head.taken ≡ f.head.taken → f'.kept ≡ f.kept → f'.tails.items ≡ f.tails.items → (length (state_of f.dispatch).gathered == 0) ≡ false →
-      state_of f'.dispatch ≡ matched (config_of f.dispatch) (tenant_of f.dispatch) (state_of f.dispatch) → IsDispatching config t f'
-  matched_all taken kept tails some state = record {
+  pub matched_all : head'.taken ≡ head.taken → tails' ≡ tails → (length (state_of d).gathered == 0) ≡ false →
+      state_of d' ≡ matched (config_of d) (tenant_of d) (state_of d) → IsDispatching config t d' head' tails'
+  matched_all taken same some state = record {
     by_config = conf ∙ was.by_config;
     of_tenant = tenant ∙ was.of_tenant;
     past = record was.past { state = matched config t was.past.state; done = was.past.done ++ was.past.state.gathered };
@@ -81,9 +65,21 @@ module _ {config : Config} {t : ℕ} {f : Dispatching} (f' : Dispatching) (was :
     now = (λ i. matched (sym was.by_config i) (sym was.of_tenant i) (was.now i)) ∙ sym state;
     in_hand = was.in_hand;
     place = ap (λ (s : State). s.out) state;
-    gathered = same_taken taken kept;
-    put = puts tails;
+    gathered = was.gathered ∙ ap values (sym taken);
+    put = puts same;
   }
+
+-- there is room for one less
+pub room_left : (s : State) (x : TenantItem) (n m : ℕ) → n + 1 ≡ m → m ≤ room_of s → n ≤ room_of (record s { gathered = s.gathered ++ x ∷ [] })
+room_left s x n m one most = by (length s.items == 0) most
+  where
+    longer : (xs : List TenantItem) → length (xs ++ x ∷ []) ≡ length xs + 1
+    longer [] = refl
+    longer (y ∷ xs) = ap suc (longer xs) ∙ omega arith
+
+    by : (b : Bool) → m ≤ (if b then MAX_GATHERED - length s.gathered else 0) → n ≤ (if b then MAX_GATHERED - length (s.gathered ++ x ∷ []) else 0)
+    by true h = omega (arith, one, h, longer s.gathered)
+    by false h = omega (arith, one, h)
 
 -- ---- one item is moved out
 
@@ -124,10 +120,10 @@ for_one p u item pipeline e = by (u == p) (ap (λ n. n == p) e)
     by false e' = ap (λ b. cons_option (if b then Some item else None) []) e'
 
 -- an item was given
-pub given_one : {config : Config} {t : ℕ} {f : Dispatching} (f' : Dispatching) (was : IsDispatching config t f) (out : State) (pipeline : PipelineId) (item : PipelineItem) →
-    FirstOut (state_of f.dispatch) out (pipeline, item) → PutAt pipeline.0 item f.tails.items f'.tails.items →
-    state_of f'.dispatch ≡ record out { out = None } → config_of f'.dispatch ≡ config_of f.dispatch → tenant_of f'.dispatch ≡ tenant_of f.dispatch → f'.head.taken ≡ f.head.taken → f'.kept ≡ f.kept → IsDispatching config t f'
-given_one {config} {t} {f} f' was out pipeline item moved puts state conf tenant taken kept =
+pub given_one : {config : Config} {t : ℕ} {d : Dispatch} {head : TakerSeat TenantItem} {tails : List (SenderSeat PipelineItem)} (d' : Dispatch) (head' : TakerSeat TenantItem) (tails' : List (SenderSeat PipelineItem))
+    (was : IsDispatching config t d head tails) (out : State) (pipeline : PipelineId) (item : PipelineItem) → FirstOut (state_of d) out (pipeline, item) → PutAt pipeline.0 item tails tails' →
+    state_of d' ≡ record out { out = None } → config_of d' ≡ config_of d → tenant_of d' ≡ tenant_of d → head'.taken ≡ head.taken → IsDispatching config t d' head' tails'
+given_one {config} {t} {d} {head} {tails} d' head' tails' was out pipeline item moved puts state conf tenant taken =
     let first : was.past.state.items ≡ (pipeline, item) ∷ moved.rest = ap (λ (s : State). s.items) was.now ∙ moved.items in
     record {
       by_config = conf ∙ was.by_config;
@@ -143,19 +139,19 @@ given_one {config} {t} {f} f' was out pipeline item moved puts state conf tenant
       now = ap (λ (s : State). record s { items = moved.rest; out = None }) was.now ∙ ap (λ (s : State). record s { out = None }) (sym moved.left) ∙ sym state;
       in_hand = refl;
       place = ap (λ (s : State). s.out) state;
-      gathered = ap (λ (o : Option TenantItem). was.past.taken ++ option_to_list o) kept ∙ was.gathered ∙ ap values (sym taken);
-      put = λ p d low.
-          let low' : p < length f.tails.items = subst (λ n. p < n) puts.0 low in
-          puts.1 p d low' ∙ ap (λ zs. zs ++ (if pipeline.0 == p then item ∷ [] else [])) (was.put p d low')
+      gathered = was.gathered ∙ ap values (sym taken);
+      put = λ p e low.
+          let low' : p < length tails = subst (λ n. p < n) puts.0 low in
+          puts.1 p e low' ∙ ap (λ zs. zs ++ (if pipeline.0 == p then item ∷ [] else [])) (was.put p e low')
           ∙ ap (λ zs. items_for p was.past.given ++ zs) (sym (for_one p pipeline.0 item pipeline refl))
           ∙ sym (filter_map-append (item_for p) was.past.given ((pipeline, item) ∷ []));
     }
 
 -- ---- the whole of a tenant's worker
 
-pub dispatching_begins : {config : Config} {t : ℕ} (f : Dispatching) (source : Shape) (targets : List Shape) → config_of f.dispatch ≡ config → tenant_of f.dispatch ≡ t → state_of f.dispatch ≡ first_state config t →
-    f.head ≡ fresh_head source → f.kept ≡ None → f.tails.items ≡ map (fresh_tail 0) targets → IsDispatching config t f
-dispatching_begins {config} {t} f source targets conf tenant state head kept tails = record {
+pub dispatching_begins : {config : Config} {t : ℕ} (d : Dispatch) (head : TakerSeat TenantItem) (tails : List (SenderSeat PipelineItem)) (source : Shape) (targets : List Shape) → config_of d ≡ config → tenant_of d ≡ t → state_of d ≡ first_state config t →
+    head ≡ fresh_head source → tails ≡ map (fresh_tail 0) targets → IsDispatching config t d head tails
+dispatching_begins {config} {t} d head tails source targets conf tenant state not_taken not_put = record {
   by_config = conf;
   of_tenant = tenant;
   past = beginning config t;
@@ -163,8 +159,8 @@ dispatching_begins {config} {t} f source targets conf tenant state head kept tai
   now = sym state;
   in_hand = refl;
   place = ap (λ (s : State). s.out) state;
-  gathered = ap option_to_list kept ∙ ap (λ (h : TakerSeat TenantItem). values h.taken) (sym head);
-  put = fresh_put 0 f.tails.items targets tails;
+  gathered = ap (λ (h : TakerSeat TenantItem). values h.taken) (sym not_taken);
+  put = fresh_put 0 tails targets not_put;
 }
 
 -- it never began: nothing was taken or put
@@ -181,27 +177,28 @@ not_dispatched config t source targets head tails not_taken not_put = record {
   };
 }
 
-pub all_in_order : {config : Config} {t : ℕ} {f : Dispatching} → EachGetsItsOwn → NothingIsLost → length f.tails.items ≡ length (pipelines_of config t) → IsDispatching config t f → GivenInOrder config t f.head.taken f.tails.items
-all_in_order {config} {t} {f} own nothing_lost pipelines was = record {
+pub all_in_order : {config : Config} {t : ℕ} {d : Dispatch} {head : TakerSeat TenantItem} {tails : List (SenderSeat PipelineItem)} → EachGetsItsOwn → NothingIsLost → length tails ≡ length (pipelines_of config t) → IsDispatching config t d head tails →
+    GivenInOrder config t head.taken tails
+all_in_order {config} {t} {d} {head} {tails} own nothing_lost pipelines was = record {
   matched = was.past.done;
-  unmatched = was.past.state.gathered ++ option_to_list f.kept;
-  took = sym (append_assoc was.past.done was.past.state.gathered (option_to_list f.kept)) ∙ ap (λ zs. zs ++ option_to_list f.kept) (nothing_lost config t was.past was.happens) ∙ was.gathered;
-  put = λ p d low.
+  unmatched = was.past.state.gathered;
+  took = nothing_lost config t was.past was.happens ∙ was.gathered;
+  put = λ p e low.
       let left = items_for p (option_to_list was.past.out ++ was.past.state.items) in (
         left,
-        ap (λ zs. zs ++ left) (was.put p d low)
+        ap (λ zs. zs ++ left) (was.put p e low)
             ∙ sym (filter_map-append (item_for p) was.past.given (option_to_list was.past.out ++ was.past.state.items))
             ∙ own config t p was.past (subst (λ n. p < n) pipelines low) was.happens,
       );
 }
 
-pub dispatcher_ends : {config : Config} {t : ℕ} {f : Dispatching} (source : Shape) (targets : List Shape) (head : TakerSeat TenantItem) (tails : List (SenderSeat PipelineItem)) →
-    head ≡ f.head → tails ≡ f.tails.items → IsHeadOf source f.head → map seat_of f.tails.items ≡ map (seat_in 0) targets → IsDispatching config t f → GivenInOrder (config_of f.dispatch) (tenant_of f.dispatch) f.head.taken f.tails.items →
+pub dispatcher_ends : {config : Config} {t : ℕ} {d : Dispatch} {taker : TakerSeat TenantItem} {senders : List (SenderSeat PipelineItem)} (source : Shape) (targets : List Shape) (head : TakerSeat TenantItem) (tails : List (SenderSeat PipelineItem)) →
+    head ≡ taker → tails ≡ senders → IsHeadOf source taker → map seat_of senders ≡ map (seat_in 0) targets → IsDispatching config t d taker senders → GivenInOrder (config_of d) (tenant_of d) taker.taken senders →
     HasDispatched config t source targets head tails
-dispatcher_ends {config} {t} {f} source targets head tails same alike of seats was given = record {
+dispatcher_ends {config} {t} {d} {taker} {senders} source targets head tails same alike of seats was given = record {
   head_of = ap (λ (h : TakerSeat TenantItem). h.queue) same ∙ of;
   seats = ap (map seat_of) alike ∙ seats;
   given = subst (λ ts. GivenInOrder config t head.taken ts) (sym alike)
-      (subst (λ (h : TakerSeat TenantItem). GivenInOrder config t h.taken f.tails.items) (sym same)
-      (subst (λ conf. GivenInOrder conf t f.head.taken f.tails.items) was.by_config (subst (λ n. GivenInOrder (config_of f.dispatch) n f.head.taken f.tails.items) was.of_tenant given)));
+      (subst (λ (h : TakerSeat TenantItem). GivenInOrder config t h.taken senders) (sym same)
+      (subst (λ conf. GivenInOrder conf t taker.taken senders) was.by_config (subst (λ n. GivenInOrder (config_of d) n taker.taken senders) was.of_tenant given)));
 }

@@ -5,7 +5,7 @@ use Rattle.gate_record.specs.declared.transit.PipelineItem.{PipelineItem}
 use Rattle.gate_record.specs.declared.transit.TenantItem.{TenantItem}
 use Rattle.gate_config.specs.declared.config.Config.{Config}
 use Rattle.gate_config.specs.Lookups.{connections_of, tenants_of}
-use Rattle.gate_queue.specs.Seats.{Shape}
+use Rattle.gate_queue.specs.Seats.{Shape, TakerSeat}
 use Rattle.gate_run.specs.declared.dispatcher.Dispatcher.{Dispatcher}
 use Rattle.gate_run.specs.declared.forwarder.Forwarder.{Forwarder}
 use Rattle.gate_run.specs.declared.putting.PassedOn.{PassedOn}
@@ -29,8 +29,8 @@ pub record Evidence {F : Type 0} (G : Type 0) (config : Config) (to_come : F →
   pub dispatchers : List Dispatcher
   pub workers : List (List (Worker G))
   pub reader_ends : List (ReaderEnd F)
-  pub forwarder_ends : List (PassedOn ConnEntry TenantItem)
-  pub dispatcher_ends : List (PassedOn TenantItem PipelineItem)
+  pub forwarder_ends : List (PassedOn (TakerSeat ConnEntry) TenantItem)
+  pub dispatcher_ends : List (PassedOn (TakerSeat TenantItem) PipelineItem)
   pub worker_ends : List (List WorkerEnd)
   pub feed_count : length feeds ≡ length (connections_of config)
   pub reader_count : length readers ≡ length (connections_of config)
@@ -48,6 +48,6 @@ pub record Evidence {F : Type 0} (G : Type 0) (config : Config) (to_come : F →
   pub have_forwarded : Pairwise Forwarded forwarders forwarder_ends
   pub have_dispatched : Pairwise Dispatched dispatchers dispatcher_ends
   pub have_worked : Pairwise (Pairwise Worked) workers worker_ends
-  pub records_settled : IsStageSettled records (map (λ (end : PassedOn ConnEntry TenantItem). end.head) forwarder_ends) (map (λ (end : ReaderEnd F). end.tail) reader_ends ∷ [])
-  pub items_settled : IsStageSettled items (map (λ (end : PassedOn TenantItem PipelineItem). end.head) dispatcher_ends) (map (λ (end : PassedOn ConnEntry TenantItem). end.tails.items) forwarder_ends)
-  pub triggers_settled : AreLanesSettled triggers (map (λ (ends : List WorkerEnd). map (λ (end : WorkerEnd). end.head) ends) worker_ends) (map (λ (end : PassedOn TenantItem PipelineItem). end.tails.items) dispatcher_ends)
+  pub records_settled : IsStageSettled records (map (λ (end : PassedOn (TakerSeat ConnEntry) TenantItem). end.head) forwarder_ends) (map (λ (end : ReaderEnd F). end.tail) reader_ends ∷ [])
+  pub items_settled : IsStageSettled items (map (λ (end : PassedOn (TakerSeat TenantItem) PipelineItem). end.head) dispatcher_ends) (map (λ (end : PassedOn (TakerSeat ConnEntry) TenantItem). end.tails.items) forwarder_ends)
+  pub triggers_settled : AreLanesSettled triggers (map (λ (ends : List WorkerEnd). map (λ (end : WorkerEnd). end.head) ends) worker_ends) (map (λ (end : PassedOn (TakerSeat TenantItem) PipelineItem). end.tails.items) dispatcher_ends)

@@ -18,7 +18,7 @@ use Rattle.gate_queue.specs.Seats.{IsHeadOf, SenderSeat, Shape, TakerSeat}
 use Rattle.gate_run.specs.declared.forwarder.Forwarding.{Forwarding}
 use Rattle.gate_run.specs.Forwarders.{HasForwarded, IsForwarding, PutInOrder}
 use Rattle.gate_run.specs.Seats.{PutAt, fresh_head, fresh_tail, seat_in, seat_of, values}
-use Rattle.gate_run.proofs.Seated.{fresh_put, taken_more}
+use Rattle.gate_run.proofs.Seated.{fresh_put, fresh_seats, taken_more}
 
 module _ {config : Config} {c : ℕ} {f : Forwarding} (f' : Forwarding) (was : IsForwarding config c f) where
   -- nothing changed
@@ -186,6 +186,15 @@ forwarding_begins {config} {c} f source targets hand conf conn head kept tails =
   place = ap (λ (h : Hand). h.out) hand;
   loaded = ap option_to_list kept ∙ ap (λ (h : TakerSeat ConnEntry). values h.taken) (sym head);
   put = fresh_put c f.tails.items targets tails;
+}
+
+-- it never began: nothing was taken or put
+pub not_forwarded : (config : Config) (c : ℕ) (source : Shape) (targets : List Shape) (head : TakerSeat ConnEntry) (tails : List (SenderSeat TenantItem)) → head ≡ fresh_head source → tails ≡ map (fresh_tail c) targets →
+    HasForwarded config c source targets head tails
+not_forwarded config c source targets head tails not_taken not_put = record {
+  head_of = ap (λ (h : TakerSeat ConnEntry). h.queue) not_taken;
+  seats = fresh_seats c tails targets not_put;
+  put = λ t d low. let all = forwarded config t c (values head.taken) in (all, ap (λ zs. zs ++ all) (fresh_put c tails targets not_put t d low));
 }
 
 pub forwarder_ends : {config : Config} {c : ℕ} {f : Forwarding} (source : Shape) (targets : List Shape) (head : TakerSeat ConnEntry) (tails : List (SenderSeat TenantItem)) →

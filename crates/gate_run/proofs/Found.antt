@@ -120,12 +120,12 @@ seat_at queues c tails k queue seats at =
 
 module _ {F G : Type 0} {config : Config} {to_come : F → Told} {faults : F → ℕ} {feeds : List F} {inbox : List (List InboxEnds)} {cell : ℕ} (E : Evidence {F = F} G config to_come faults feeds inbox cell) where
   -- what a forwarder did
-  pub record ForwarderAt (c : ℕ) (end : PassedOn ConnEntry TenantItem) : Type 0 where
+  pub record ForwarderAt (c : ℕ) (end : PassedOn (TakerSeat ConnEntry) TenantItem) : Type 0 where
     pub queue : Shape
     pub queue_here : slice_get E.records c ≡ Some queue
     pub did : HasForwarded config c queue E.items end.head end.tails.items
 
-  pub forwarder_at : (c : ℕ) (end : PassedOn ConnEntry TenantItem) → slice_get E.forwarder_ends c ≡ Some end → ForwarderAt c end
+  pub forwarder_at : (c : ℕ) (end : PassedOn (TakerSeat ConnEntry) TenantItem) → slice_get E.forwarder_ends c ≡ Some end → ForwarderAt c end
   forwarder_at c end at =
       let pair = beside_of Forwarded E.forwarders E.forwarder_ends c end E.have_forwarded at in
       let w = pair.other in
@@ -139,14 +139,14 @@ module _ {F G : Type 0} {config : Config} {to_come : F → Told} {faults : F →
       }
 
   -- what the worker of a tenant did
-  pub record DispatcherAt (t : ℕ) (end : PassedOn TenantItem PipelineItem) : Type 0 where
+  pub record DispatcherAt (t : ℕ) (end : PassedOn (TakerSeat TenantItem) PipelineItem) : Type 0 where
     pub queue : Shape
     pub queue_here : slice_get E.items t ≡ Some queue
     pub targets : List Shape
     pub targets_here : slice_get E.triggers t ≡ Some targets
     pub did : HasDispatched config t queue targets end.head end.tails.items
 
-  pub dispatcher_at : (t : ℕ) (end : PassedOn TenantItem PipelineItem) → slice_get E.dispatcher_ends t ≡ Some end → DispatcherAt t end
+  pub dispatcher_at : (t : ℕ) (end : PassedOn (TakerSeat TenantItem) PipelineItem) → slice_get E.dispatcher_ends t ≡ Some end → DispatcherAt t end
   dispatcher_at t end at =
       let pair = beside_of Dispatched E.dispatchers E.dispatcher_ends t end E.have_dispatched at in
       let w = pair.other in

@@ -95,8 +95,8 @@ module _ {F G : Type 0} {config : Config} {to_come : F → Told} {faults : F →
 
   -- ---- what a tenant's queue was given by one connection
 
-  record Sent (t s : ℕ) (d : PassedOn TenantItem PipelineItem) (queue : Shape) : Type 0 where
-    pub end : PassedOn ConnEntry TenantItem
+  record Sent (t s : ℕ) (d : PassedOn (TakerSeat TenantItem) PipelineItem) (queue : Shape) : Type 0 where
+    pub end : PassedOn (TakerSeat ConnEntry) TenantItem
     pub end_here : slice_get E.forwarder_ends s ≡ Some end
     pub forwarder : ForwarderAt E s end
     pub put : List TenantItem
@@ -104,13 +104,13 @@ module _ {F G : Type 0} {config : Config} {to_come : F → Told} {faults : F →
     pub waiting : List (Tagged TenantItem)
     pub arrived : IsDelivered d.head.taken waiting s put
 
-  sent : (t s : ℕ) (d : PassedOn TenantItem PipelineItem) (queue : Shape) → slice_get E.dispatcher_ends t ≡ Some d → slice_get E.items t ≡ Some queue → s < n → Sent t s d queue
+  sent : (t s : ℕ) (d : PassedOn (TakerSeat TenantItem) PipelineItem) (queue : Shape) → slice_get E.dispatcher_ends t ≡ Some d → slice_get E.items t ≡ Some queue → s < n → Sent t s d queue
   sent t s d queue at of_queue low =
       let f = there E.forwarder_ends s (omega (arith, low, E.forwarder_count, as_many _ E.forwarders E.forwarder_ends E.have_forwarded)) in
       let forwarder = forwarder_at E s f.one f.here in
       let seat = seat_at E.items s f.one.tails.items t queue forwarder.did.seats of_queue in
-      let settled = E.items_settled.each s t f.one.tails.items seat.tail queue d.head (here_mapped (λ (end : PassedOn ConnEntry TenantItem). end.tails.items) E.forwarder_ends s f.one f.here) seat.here of_queue
-      (here_mapped (λ (end : PassedOn TenantItem PipelineItem). end.head) E.dispatcher_ends t d at) in
+      let settled = E.items_settled.each s t f.one.tails.items seat.tail queue d.head (here_mapped (λ (end : PassedOn (TakerSeat ConnEntry) TenantItem). end.tails.items) E.forwarder_ends s f.one f.here) seat.here of_queue
+      (here_mapped (λ (end : PassedOn (TakerSeat TenantItem) PipelineItem). end.head) E.dispatcher_ends t d at) in
       record {
         end = f.one;
         end_here = f.here;
@@ -124,12 +124,12 @@ module _ {F G : Type 0} {config : Config} {to_come : F → Told} {faults : F →
 
   -- ---- what a tenant's worker took
 
-  got_from : (t : ℕ) (d : PassedOn TenantItem PipelineItem) (queue : Shape) → slice_get E.dispatcher_ends t ≡ Some d → slice_get E.items t ≡ Some queue → AreFrom n d.head.taken
+  got_from : (t : ℕ) (d : PassedOn (TakerSeat TenantItem) PipelineItem) (queue : Shape) → slice_get E.dispatcher_ends t ≡ Some d → slice_get E.items t ≡ Some queue → AreFrom n d.head.taken
   got_from t d queue at of_queue =
       subst (λ m. AreFrom m d.head.taken) (alike_here (λ (q : Shape). q.name.senders) n E.items t queue E.item_senders of_queue)
-      (E.items_settled.from t queue d.head of_queue (here_mapped (λ (end : PassedOn TenantItem PipelineItem). end.head) E.dispatcher_ends t d at))
+      (E.items_settled.from t queue d.head of_queue (here_mapped (λ (end : PassedOn (TakerSeat TenantItem) PipelineItem). end.head) E.dispatcher_ends t d at))
 
-  got_own : (t : ℕ) (d : PassedOn TenantItem PipelineItem) (queue : Shape) → slice_get E.dispatcher_ends t ≡ Some d → slice_get E.items t ≡ Some queue → OfSenders d.head.taken
+  got_own : (t : ℕ) (d : PassedOn (TakerSeat TenantItem) PipelineItem) (queue : Shape) → slice_get E.dispatcher_ends t ≡ Some d → slice_get E.items t ≡ Some queue → OfSenders d.head.taken
   got_own t d queue at of_queue = of_senders n d.head.taken (got_from t d queue at of_queue) (λ s low.
       let by = sent t s d queue at of_queue low in
       taken_own config t s (values by.end.head.taken) by.put d.head.taken by.waiting by.in_order by.arrived)
@@ -137,7 +137,7 @@ module _ {F G : Type 0} {config : Config} {to_come : F → Told} {faults : F →
   -- ---- the whole way to a pipeline
 
   -- what its worker took, in order, and what it was given
-  record Taken (t p : ℕ) (d : PassedOn TenantItem PipelineItem) (w : WorkerEnd) : Type 0 where
+  record Taken (t p : ℕ) (d : PassedOn (TakerSeat TenantItem) PipelineItem) (w : WorkerEnd) : Type 0 where
     pub worker : WorkerAt E t p w
     pub matched : List TenantItem
     pub unmatched : List TenantItem
@@ -149,7 +149,7 @@ module _ {F G : Type 0} {config : Config} {to_come : F → Told} {faults : F →
     pub from_waiting : AreFrom 1 waiting
     pub arrived : IsDelivered w.head.taken waiting 0 given
 
-  taken : (t p : ℕ) (d : PassedOn TenantItem PipelineItem) (list : List WorkerEnd) (w : WorkerEnd) → slice_get E.dispatcher_ends t ≡ Some d → slice_get E.worker_ends t ≡ Some list → slice_get list p ≡ Some w → Taken t p d w
+  taken : (t p : ℕ) (d : PassedOn (TakerSeat TenantItem) PipelineItem) (list : List WorkerEnd) (w : WorkerEnd) → slice_get E.dispatcher_ends t ≡ Some d → slice_get E.worker_ends t ≡ Some list → slice_get list p ≡ Some w → Taken t p d w
   taken t p d list w at at' here =
       let worker = worker_at E t p list w at' here in
       let dispatcher = dispatcher_at E t d at in
@@ -159,8 +159,8 @@ module _ {F G : Type 0} {config : Config} {to_come : F → Told} {faults : F →
       let given = dispatcher.did.given in
       let one : worker.queue.name.senders ≡ 1 = alike_here (λ (q : Shape). q.name.senders) 1 worker.queues p worker.queue (rows_here t worker.queues worker.queues_here) worker.queue_here in
       let lane = three_here (λ (lane : List Shape) (own_heads : List (TakerSeat PipelineItem)) (own_tails : List (SenderSeat PipelineItem)). IsStageSettled lane own_heads (own_tails ∷ []))
-      E.triggers (map (λ (ends : List WorkerEnd). map (λ (end : WorkerEnd). end.head) ends) E.worker_ends) (map (λ (end : PassedOn TenantItem PipelineItem). end.tails.items) E.dispatcher_ends) t worker.queues (map (λ (end : WorkerEnd). end.head) list) d.tails.items
-      E.triggers_settled worker.queues_here (here_mapped (λ (ends : List WorkerEnd). map (λ (end : WorkerEnd). end.head) ends) E.worker_ends t list at') (here_mapped (λ (end : PassedOn TenantItem PipelineItem). end.tails.items) E.dispatcher_ends t d at) in
+      E.triggers (map (λ (ends : List WorkerEnd). map (λ (end : WorkerEnd). end.head) ends) E.worker_ends) (map (λ (end : PassedOn (TakerSeat TenantItem) PipelineItem). end.tails.items) E.dispatcher_ends) t worker.queues (map (λ (end : WorkerEnd). end.head) list) d.tails.items
+      E.triggers_settled worker.queues_here (here_mapped (λ (ends : List WorkerEnd). map (λ (end : WorkerEnd). end.head) ends) E.worker_ends t list at') (here_mapped (λ (end : PassedOn (TakerSeat TenantItem) PipelineItem). end.tails.items) E.dispatcher_ends t d at) in
       let settled = lane.each 0 p d.tails.items seat.tail worker.queue w.head refl seat.here worker.queue_here (here_mapped (λ (end : WorkerEnd). end.head) list p w here) in
       record {
         worker = worker;
@@ -183,14 +183,14 @@ module _ {F G : Type 0} {config : Config} {to_come : F → Told} {faults : F →
           the_same (map (λ (q : Shape). q.name.senders) queues) (map (λ (q : Shape). 1) queues) (sym left ∙ ap (λ xs. slice_get xs k) E.trigger_senders ∙ right)
 
   -- what a reader put, and what was taken of it
-  record Put (c : ℕ) (r : ReaderEnd F) (f : PassedOn ConnEntry TenantItem) : Type 0 where
+  record Put (c : ℕ) (r : ReaderEnd F) (f : PassedOn (TakerSeat ConnEntry) TenantItem) : Type 0 where
     pub found : LinesOf to_come faults E.readers E.reader_ends E.have_read c r
     pub waiting : List (Tagged ConnEntry)
     pub from : AreFrom 1 f.head.taken
     pub from_waiting : AreFrom 1 waiting
     pub arrived : IsDelivered f.head.taken waiting 0 r.tail.put
 
-  put : (c : ℕ) (r : ReaderEnd F) (f : PassedOn ConnEntry TenantItem) → slice_get E.reader_ends c ≡ Some r → slice_get E.forwarder_ends c ≡ Some f → Put c r f
+  put : (c : ℕ) (r : ReaderEnd F) (f : PassedOn (TakerSeat ConnEntry) TenantItem) → slice_get E.reader_ends c ≡ Some r → slice_get E.forwarder_ends c ≡ Some f → Put c r f
   put c r f at at' =
       let found = find_lines to_come faults E.readers E.reader_ends E.have_read c r at in
       let is = at_here (IsReaderOf faults feeds E.records cell) E.readers c found.reader E.are_readers found.reader_here in
@@ -198,7 +198,7 @@ module _ {F G : Type 0} {config : Config} {to_come : F → Told} {faults : F →
       let one : queue.name.senders ≡ 1 = alike_here (λ (q : Shape). q.name.senders) 1 E.records c queue E.record_senders is.queue in
       let sender : r.tail.sender ≡ 0 = ap (λ (seat : QueueName × ℕ). seat.1) found.read.seat ∙ ap (λ (tail : SenderSeat ConnEntry). tail.sender) is.can.not_put in
       let settled = E.records_settled.each 0 c (map (λ (end : ReaderEnd F). end.tail) E.reader_ends) r.tail queue f.head refl (here_mapped (λ (end : ReaderEnd F). end.tail) E.reader_ends c r at) is.queue
-      (here_mapped (λ (end : PassedOn ConnEntry TenantItem). end.head) E.forwarder_ends c f at') in
+      (here_mapped (λ (end : PassedOn (TakerSeat ConnEntry) TenantItem). end.head) E.forwarder_ends c f at') in
       record {
         found = found;
         waiting = settled.waiting;
@@ -227,7 +227,7 @@ module _ {F G : Type 0} {config : Config} {to_come : F → Told} {faults : F →
       }
 
   -- the way of a connection that is there
-  way_there : (law : TakenIsProcessed) (t p c : ℕ) (d : PassedOn TenantItem PipelineItem) (list : List WorkerEnd) (w : WorkerEnd) (r : ReaderEnd F) (at_d : slice_get E.dispatcher_ends t ≡ Some d) (at_l : slice_get E.worker_ends t ≡ Some list)
+  way_there : (law : TakenIsProcessed) (t p c : ℕ) (d : PassedOn (TakerSeat TenantItem) PipelineItem) (list : List WorkerEnd) (w : WorkerEnd) (r : ReaderEnd F) (at_d : slice_get E.dispatcher_ends t ≡ Some d) (at_l : slice_get E.worker_ends t ≡ Some list)
       (at_w : slice_get list p ≡ Some w) (at_r : slice_get E.reader_ends c ≡ Some r) (low : c < n) →
       Way config t p c (find_lines to_come faults E.readers E.reader_ends E.have_read c r at_r).read.lines (is_closed r.cause) (processed law t p list w at_l at_w).are.front
   unfolding put
@@ -241,7 +241,7 @@ module _ {F G : Type 0} {config : Config} {to_come : F → Told} {faults : F →
       first.found.read.put first.from first.from_waiting first.arrived by.in_order (got_own t d dispatcher.queue at_d dispatcher.queue_here) by.arrived given.took given.in_order given.from given.from_waiting given.arrived done.all
 
   -- the way of one that isn't
-  way_beyond : (law : TakenIsProcessed) (t p c : ℕ) (d : PassedOn TenantItem PipelineItem) (list : List WorkerEnd) (w : WorkerEnd) (at_d : slice_get E.dispatcher_ends t ≡ Some d) (at_l : slice_get E.worker_ends t ≡ Some list)
+  way_beyond : (law : TakenIsProcessed) (t p c : ℕ) (d : PassedOn (TakerSeat TenantItem) PipelineItem) (list : List WorkerEnd) (w : WorkerEnd) (at_d : slice_get E.dispatcher_ends t ≡ Some d) (at_l : slice_get E.worker_ends t ≡ Some list)
       (at_w : slice_get list p ≡ Some w) (high : n ≤ c) → Way config t p c [] false (processed law t p list w at_l at_w).are.front
   way_beyond law t p c d list w at_d at_l at_w high =
       let dispatcher = dispatcher_at E t d at_d in
@@ -277,7 +277,7 @@ module _ {F G : Type 0} {config : Config} {to_come : F → Told} {faults : F →
       let done = processed law t p list w at_l at_w in
       numbered_by c done.are.front ∙ ap (numbers_from c) done.are.stamps ∙ ap (λ (s : State). numbers_from c s.done) done.now
 
-  in_order_by : (law : TakenIsProcessed) → EachWayDelivers → (t p c : ℕ) (d : PassedOn TenantItem PipelineItem) (list : List WorkerEnd) (w : WorkerEnd) → slice_get E.dispatcher_ends t ≡ Some d → (at_l : slice_get E.worker_ends t ≡ Some list) →
+  in_order_by : (law : TakenIsProcessed) → EachWayDelivers → (t p c : ℕ) (d : PassedOn (TakerSeat TenantItem) PipelineItem) (list : List WorkerEnd) (w : WorkerEnd) → slice_get E.dispatcher_ends t ≡ Some d → (at_l : slice_get E.worker_ends t ≡ Some list) →
       (at_w : slice_get list p ≡ Some w) (o : Option (ReaderEnd F)) → slice_get E.reader_ends c ≡ o → IsPrefixOf (numbers_from c w.state.done) (wanted config t p c (lines_of c lines))
   in_order_by law ways t p c d list w at_d at_l at_w (Some r) at =
       let front = (processed law t p list w at_l at_w).are.front in
@@ -292,7 +292,7 @@ module _ {F G : Type 0} {config : Config} {to_come : F → Told} {faults : F →
       subst (λ xs. IsPrefixOf xs (wanted config t p c (lines_of c lines))) (numbers law t p c list w at_l at_w)
       (subst (λ ls. IsPrefixOf (filter_map (number_of_item c) front) (wanted config t p c ls)) (sym (lines_beyond c at)) (ways.in_order config t p c [] false front way))
 
-  whole_by : (law : TakenIsProcessed) → EachWayDelivers → (t p c : ℕ) (d : PassedOn TenantItem PipelineItem) (list : List WorkerEnd) (w : WorkerEnd) → slice_get E.dispatcher_ends t ≡ Some d → (at_l : slice_get E.worker_ends t ≡ Some list) →
+  whole_by : (law : TakenIsProcessed) → EachWayDelivers → (t p c : ℕ) (d : PassedOn (TakerSeat TenantItem) PipelineItem) (list : List WorkerEnd) (w : WorkerEnd) → slice_get E.dispatcher_ends t ≡ Some d → (at_l : slice_get E.worker_ends t ≡ Some list) →
       (at_w : slice_get list p ≡ Some w) (o : Option (ReaderEnd F)) → slice_get E.reader_ends c ≡ o → w.state.finished ≡ true → numbers_from c w.state.done ≡ wanted config t p c (lines_of c lines)
   whole_by law ways t p c d list w at_d at_l at_w (Some r) at finished =
       let done = processed law t p list w at_l at_w in
@@ -307,7 +307,7 @@ module _ {F G : Type 0} {config : Config} {to_come : F → Told} {faults : F →
       nothing_before (numbers_from c w.state.done) (subst (λ ls. IsPrefixOf (numbers_from c w.state.done) (wanted config t p c ls)) none (in_order_by law ways t p c d list w at_d at_l at_w None at))
       ∙ ap (wanted config t p c) (sym none)
 
-  marked_by : (law : TakenIsProcessed) → EachWayDelivers → (t p c : ℕ) (d : PassedOn TenantItem PipelineItem) (list : List WorkerEnd) (w : WorkerEnd) (r : ReaderEnd F) → slice_get E.dispatcher_ends t ≡ Some d → (at_l : slice_get E.worker_ends t ≡ Some list) →
+  marked_by : (law : TakenIsProcessed) → EachWayDelivers → (t p c : ℕ) (d : PassedOn (TakerSeat TenantItem) PipelineItem) (list : List WorkerEnd) (w : WorkerEnd) (r : ReaderEnd F) → slice_get E.dispatcher_ends t ≡ Some d → (at_l : slice_get E.worker_ends t ≡ Some list) →
       (at_w : slice_get list p ≡ Some w) → slice_get E.reader_ends c ≡ Some r → w.state.finished ≡ true → lists config t c ≡ true → is_closed r.cause ≡ true
   marked_by law ways t p c d list w r at_d at_l at_w at finished listed =
       let done = processed law t p list w at_l at_w in
@@ -406,7 +406,7 @@ module _ {F G : Type 0} {config : Config} {to_come : F → Told} {faults : F →
   inbox_kept = map (λ (ends : List WorkerEnd). map inbox_back ends) E.worker_ends
 
   -- each event that was processed is what the record of its stamp reads as
-  read_by : (law : TakenIsProcessed) → EachWayDelivers → (t p c : ℕ) (d : PassedOn TenantItem PipelineItem) (list : List WorkerEnd) (w : WorkerEnd) → slice_get E.dispatcher_ends t ≡ Some d → (at_l : slice_get E.worker_ends t ≡ Some list) →
+  read_by : (law : TakenIsProcessed) → EachWayDelivers → (t p c : ℕ) (d : PassedOn (TakerSeat TenantItem) PipelineItem) (list : List WorkerEnd) (w : WorkerEnd) → slice_get E.dispatcher_ends t ≡ Some d → (at_l : slice_get E.worker_ends t ≡ Some list) →
       (at_w : slice_get list p ≡ Some w) (o : Option (ReaderEnd F)) → slice_get E.reader_ends c ≡ o → (i : ℕ) (s : Stamped) → slice_get (processed law t p list w at_l at_w).are.front i ≡ Some (item.Event s) → s.stamp.conn.0 ≡ c → IsReadFrom (lines_of c lines) s
   read_by law ways t p c d list w at_d at_l at_w (Some r) at i s here same =
       let front = (processed law t p list w at_l at_w).are.front in
@@ -420,7 +420,7 @@ module _ {F G : Type 0} {config : Config} {to_come : F → Told} {faults : F →
       subst (λ ls. IsReadFrom ls s) (sym (lines_beyond c at)) (ways.genuine config t p c [] false front way i s here same)
 
   -- so each trigger is what that record asks for
-  asked : (law : TakenIsProcessed) → EachWayDelivers → (t p : ℕ) (d : PassedOn TenantItem PipelineItem) (list : List WorkerEnd) (w : WorkerEnd) → slice_get E.dispatcher_ends t ≡ Some d → (at_l : slice_get E.worker_ends t ≡ Some list) →
+  asked : (law : TakenIsProcessed) → EachWayDelivers → (t p : ℕ) (d : PassedOn (TakerSeat TenantItem) PipelineItem) (list : List WorkerEnd) (w : WorkerEnd) → slice_get E.dispatcher_ends t ≡ Some d → (at_l : slice_get E.worker_ends t ≡ Some list) →
       (at_w : slice_get list p ≡ Some w) (i : ℕ) (stamp : Option Stamp) (a : Action) → slice_get (filter_map triggering (processed law t p list w at_l at_w).past.processed) i ≡ Some (stamp, a) → asked_among config t p (λ c. lines_of c lines) stamp ≡ Some a
   asked law ways t p d list w at_d at_l at_w i stamp a here =
       let done = processed law t p list w at_l at_w in

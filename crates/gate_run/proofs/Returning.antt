@@ -58,28 +58,28 @@ notes_back to_come faults cell P of [] (end ∷ ends) are did = absurd did
 notes_back to_come faults cell P of (w ∷ readers) [] are did = absurd did
 notes_back to_come faults cell P of (w ∷ readers) (end ∷ ends) are did = (did.0.cell ∙ of 0 w are.0, notes_back to_come faults cell (λ c. P (suc c)) (λ c. of (suc c)) readers ends are.1 did.1)
 
-module _ (config : Config) (sources targets : List Shape) (forwarders : List Forwarder) (ends : List (PassedOn ConnEntry TenantItem)) (are : EachAt (IsForwarderOf config sources targets) forwarders) (did : Pairwise Forwarded forwarders ends) where
-  pub forwarder_heads : length forwarders ≡ length sources → map (λ (end : PassedOn ConnEntry TenantItem). end.head.queue) ends ≡ map (λ (queue : Shape). queue.name) sources
-  forwarder_heads many = all_alike (λ (end : PassedOn ConnEntry TenantItem). end.head.queue) (λ (queue : Shape). queue.name) ends sources (sym (as_many Forwarded forwarders ends did) ∙ many) (λ c end queue at at'.
+module _ (config : Config) (sources targets : List Shape) (forwarders : List Forwarder) (ends : List (PassedOn (TakerSeat ConnEntry) TenantItem)) (are : EachAt (IsForwarderOf config sources targets) forwarders) (did : Pairwise Forwarded forwarders ends) where
+  pub forwarder_heads : length forwarders ≡ length sources → map (λ (end : PassedOn (TakerSeat ConnEntry) TenantItem). end.head.queue) ends ≡ map (λ (queue : Shape). queue.name) sources
+  forwarder_heads many = all_alike (λ (end : PassedOn (TakerSeat ConnEntry) TenantItem). end.head.queue) (λ (queue : Shape). queue.name) ends sources (sym (as_many Forwarded forwarders ends did) ∙ many) (λ c end queue at at'.
       let pair = beside_of Forwarded forwarders ends c end did at in
       let is = at_here (IsForwarderOf config sources targets) forwarders c pair.other are pair.there in
       pair.are.head_of ∙ ap (λ (q : Shape). q.name) (the_same pair.other.source.now queue (sym is.source ∙ at')))
 
-  pub forwarder_tails : map (λ (end : PassedOn ConnEntry TenantItem). map seat_of end.tails.items) ends ≡ map (λ s. map (seat_in s) targets) (range_with_len 0 (length ends))
-  forwarder_tails = all_alike (λ (end : PassedOn ConnEntry TenantItem). map seat_of end.tails.items) (λ s. map (seat_in s) targets) ends (range_with_len 0 (length ends)) (sym (range_length 0 (length ends))) (λ c end s at at'.
+  pub forwarder_tails : map (λ (end : PassedOn (TakerSeat ConnEntry) TenantItem). map seat_of end.tails.items) ends ≡ map (λ s. map (seat_in s) targets) (range_with_len 0 (length ends))
+  forwarder_tails = all_alike (λ (end : PassedOn (TakerSeat ConnEntry) TenantItem). map seat_of end.tails.items) (λ s. map (seat_in s) targets) ends (range_with_len 0 (length ends)) (sym (range_length 0 (length ends))) (λ c end s at at'.
       let pair = beside_of Forwarded forwarders ends c end did at in
       let is = at_here (IsForwarderOf config sources targets) forwarders c pair.other are pair.there in
       pair.are.seats ∙ (λ i. map (seat_in (is.of_conn i)) (is.puts_into i)) ∙ ap (λ k. map (seat_in k) targets) (sym (number_is (length ends) c s (slice_get_within ends c end at) at')))
 
-module _ (config : Config) (sources : List Shape) (targets : List (List Shape)) (dispatchers : List Dispatcher) (ends : List (PassedOn TenantItem PipelineItem)) (are : EachAt (IsDispatcherOf config sources targets) dispatchers) (did : Pairwise Dispatched dispatchers ends) where
-  pub dispatcher_heads : length dispatchers ≡ length sources → map (λ (end : PassedOn TenantItem PipelineItem). end.head.queue) ends ≡ map (λ (queue : Shape). queue.name) sources
-  dispatcher_heads many = all_alike (λ (end : PassedOn TenantItem PipelineItem). end.head.queue) (λ (queue : Shape). queue.name) ends sources (sym (as_many Dispatched dispatchers ends did) ∙ many) (λ t end queue at at'.
+module _ (config : Config) (sources : List Shape) (targets : List (List Shape)) (dispatchers : List Dispatcher) (ends : List (PassedOn (TakerSeat TenantItem) PipelineItem)) (are : EachAt (IsDispatcherOf config sources targets) dispatchers) (did : Pairwise Dispatched dispatchers ends) where
+  pub dispatcher_heads : length dispatchers ≡ length sources → map (λ (end : PassedOn (TakerSeat TenantItem) PipelineItem). end.head.queue) ends ≡ map (λ (queue : Shape). queue.name) sources
+  dispatcher_heads many = all_alike (λ (end : PassedOn (TakerSeat TenantItem) PipelineItem). end.head.queue) (λ (queue : Shape). queue.name) ends sources (sym (as_many Dispatched dispatchers ends did) ∙ many) (λ t end queue at at'.
       let pair = beside_of Dispatched dispatchers ends t end did at in
       let is = at_here (IsDispatcherOf config sources targets) dispatchers t pair.other are pair.there in
       pair.are.head_of ∙ ap (λ (q : Shape). q.name) (the_same pair.other.source.now queue (sym is.source ∙ at')))
 
-  pub dispatcher_tails : length dispatchers ≡ length targets → map (λ (end : PassedOn TenantItem PipelineItem). map seat_of end.tails.items) ends ≡ map (map (seat_in 0)) targets
-  dispatcher_tails many = all_alike (λ (end : PassedOn TenantItem PipelineItem). map seat_of end.tails.items) (map (seat_in 0)) ends targets (sym (as_many Dispatched dispatchers ends did) ∙ many) (λ t end lane at at'.
+  pub dispatcher_tails : length dispatchers ≡ length targets → map (λ (end : PassedOn (TakerSeat TenantItem) PipelineItem). map seat_of end.tails.items) ends ≡ map (map (seat_in 0)) targets
+  dispatcher_tails many = all_alike (λ (end : PassedOn (TakerSeat TenantItem) PipelineItem). map seat_of end.tails.items) (map (seat_in 0)) ends targets (sym (as_many Dispatched dispatchers ends did) ∙ many) (λ t end lane at at'.
       let pair = beside_of Dispatched dispatchers ends t end did at in
       let is = at_here (IsDispatcherOf config sources targets) dispatchers t pair.other are pair.there in
       pair.are.seats ∙ ap (map (seat_in 0)) (the_same pair.other.targets.now lane (sym is.puts_into ∙ at')))

@@ -41,7 +41,7 @@ module _ {T : Type 0} where
       by (q ∷ qs) zero low' = refl
       by (q ∷ qs) (suc i) low' = by qs i (omega (arith, low'))
 
-  values_more : (taken : List (Tagged T)) (x : Tagged T) → values (taken ++ x ∷ []) ≡ values taken ++ x.value ∷ []
+  pub values_more : (taken : List (Tagged T)) (x : Tagged T) → values (taken ++ x ∷ []) ≡ values taken ++ x.value ∷ []
   values_more [] x = refl
   values_more (y ∷ taken) x = ap (λ zs. y.value ∷ zs) (values_more taken x)
 

@@ -4,9 +4,11 @@ use denote.Ref.{NamedLft}
 use denote.Param.Send.{AllSend, IsSend, IsSync, recorded_send, sendable, struct_send}
 use denote.Struct.Declared.{shape}
 use Rattle.std.proofs.Crossing.{crosses}
+use Rattle.gate_queue.proofs.free.queue.FreeQueue.TheSendSync as free_queue
+use Rattle.gate_queue.proofs.free.seats.FreeHead.TheSendSync as free_head
+use Rattle.gate_queue.proofs.free.seats.FreeTail.TheSendSync as free_tail
 use Rattle.gate_queue.proofs.queue.EventQueue.TheSendSync as queue
 use Rattle.gate_queue.proofs.seats.Head.TheSendSync as head
-use Rattle.gate_queue.proofs.seats.Tail.TheSendSync as tail
 use Rattle.crossbeam_utils.proofs.sync.parker.RuledParker.TheSendSync as parker
 use Rattle.gate_record.proofs.transit.ConnEntry.TheSendSync as entry
 use Rattle.gate_record.proofs.transit.PipelineItem.TheSendSync as trigger
@@ -22,19 +24,19 @@ use Rattle.gate_run.specs.contracts.worker.Worker as worker
 
 module _ (κ : NamedLft) (config_sync : IsSync config.the_row) where
   forwarder_parts : AllSend (shape (forwarder.the_type κ)).fields
-  forwarder_parts = (search (sendable, crosses) depth 40 fits 20000, (search (sendable, crosses) depth 40 fits 20000, (search (sendable, crosses) depth 40 fits 20000, (search (sendable, crosses, queue.the_sync, entry.the_send) depth 40 fits 20000, (search (sendable, crosses, head.the_send, entry.the_send) depth 40 fits 20000, (search (sendable, crosses, queue.the_sync, item.the_send) depth 40 fits 20000, (search (sendable, crosses, tail.the_send, item.the_send) depth 40 fits 20000, (search (sendable, crosses, parker.the_field_send) depth 40 fits 20000, tt))))))))
+  forwarder_parts = (search (sendable, crosses) depth 40 fits 20000, (search (sendable, crosses) depth 40 fits 20000, (search (sendable, crosses) depth 40 fits 20000, (search (sendable, crosses, queue.the_sync, entry.the_send) depth 40 fits 20000, (search (sendable, crosses, head.the_send, entry.the_send) depth 40 fits 20000, (search (sendable, crosses, free_queue.the_sync, item.the_send) depth 40 fits 20000, (search (sendable, crosses, free_tail.the_send, item.the_send) depth 40 fits 20000, (search (sendable, crosses, parker.the_field_send) depth 40 fits 20000, tt))))))))
 
   pub forwarder_send : IsSend (forwarder.the_row κ)
   forwarder_send = recorded_send (forwarder.the_field κ).row (forwarder.the_type κ).D (forwarder.the_type κ).to (forwarder.the_type κ).to_one (struct_send (shape (forwarder.the_type κ)) forwarder_parts)
 
   dispatcher_parts : AllSend (shape (dispatcher.the_type κ)).fields
-  dispatcher_parts = (search (sendable, crosses) depth 40 fits 20000, (search (sendable, crosses) depth 40 fits 20000, (search (sendable, crosses) depth 40 fits 20000, (search (sendable, crosses, queue.the_sync, item.the_send) depth 40 fits 20000, (search (sendable, crosses, head.the_send, item.the_send) depth 40 fits 20000, (search (sendable, crosses, queue.the_sync, trigger.the_send) depth 40 fits 20000, (search (sendable, crosses, tail.the_send, trigger.the_send) depth 40 fits 20000, (search (sendable, crosses, parker.the_field_send) depth 40 fits 20000, tt))))))))
+  dispatcher_parts = (search (sendable, crosses) depth 40 fits 20000, (search (sendable, crosses) depth 40 fits 20000, (search (sendable, crosses) depth 40 fits 20000, (search (sendable, crosses, free_queue.the_sync, item.the_send) depth 40 fits 20000, (search (sendable, crosses, free_head.the_send, item.the_send) depth 40 fits 20000, (search (sendable, crosses, free_queue.the_sync, trigger.the_send) depth 40 fits 20000, (search (sendable, crosses, free_tail.the_send, trigger.the_send) depth 40 fits 20000, (search (sendable, crosses, parker.the_field_send) depth 40 fits 20000, tt))))))))
 
   pub dispatcher_send : IsSend (dispatcher.the_row κ)
   dispatcher_send = recorded_send (dispatcher.the_field κ).row (dispatcher.the_type κ).D (dispatcher.the_type κ).to (dispatcher.the_type κ).to_one (struct_send (shape (dispatcher.the_type κ)) dispatcher_parts)
 
   worker_parts : (G : RattleType) → IsSync G → AllSend (shape (worker.the_type κ G)).fields
-  worker_parts G gate_sync = (search (sendable, crosses) depth 40 fits 20000, (search (sendable, crosses) depth 40 fits 20000, (search (sendable, crosses) depth 40 fits 20000, (search (sendable, crosses, state.the_send) depth 40 fits 20000, (search (sendable, crosses, queue.the_sync, trigger.the_send) depth 40 fits 20000, (search (sendable, crosses, head.the_send, trigger.the_send) depth 40 fits 20000, (search (sendable, crosses, inbox.the_send, manage.the_send) depth 40 fits 20000, (search (sendable, crosses, inbox.the_send, ended.the_send) depth 40 fits 20000, (search (sendable, crosses, parker.the_field_send) depth 40 fits 20000, (search (sendable, crosses) depth 40 fits 20000, tt))))))))))
+  worker_parts G gate_sync = (search (sendable, crosses) depth 40 fits 20000, (search (sendable, crosses) depth 40 fits 20000, (search (sendable, crosses) depth 40 fits 20000, (search (sendable, crosses, state.the_send) depth 40 fits 20000, (search (sendable, crosses, free_queue.the_sync, trigger.the_send) depth 40 fits 20000, (search (sendable, crosses, free_head.the_send, trigger.the_send) depth 40 fits 20000, (search (sendable, crosses, inbox.the_send, manage.the_send) depth 40 fits 20000, (search (sendable, crosses, inbox.the_send, ended.the_send) depth 40 fits 20000, (search (sendable, crosses, parker.the_field_send) depth 40 fits 20000, (search (sendable, crosses) depth 40 fits 20000, tt))))))))))
 
   pub worker_send : (G : RattleType) → IsSync G → IsSend (worker.the_row κ G)
   worker_send G gate_sync = recorded_send (worker.the_field κ G).row (worker.the_type κ G).D (worker.the_type κ G).to (worker.the_type κ G).to_one (struct_send (shape (worker.the_type κ G)) (worker_parts G gate_sync))

@@ -9,7 +9,7 @@ use Rattle.gate_queue.specs.States.{AreFrom, IsDelivered}
 use Rattle.gate_run.specs.Lists.{Each, EachAt}
 use Rattle.gate_run.specs.Seats.{fresh_tail, seat_in, seat_of}
 use Rattle.gate_run.specs.Stages.{AreLanesSettled, AreSettled, IsSettled, IsStageSettled, seats_in}
-use Rattle.gate_run.specs.Tables.{dealt_all, empties}
+use Rattle.gate_run.specs.Tables.{dealt, dealt_all, empties}
 use Rattle.gate_run.proofs.Paired.{map_length}
 use Rattle.gate_run.proofs.Places.{at_here, each_here, each_of_all, head_same, tail_same, the_same}
 use Rattle.gate_run.proofs.Seated.{map_map}
@@ -74,6 +74,9 @@ module _ {T : Type 0} where
     λ k d low. let (of, number) = seated queue queue.name.senders 0 tails e k d low in (of, number ∙ omega arith),
   )
 
+  pub only_seated : (queue : Shape) (tail : SenderSeat T) → queue.name.senders ≡ 1 → seat_of tail ≡ seat_in 0 queue → AreAllTailsOf queue (tail ∷ [])
+  only_seated queue tail one e = all_seated queue (tail ∷ []) (ap (λ seat. seat ∷ []) e ∙ ap (λ n. map (λ s. seat_in s queue) (range_with_len 0 n)) (sym one))
+
   pub settled_here : (queue : Shape) (head : TakerSeat T) (tails : List (SenderSeat T)) (waiting : List (Tagged T)) → AreFrom queue.name.senders head.taken → AreFrom queue.name.senders waiting →
       All (λ (tail : SenderSeat T). IsDelivered head.taken waiting tail.sender tail.put) tails → Each (IsSettled queue head) tails
   settled_here queue head tails waiting from from_waiting delivered = each_of_all (IsSettled queue head) tails (λ k d low. record { waiting = waiting; from = from; from_waiting = from_waiting; delivered = delivered k d low })
@@ -116,6 +119,23 @@ module _ {T : Type 0} where
     each = λ s k tails tail queue head at here of_queue of_head.
         at_here (IsSettledAt queues heads) tails k tail (each_here (EachAt (IsSettledAt queues heads)) senders s tails (each_sender queues heads senders n wide all) at) here queue head of_queue of_head;
   }
+
+  -- of one sender
+  single_columns : (a n : ℕ) (row : List (SenderSeat T)) → length row ≡ n → dealt (map (λ k. []) (range_with_len a n)) row ≡ map (λ tail. tail ∷ []) row
+  single_columns a zero [] e = refl
+  single_columns a zero (tail ∷ row) e = absurd (cc)
+  single_columns a (suc n) [] e = absurd (cc)
+  single_columns a (suc n) (tail ∷ row) e = ap (λ zs. (tail ∷ []) ∷ zs) (single_columns (a + 1) n row (omega (arith, e)))
+
+  pub lane_settled : (queues : List Shape) (heads : List (TakerSeat T)) (tails : List (SenderSeat T)) → length tails ≡ length queues → AreSettled queues heads (map (λ tail. tail ∷ []) tails) → IsStageSettled queues heads (tails ∷ [])
+  lane_settled queues heads tails many all = by_sender queues heads (tails ∷ []) (length queues) (many, tt) (subst (AreSettled queues heads) (sym (single_columns 0 (length queues) tails many)) all)
+
+  pub none_settled : (queues : List Shape) (heads : List (TakerSeat T)) (tails : List (SenderSeat T)) → length queues ≡ 0 → map (λ (head : TakerSeat T). head.queue) heads ≡ map (λ (queue : Shape). queue.name) queues → map seat_of tails ≡ map (seat_in 0) queues →
+      AreSettled queues heads (map (λ tail. tail ∷ []) tails)
+  none_settled [] [] [] none of_heads of_tails = tt
+  none_settled [] [] (t ∷ tails) none of_heads of_tails = absurd (cc)
+  none_settled [] (h ∷ heads) tails none of_heads of_tails = absurd (cc)
+  none_settled (q ∷ queues) heads tails none of_heads of_tails = absurd (cc)
 
   -- the seats of a stage, turned
   pub seats_turned : (queues : List Shape) (m : ℕ) (rows : List (List (SenderSeat T))) → map (λ (queue : Shape). queue.name.senders) queues ≡ map (λ (queue : Shape). m) queues →

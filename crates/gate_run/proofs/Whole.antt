@@ -7,7 +7,7 @@ use Rattle.gate_record.specs.declared.transit.TenantItem.{TenantItem}
 use Rattle.gate_config.specs.declared.config.Config.{Config}
 use Rattle.gate_config.specs.Lookups.{connections_of, pipelines_of, tenants_of}
 use Rattle.gate_source.specs.Stops.{IsNoteOf}
-use Rattle.gate_queue.specs.Seats.{Shape}
+use Rattle.gate_queue.specs.Seats.{Shape, TakerSeat}
 use Rattle.gate_run.specs.declared.gathering.Ends.{Ends}
 use Rattle.gate_run.specs.declared.putting.PassedOn.{PassedOn}
 use Rattle.gate_run.specs.declared.queues.QueueSeats.{QueueSeats}
@@ -110,5 +110,5 @@ module _ {F : Type 0} (G : Type 0) (config : Config) (to_come : F → Told) (fau
     have_worked = H.have_worked;
     records_settled = records_settled;
     items_settled = items_settled;
-    triggers_settled = lanes_as lanes _ _ (map (λ (end : PassedOn TenantItem PipelineItem). end.tails.items) ends.dispatchers.items) (sym (map_map (map (λ end. end.head)) (λ list. list.items) ends.workers.items)) triggers_settled;
+    triggers_settled = lanes_as lanes _ _ (map (λ (end : PassedOn (TakerSeat TenantItem) PipelineItem). end.tails.items) ends.dispatchers.items) (sym (map_map (map (λ end. end.head)) (λ list. list.items) ends.workers.items)) triggers_settled;
   }

@@ -1,17 +1,16 @@
 -- What the worker of a tenant does.
 use Rattle.std.specs.Prelude.{◌≡◌, ◌<◌, ◌++◌, ℕ, List, None, length, map, slice_index_or}
-use Rattle.std.specs.Option.{option_to_list}
 use Rattle.gate_record.specs.declared.transit.PipelineItem.{PipelineItem}
 use Rattle.gate_record.specs.declared.transit.TenantItem.{TenantItem}
 use Rattle.gate_record.specs.Prefixes.{IsPrefixOf}
 use Rattle.gate_config.specs.declared.config.Config.{Config}
 use Rattle.gate_config.specs.Lookups.{pipelines_of}
+use Rattle.gate_tenant.specs.declared.dispatch.Dispatch.{Dispatch}
 use Rattle.gate_tenant.specs.Dispatching.{chosen}
 use Rattle.gate_tenant.specs.Histories.{Happens, History, items_for}
 use Rattle.gate_tenant.specs.States.{config_of, state_of, tenant_of}
 use Rattle.gate_queue.specs.declared.tagged.Tagged.{Tagged}
 use Rattle.gate_queue.specs.Seats.{IsHeadOf, SenderSeat, Shape, TakerSeat}
-use Rattle.gate_run.specs.declared.dispatcher.Dispatching.{Dispatching}
 use Rattle.gate_run.specs.Seats.{fresh_head, fresh_tail, seat_in, seat_of, values}
 
 -- the worker of tenant t can begin: each of its pipelines has a queue, and by its seats nothing was taken or put
@@ -20,17 +19,21 @@ pub record CanDispatch (config : Config) (t : ℕ) (source : Shape) (targets : L
   pub not_taken : head ≡ fresh_head source
   pub not_put : tails ≡ map (fresh_tail 0) targets
 
--- The worker of tenant t at work: what it took was gathered, or is kept, and what it put for each pipeline was given
-pub record IsDispatching (config : Config) (t : ℕ) (dispatching : Dispatching) : Type 0 where
-  pub by_config : config_of dispatching.dispatch ≡ config
-  pub of_tenant : tenant_of dispatching.dispatch ≡ t
+-- The worker of tenant t at work, by its seats: what it took was gathered, and what it put for each pipeline was given
+pub record IsDispatching (config : Config) (t : ℕ) (dispatch : Dispatch) (head : TakerSeat TenantItem) (tails : List (SenderSeat PipelineItem)) : Type 0 where
+  pub by_config : config_of dispatch ≡ config
+  pub of_tenant : tenant_of dispatch ≡ t
   pub past : History
   pub happens : Happens config t past
-  pub now : past.state ≡ state_of dispatching.dispatch
+  pub now : past.state ≡ state_of dispatch
   pub in_hand : past.out ≡ None
-  pub place : (state_of dispatching.dispatch).out ≡ None
-  pub gathered : past.taken ++ option_to_list dispatching.kept ≡ values dispatching.head.taken
-  pub put : (p : ℕ) (d : SenderSeat PipelineItem) → p < length dispatching.tails.items → (slice_index_or dispatching.tails.items p d).put ≡ items_for p past.given
+  pub place : (state_of dispatch).out ≡ None
+  pub gathered : past.taken ≡ values head.taken
+  pub put : (p : ℕ) (d : SenderSeat PipelineItem) → p < length tails → (slice_index_or tails p d).put ≡ items_for p past.given
+
+-- whatever it did before, it goes on as it should
+abbrev pub Continues : Dispatch → TakerSeat TenantItem → Dispatch → TakerSeat TenantItem → Type 0
+Continues before head now head' = (config : Config) (t : ℕ) (tails : List (SenderSeat PipelineItem)) → IsDispatching config t before head tails → IsDispatching config t now head' tails
 
 -- What was put for each pipeline is a prefix of what that pipeline gets of what was matched, which is the first of what was taken
 -- from tenant t's queue.

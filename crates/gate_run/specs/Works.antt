@@ -5,6 +5,7 @@ use Rattle.gate_record.specs.declared.transit.PipelineItem.{PipelineItem}
 use Rattle.gate_record.specs.declared.transit.TenantItem.{TenantItem}
 use Rattle.gate_config.specs.declared.config.Config.{Config}
 use Rattle.gate_config.specs.Lookups.{connections_of, tenants_of}
+use Rattle.gate_queue.specs.Seats.{TakerSeat}
 use Rattle.gate_run.specs.declared.dispatcher.Dispatcher.{Dispatcher}
 use Rattle.gate_run.specs.declared.forwarder.Forwarder.{Forwarder}
 use Rattle.gate_run.specs.declared.gathering.Ends.{Ends}
@@ -38,10 +39,10 @@ ReadyToWork w = CanWork w.config.now w.tenant.0 w.pipeline.0 w.state w.source.no
 abbrev pub Read : {F : Type 0} → (F → Told) → (F → ℕ) → Reader F → ReaderEnd F → Type 0
 Read to_come faults w end = HasRead (to_come w.feed) (to_come end.feed) (faults w.feed) (faults end.feed) w.tail end.tail end.count end.cause w.note end.note
 
-abbrev pub Forwarded : Forwarder → PassedOn ConnEntry TenantItem → Type 0
+abbrev pub Forwarded : Forwarder → PassedOn (TakerSeat ConnEntry) TenantItem → Type 0
 Forwarded w end = HasForwarded w.config.now w.conn.0 w.source.now w.targets.now end.head end.tails.items
 
-abbrev pub Dispatched : Dispatcher → PassedOn TenantItem PipelineItem → Type 0
+abbrev pub Dispatched : Dispatcher → PassedOn (TakerSeat TenantItem) PipelineItem → Type 0
 Dispatched w end = HasDispatched w.config.now w.tenant.0 w.source.now w.targets.now end.head end.tails.items
 
 abbrev pub Worked : {G : Type 0} → Worker G → WorkerEnd → Type 0

@@ -1,19 +1,20 @@
 //! The thread that matches a tenant's items against the rules of its pipelines.
-ghost use Rattle.std.specs.Prelude.{◌≡◌, ◌==◌, ◌<◌, [], false, length, map, None};
+ghost use Rattle.std.specs.Prelude.{◌≡◌, ◌==◌, ◌+◌, ◌<◌, ◌≤◌, ◌∷◌, ◌++◌, [], false, length, map, None};
 ghost use Rattle.gate_config.specs.Lookups.{pipelines_of};
 ghost use Rattle.gate_queue.specs.Seats.{IsHeadOf};
-ghost use Rattle.gate_tenant.specs.States.{config_of, has_ended, room_of, state_of, tenant_of};
-ghost use Rattle.gate_run.specs.Dispatchers.{GivenInOrder, HasDispatched, IsDispatching};
+ghost use Rattle.gate_tenant.specs.States.{config_of, has_ended, reserved_of, room_of, state_of, tenant_of};
+ghost use Rattle.gate_run.specs.Dispatchers.{Continues, GivenInOrder, HasDispatched, IsDispatching};
 ghost use Rattle.gate_run.specs.Seats.{seat_of};
 ghost use Rattle.gate_run.specs.Steps.{GoesOn};
 
+use crate::owed::Owed;
 use crate::putting::{PassedOn, put_at};
 use crate::signals::Signals;
 use crate::went::Went;
 use crate::works::Work;
 use crossbeam_utils::sync::Parker;
 use gate_config::Config;
-use gate_queue::{EventQueue, Head, Tail};
+use gate_queue::{FreeHead, FreeQueue, FreeTail};
 use gate_record::{Memory, PipelineItem, TenantId, TenantItem};
 use gate_tenant::{Dispatch, each_pipeline_gets_its_own, nothing_that_was_gathered_is_lost};
 use std::alloc::Global;
@@ -28,15 +29,15 @@ pub(crate) struct Dispatcher<'a> {
     pub(crate) config: &'a Config,
     pub(crate) tenant: TenantId,
     /// The tenant's queue, and the taker's seat in it.
-    pub(crate) source: &'a EventQueue<TenantItem>,
-    pub(crate) head: Head<TenantItem>,
+    pub(crate) source: &'a FreeQueue<TenantItem>,
+    pub(crate) head: FreeHead<TenantItem>,
     /// The trigger queues of its pipelines by number, and the sender's seat in each.
-    pub(crate) targets: &'a [EventQueue<PipelineItem>],
-    pub(crate) tails: Vec<Tail<PipelineItem>>,
+    pub(crate) targets: &'a [FreeQueue<PipelineItem>],
+    pub(crate) tails: Vec<FreeTail<PipelineItem>>,
     pub(crate) parker: Parker,
 }
 
-impl<'a> Work<PassedOn<TenantItem, PipelineItem>> for Dispatcher<'a> {
+impl<'a> Work<PassedOn<FreeHead<TenantItem>, PipelineItem>> for Dispatcher<'a> {
     ghost use Rattle.gate_run.specs.Dispatchers.{CanDispatch};
 
     ghost ready = { λ w. CanDispatch w.config.now w.tenant.0 w.source.now w.targets.now w.head w.tails.items };
@@ -47,7 +48,7 @@ impl<'a> Work<PassedOn<TenantItem, PipelineItem>> for Dispatcher<'a> {
         self,
         rt: &R,
         signals: &Signals,
-    ) -> PassedOn<TenantItem, PipelineItem> {
+    ) -> PassedOn<FreeHead<TenantItem>, PipelineItem> {
         let Dispatcher {
             alloc,
             config,
@@ -58,6 +59,10 @@ impl<'a> Work<PassedOn<TenantItem, PipelineItem>> for Dispatcher<'a> {
             tails,
             parker,
         } = self;
+        let Ok(mut owed) = Owed::nothing(alloc, targets.len()) else {
+            signals.halt();
+            return PassedOn { head, tails };
+        };
         // What it matches by is made here, where it is used, so that no other thread has to be able to use it.
         let Ok(dispatch) = Dispatch::new(alloc, config, tenant) else {
             signals.halt();
@@ -67,14 +72,13 @@ impl<'a> Work<PassedOn<TenantItem, PipelineItem>> for Dispatcher<'a> {
             tenant,
             dispatch,
             head,
-            kept: None,
             tails,
         };
         for _ in rt.forever() {
             if signals.is_halted() {
                 return dispatching.end();
             }
-            match dispatching.step(rt, alloc, source, targets, signals) {
+            match dispatching.step(rt, alloc, source, targets, signals, &mut owed) {
                 Went::On => {}
                 Went::Nowhere => parker.park(rt),
                 Went::Out => return dispatching.end(),
@@ -84,39 +88,38 @@ impl<'a> Work<PassedOn<TenantItem, PipelineItem>> for Dispatcher<'a> {
     }
 }
 
-// The worker of a tenant at work. An item that was taken and couldn't be gathered is kept.
+// The worker of a tenant at work.
 #[derive(Drop)]
 pub(crate) struct Dispatching<'c> {
     pub(crate) tenant: TenantId,
     pub(crate) dispatch: Dispatch<'c>,
-    pub(crate) head: Head<TenantItem>,
-    pub(crate) kept: Option<TenantItem>,
-    pub(crate) tails: Vec<Tail<PipelineItem>>,
+    pub(crate) head: FreeHead<TenantItem>,
+    pub(crate) tails: Vec<FreeTail<PipelineItem>>,
 }
 
 impl<'c> Dispatching<'c> {
-    // Gives the next item of the hand. Where the hand is empty it takes an item, and matches what is gathered once there is no
-    // more, or no room for more.
+    // Gives the next item of the hand. Where the hand is empty it takes items, and matches what is gathered once there are no more,
+    // or no room for more.
     fn step<R: Wait>(
         &mut self,
         rt: &R,
         alloc: Global,
-        source: &EventQueue<TenantItem>,
-        targets: &[EventQueue<PipelineItem>],
+        source: &FreeQueue<TenantItem>,
+        targets: &[FreeQueue<PipelineItem>],
         signals: &Signals,
+        owed: &mut Owed,
     ) -> Went
-        requires kept { self.old.kept ≡ None }
         requires head { IsHeadOf source.now self.old.head }
         requires seats { map (λ tail. tail.queue) self.old.tails.items ≡ map (λ queue. queue.name) targets.now }
-        requires dispatches { IsDispatching (config_of self.old.dispatch) (tenant_of self.old.dispatch) self.old }
-        ensures dispatches { IsDispatching (config_of self.old.dispatch) (tenant_of self.old.dispatch) self.new }
+        requires dispatches { IsDispatching (config_of self.old.dispatch) (tenant_of self.old.dispatch) self.old.dispatch self.old.head self.old.tails.items }
+        ensures dispatches { IsDispatching (config_of self.old.dispatch) (tenant_of self.old.dispatch) self.new.dispatch self.new.head self.new.tails.items }
         ensures head { self.new.head.queue ≡ self.old.head.queue }
         ensures seats { map seat_of self.new.tails.items ≡ map seat_of self.old.tails.items }
-        ensures kept { GoesOn result (self.new.kept ≡ None) }
     {
         if !self.dispatch.is_empty() {
-            return self.give(rt, targets, signals);
+            return self.give(rt, targets, signals, owed);
         }
+        signals.wake_workers(self.tenant, owed);
         if self.dispatch.ended() {
             return Went::Out;
         }
@@ -132,19 +135,19 @@ impl<'c> Dispatching<'c> {
         self.match_gathered(alloc, signals)
     }
 
-    // Gives the next item, where there is room for it.
+    // Gives the next item. Where memory is refused it stays in the hand.
     fn give<R: Wait>(
         &mut self,
         rt: &R,
-        targets: &[EventQueue<PipelineItem>],
+        targets: &[FreeQueue<PipelineItem>],
         signals: &Signals,
+        owed: &mut Owed,
     ) -> Went
         requires seats { map (λ tail. tail.queue) self.old.tails.items ≡ map (λ queue. queue.name) targets.now }
-        requires dispatches { IsDispatching (config_of self.old.dispatch) (tenant_of self.old.dispatch) self.old }
-        ensures dispatches { IsDispatching (config_of self.old.dispatch) (tenant_of self.old.dispatch) self.new }
+        requires dispatches { IsDispatching (config_of self.old.dispatch) (tenant_of self.old.dispatch) self.old.dispatch self.old.head self.old.tails.items }
+        ensures dispatches { IsDispatching (config_of self.old.dispatch) (tenant_of self.old.dispatch) self.new.dispatch self.new.head self.new.tails.items }
         ensures head { self.new.head ≡ self.old.head }
         ensures seats { map seat_of self.new.tails.items ≡ map seat_of self.old.tails.items }
-        ensures kept { self.new.kept ≡ self.old.kept }
     {
         let Some((pipeline, item)) = self.dispatch.next() else {
             return Went::On;
@@ -152,58 +155,53 @@ impl<'c> Dispatching<'c> {
         match put_at(rt, targets, &mut self.tails, pipeline.0, item) {
             Ok(()) => {
                 self.dispatch.given();
-                signals.wake_worker(self.tenant, pipeline);
+                owed.add(pipeline.0);
                 Went::On
             }
             Err(item) => {
                 self.dispatch.ungiven(item);
-                Went::Nowhere
-            }
-        }
-    }
-
-    // Takes an item, where there is one, and gathers it.
-    fn take<R: Wait>(&mut self, rt: &R, source: &EventQueue<TenantItem>, signals: &Signals) -> Went
-        requires kept { self.old.kept ≡ None }
-        requires room { 0 < room_of (state_of self.old.dispatch) }
-        requires goes_on { has_ended (config_of self.old.dispatch) (tenant_of self.old.dispatch) (state_of self.old.dispatch) ≡ false }
-        requires head { IsHeadOf source.now self.old.head }
-        requires dispatches { IsDispatching (config_of self.old.dispatch) (tenant_of self.old.dispatch) self.old }
-        ensures dispatches { IsDispatching (config_of self.old.dispatch) (tenant_of self.old.dispatch) self.new }
-        ensures config { config_of self.new.dispatch ≡ config_of self.old.dispatch }
-        ensures tenant { tenant_of self.new.dispatch ≡ tenant_of self.old.dispatch }
-        ensures head { self.new.head.queue ≡ self.old.head.queue }
-        ensures tails { self.new.tails ≡ self.old.tails }
-        ensures kept { GoesOn result (self.new.kept ≡ None) }
-    {
-        let Some(taken) = source.take(rt, &mut self.head) else {
-            return Went::Nowhere;
-        };
-        match self.dispatch.gather(taken.value) {
-            Ok(()) => Went::On,
-            Err(refused) => {
-                self.kept = Some(refused.value);
                 signals.halt();
                 Went::Out
             }
         }
     }
 
+    // Takes what waits, up to a block of it, and gathers it.
+    fn take<R: Wait>(&mut self, rt: &R, source: &FreeQueue<TenantItem>, signals: &Signals) -> Went
+        requires room { 0 < room_of (state_of self.old.dispatch) }
+        requires goes_on { has_ended (config_of self.old.dispatch) (tenant_of self.old.dispatch) (state_of self.old.dispatch) ≡ false }
+        requires head { IsHeadOf source.now self.old.head }
+        requires dispatches { IsDispatching (config_of self.old.dispatch) (tenant_of self.old.dispatch) self.old.dispatch self.old.head self.old.tails.items }
+        ensures dispatches { IsDispatching (config_of self.old.dispatch) (tenant_of self.old.dispatch) self.new.dispatch self.new.head self.new.tails.items }
+        ensures config { config_of self.new.dispatch ≡ config_of self.old.dispatch }
+        ensures tenant { tenant_of self.new.dispatch ≡ tenant_of self.old.dispatch }
+        ensures head { self.new.head.queue ≡ self.old.head.queue }
+        ensures tails { self.new.tails ≡ self.old.tails }
+    {
+        let room = self.dispatch.room();
+        let Ok(()) = self.dispatch.make_room(room) else {
+            signals.halt();
+            return Went::Out;
+        };
+        // This tells whether anything waits, which an empty batch doesn't.
+        let Some(first) = source.take(rt, &mut self.head) else {
+            return Went::Nowhere;
+        };
+        gather(&mut self.dispatch, first.value);
+        gather_batch(rt, source, &mut self.head, &mut self.dispatch, room - 1);
+        Went::On
+    }
+
     // Matches what is gathered.
     fn match_gathered(&mut self, alloc: Global, signals: &Signals) -> Went
-        requires kept { self.old.kept ≡ None }
         requires gathered { (length (state_of self.old.dispatch).gathered == 0) ≡ false }
-        requires dispatches { IsDispatching (config_of self.old.dispatch) (tenant_of self.old.dispatch) self.old }
-        ensures dispatches { IsDispatching (config_of self.old.dispatch) (tenant_of self.old.dispatch) self.new }
+        requires dispatches { IsDispatching (config_of self.old.dispatch) (tenant_of self.old.dispatch) self.old.dispatch self.old.head self.old.tails.items }
+        ensures dispatches { IsDispatching (config_of self.old.dispatch) (tenant_of self.old.dispatch) self.new.dispatch self.new.head self.new.tails.items }
         ensures head { self.new.head ≡ self.old.head }
         ensures tails { self.new.tails ≡ self.old.tails }
-        ensures kept { self.new.kept ≡ None }
     {
         match self.dispatch.match_batch(alloc) {
-            Ok(()) => {
-                signals.wake_forwarders();
-                Went::On
-            }
+            Ok(()) => Went::On,
             Err(Memory) => {
                 signals.halt();
                 Went::Out
@@ -212,9 +210,9 @@ impl<'c> Dispatching<'c> {
     }
 
     // The seats.
-    fn end(self) -> PassedOn<TenantItem, PipelineItem>
+    fn end(self) -> PassedOn<FreeHead<TenantItem>, PipelineItem>
         requires pipelines { length self.tails.items ≡ length (pipelines_of (config_of self.dispatch) (tenant_of self.dispatch)) }
-        requires dispatches { IsDispatching (config_of self.dispatch) (tenant_of self.dispatch) self }
+        requires dispatches { IsDispatching (config_of self.dispatch) (tenant_of self.dispatch) self.dispatch self.head self.tails.items }
         ensures head { result.head ≡ self.entry.head }
         ensures tails { result.tails ≡ self.entry.tails }
         ensures given { GivenInOrder (config_of self.entry.dispatch) (tenant_of self.entry.dispatch) self.entry.head.taken self.entry.tails.items }
@@ -224,4 +222,43 @@ impl<'c> Dispatching<'c> {
         let Dispatching { head, tails, .. } = self;
         PassedOn { head, tails }
     }
+}
+
+// Gathers a batch of at most so many items, for which there is room.
+fn gather_batch<R: Wait>(
+    rt: &R,
+    source: &FreeQueue<TenantItem>,
+    head: &mut FreeHead<TenantItem>,
+    dispatch: &mut Dispatch,
+    most: usize,
+)
+    requires in_hand { (state_of dispatch.old).out ≡ None }
+    requires goes_on { has_ended (config_of dispatch.old) (tenant_of dispatch.old) (state_of dispatch.old) ≡ false }
+    requires room { most ≤ room_of (state_of dispatch.old) }
+    requires reserved { most ≤ reserved_of dispatch.old }
+    requires head { IsHeadOf source.now head.old }
+    ensures continues { Continues dispatch.old head.old dispatch.new head.new }
+    ensures config { config_of dispatch.new ≡ config_of dispatch.old }
+    ensures tenant { tenant_of dispatch.new ≡ tenant_of dispatch.old }
+    ensures head { head.new.queue ≡ head.old.queue }
+{
+    for taken in source.take_some(rt, head, most) {
+        gather(dispatch, taken.value);
+    }
+}
+
+// Gathers an item, for which room was made.
+fn gather(dispatch: &mut Dispatch, item: TenantItem)
+    requires in_hand { (state_of dispatch.old).out ≡ None }
+    requires goes_on { has_ended (config_of dispatch.old) (tenant_of dispatch.old) (state_of dispatch.old) ≡ false }
+    requires room { 0 < room_of (state_of dispatch.old) }
+    requires reserved { 0 < reserved_of dispatch.old }
+    ensures config { config_of dispatch.new ≡ config_of dispatch.old }
+    ensures tenant { tenant_of dispatch.new ≡ tenant_of dispatch.old }
+    ensures gathers { state_of dispatch.new ≡ record (state_of dispatch.old) { gathered = (state_of dispatch.old).gathered ++ item ∷ [] } }
+    ensures reserved { reserved_of dispatch.old ≤ reserved_of dispatch.new + 1 }
+{
+    let Ok(()) = dispatch.gather(item) else {
+        unreachable!()
+    };
 }

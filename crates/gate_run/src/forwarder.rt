@@ -7,19 +7,24 @@ ghost use Rattle.gate_run.specs.Forwarders.{HasForwarded, IsForwarding, PutInOrd
 ghost use Rattle.gate_run.specs.Seats.{seat_of};
 ghost use Rattle.gate_run.specs.Steps.{GoesOn};
 
+use crate::owed::Owed;
 use crate::putting::{PassedOn, put_at};
 use crate::signals::Signals;
 use crate::went::Went;
 use crate::works::Work;
 use crossbeam_utils::sync::Parker;
 use gate_config::Config;
+use gate_core::PLACES;
 use gate_forward::{Forward, each_tenant_gets_its_own};
-use gate_queue::{EventQueue, Head, Tail};
-use gate_record::{ConnEntry, ConnId, TenantItem};
+use gate_queue::{EventQueue, FreeQueue, FreeTail, Head};
+use gate_record::{ConnEntry, ConnId, Memory, TenantId, TenantItem};
 use std::alloc::Global;
 use std::sync::Wait;
 use std::thread::Threads;
 use std::time::Clock;
+
+// After so many entries a forwarder wakes its reader: a quarter of a queue's places.
+const MANY_TAKEN: usize = PLACES / 4;
 
 /// A connection's forwarder before it begins, with its seats.
 #[derive(Drop)]
@@ -31,12 +36,12 @@ pub(crate) struct Forwarder<'a> {
     pub(crate) source: &'a EventQueue<ConnEntry>,
     pub(crate) head: Head<ConnEntry>,
     /// The tenants' queues by number, and a sender's seat in each.
-    pub(crate) targets: &'a [EventQueue<TenantItem>],
-    pub(crate) tails: Vec<Tail<TenantItem>>,
+    pub(crate) targets: &'a [FreeQueue<TenantItem>],
+    pub(crate) tails: Vec<FreeTail<TenantItem>>,
     pub(crate) parker: Parker,
 }
 
-impl<'a> Work<PassedOn<ConnEntry, TenantItem>> for Forwarder<'a> {
+impl<'a> Work<PassedOn<Head<ConnEntry>, TenantItem>> for Forwarder<'a> {
     ghost use Rattle.gate_run.specs.Forwarders.{CanForward};
 
     ghost ready = { λ w. CanForward w.config.now w.conn.0 w.source.now w.targets.now w.head w.tails.items };
@@ -47,7 +52,7 @@ impl<'a> Work<PassedOn<ConnEntry, TenantItem>> for Forwarder<'a> {
         self,
         rt: &R,
         signals: &Signals,
-    ) -> PassedOn<ConnEntry, TenantItem> {
+    ) -> PassedOn<Head<ConnEntry>, TenantItem> {
         let Forwarder {
             alloc,
             config,
@@ -58,8 +63,11 @@ impl<'a> Work<PassedOn<ConnEntry, TenantItem>> for Forwarder<'a> {
             tails,
             parker,
         } = self;
+        let Ok(mut debts) = Debts::none(alloc, conn, targets.len()) else {
+            signals.halt();
+            return PassedOn { head, tails };
+        };
         let mut forwarding = Forwarding {
-            conn,
             hand: Forward::new(config, conn),
             head,
             kept: None,
@@ -69,10 +77,16 @@ impl<'a> Work<PassedOn<ConnEntry, TenantItem>> for Forwarder<'a> {
             if signals.is_halted() {
                 return forwarding.end();
             }
-            match forwarding.step(rt, alloc, source, targets, signals) {
+            match forwarding.step(rt, alloc, source, targets, signals, &mut debts) {
                 Went::On => {}
-                Went::Nowhere => parker.park(rt),
-                Went::Out => return forwarding.end(),
+                Went::Nowhere => {
+                    debts.pay(signals);
+                    parker.park(rt);
+                }
+                Went::Out => {
+                    debts.pay(signals);
+                    return forwarding.end();
+                }
             }
         }
         unreachable!()
@@ -82,11 +96,10 @@ impl<'a> Work<PassedOn<ConnEntry, TenantItem>> for Forwarder<'a> {
 // A forwarder at work. An entry that was taken and couldn't be loaded is kept.
 #[derive(Drop)]
 pub(crate) struct Forwarding<'c> {
-    pub(crate) conn: ConnId,
     pub(crate) hand: Forward<'c>,
     pub(crate) head: Head<ConnEntry>,
     pub(crate) kept: Option<ConnEntry>,
-    pub(crate) tails: Vec<Tail<TenantItem>>,
+    pub(crate) tails: Vec<FreeTail<TenantItem>>,
 }
 
 impl<'c> Forwarding<'c> {
@@ -96,8 +109,9 @@ impl<'c> Forwarding<'c> {
         rt: &R,
         alloc: Global,
         source: &EventQueue<ConnEntry>,
-        targets: &[EventQueue<TenantItem>],
+        targets: &[FreeQueue<TenantItem>],
         signals: &Signals,
+        debts: &mut Debts,
     ) -> Went
         requires kept { self.old.kept ≡ None }
         requires head { IsHeadOf source.now self.old.head }
@@ -109,20 +123,21 @@ impl<'c> Forwarding<'c> {
         ensures kept { GoesOn result (self.new.kept ≡ None) }
     {
         if !self.hand.is_empty() {
-            return self.send(rt, targets, signals);
+            return self.send(rt, targets, signals, debts);
         }
         if self.hand.ended() {
             return Went::Out;
         }
-        self.take(rt, alloc, source, signals)
+        self.take(rt, alloc, source, signals, debts)
     }
 
-    // Sends the next item, where there is room for it.
+    // Sends the next item. Where memory is refused it stays in the hand.
     fn send<R: Wait>(
         &mut self,
         rt: &R,
-        targets: &[EventQueue<TenantItem>],
+        targets: &[FreeQueue<TenantItem>],
         signals: &Signals,
+        debts: &mut Debts,
     ) -> Went
         requires seats { map (λ tail. tail.queue) self.old.tails.items ≡ map (λ queue. queue.name) targets.now }
         requires forwards { IsForwarding (config_of self.old.hand) (conn_of self.old.hand) self.old }
@@ -137,12 +152,13 @@ impl<'c> Forwarding<'c> {
         match put_at(rt, targets, &mut self.tails, tenant.0, item) {
             Ok(()) => {
                 self.hand.sent();
-                signals.wake_dispatcher(tenant);
+                debts.put(tenant, signals);
                 Went::On
             }
             Err(item) => {
                 self.hand.unsent(item);
-                Went::Nowhere
+                signals.halt();
+                Went::Out
             }
         }
     }
@@ -154,6 +170,7 @@ impl<'c> Forwarding<'c> {
         alloc: Global,
         source: &EventQueue<ConnEntry>,
         signals: &Signals,
+        debts: &mut Debts,
     ) -> Went
         requires kept { self.old.kept ≡ None }
         requires empty { (hand_of self.old.hand).items ≡ [] }
@@ -167,7 +184,7 @@ impl<'c> Forwarding<'c> {
         let Some(taken) = source.take(rt, &mut self.head) else {
             return Went::Nowhere;
         };
-        signals.wake_reader(self.conn);
+        debts.took(signals);
         match taken.value {
             ConnEntry::Numbered(number, line) => match self.hand.load(alloc, number, line) {
                 Ok(()) => Went::On,
@@ -185,7 +202,7 @@ impl<'c> Forwarding<'c> {
     }
 
     // The seats.
-    fn end(self) -> PassedOn<ConnEntry, TenantItem>
+    fn end(self) -> PassedOn<Head<ConnEntry>, TenantItem>
         requires tenants { length self.tails.items ≡ length (tenants_of (config_of self.hand)) }
         requires forwards { IsForwarding (config_of self.hand) (conn_of self.hand) self }
         ensures head { result.head ≡ self.entry.head }
@@ -195,5 +212,53 @@ impl<'c> Forwarding<'c> {
         each_tenant_gets_its_own();
         let Forwarding { head, tails, .. } = self;
         PassedOn { head, tails }
+    }
+}
+
+// The wake-ups that a forwarder owes: to its reader for the room that it made, and to tenants' workers.
+#[derive(Drop)]
+struct Debts {
+    conn: ConnId,
+    // How many entries were taken since the reader was woken.
+    taken: usize,
+    items: Owed,
+}
+
+impl Debts {
+    fn none(alloc: Global, conn: ConnId, tenants: usize) -> Result<Debts, Memory> {
+        Ok(Debts {
+            conn,
+            taken: 0,
+            items: Owed::nothing(alloc, tenants)?,
+        })
+    }
+
+    // An entry was taken.
+    fn took(&mut self, signals: &Signals) {
+        self.taken = self.taken.saturating_add(1);
+        if self.taken >= MANY_TAKEN {
+            self.wake_reader(signals);
+        }
+    }
+
+    // An item was put for a tenant.
+    fn put(&mut self, tenant: TenantId, signals: &Signals) {
+        self.items.add(tenant.0);
+        if self.items.is_due() {
+            signals.wake_dispatchers(&mut self.items);
+        }
+    }
+
+    // Gives them all.
+    fn pay(&mut self, signals: &Signals) {
+        if self.taken > 0 {
+            self.wake_reader(signals);
+        }
+        signals.wake_dispatchers(&mut self.items);
+    }
+
+    fn wake_reader(&mut self, signals: &Signals) {
+        self.taken = 0;
+        signals.wake_reader(self.conn);
     }
 }

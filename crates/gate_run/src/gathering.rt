@@ -12,7 +12,7 @@ use crate::reader::ReaderEnd;
 use crate::worker::WorkerEnd;
 use gate_core::{ConnectionReport, PipelineReport};
 use gate_pipeline::Pipeline;
-use gate_queue::{Head, Tail};
+use gate_queue::{FreeHead, FreeTail, Head, Tail};
 use gate_record::{ConnEntry, Memory, PipelineItem, Sequence, TenantItem};
 use gate_source::{StopCell, StopNote};
 use std::alloc::Global;
@@ -22,9 +22,9 @@ use std::alloc::Global;
 pub(crate) struct Ends<F> {
     /// By connection number.
     pub(crate) readers: Vec<ReaderEnd<F>>,
-    pub(crate) forwarders: Vec<PassedOn<ConnEntry, TenantItem>>,
+    pub(crate) forwarders: Vec<PassedOn<Head<ConnEntry>, TenantItem>>,
     /// By tenant number.
-    pub(crate) dispatchers: Vec<PassedOn<TenantItem, PipelineItem>>,
+    pub(crate) dispatchers: Vec<PassedOn<FreeHead<TenantItem>, PipelineItem>>,
     /// By tenant number and pipeline number.
     pub(crate) workers: Vec<Vec<WorkerEnd>>,
 }
@@ -84,10 +84,10 @@ pub(crate) fn gather_readers<F: Drop>(
 }
 
 /// Gathers the seats of threads that took from one queue and put into several.
-pub(crate) fn gather_seats<A: Drop, B: Drop>(
+pub(crate) fn gather_seats<H: Drop, T: Drop>(
     alloc: Global,
-    ends: Vec<PassedOn<A, B>>,
-) -> Result<(Vec<Head<A>>, Vec<Vec<Tail<B>>>), Memory>
+    ends: Vec<PassedOn<H, T>>,
+) -> Result<(Vec<H>, Vec<Vec<FreeTail<T>>>), Memory>
     ensures heads { IfOk result (λ seats. seats.0.items ≡ map (λ end. end.head) ends.items) }
     ensures tails { IfOk result (λ seats. map (λ row. row.items) seats.1.items ≡ map (λ end. end.tails.items) ends.items) }
 {
@@ -103,7 +103,7 @@ pub(crate) fn gather_seats<A: Drop, B: Drop>(
 /// What the pipelines' workers handed back, by tenant number and pipeline number.
 #[derive(Drop)]
 pub(crate) struct Workings {
-    pub(crate) heads: Vec<Vec<Head<PipelineItem>>>,
+    pub(crate) heads: Vec<Vec<FreeHead<PipelineItem>>>,
     pub(crate) pipelines: Vec<Vec<Pipeline>>,
     pub(crate) inbox: Vec<Vec<PipelineInbox>>,
     pub(crate) reports: Sequence<Sequence<PipelineReport>>,
@@ -143,7 +143,7 @@ pub(crate) fn gather_workers(alloc: Global, lists: Vec<Vec<WorkerEnd>>) -> Resul
 // The same of one tenant, by pipeline number.
 #[derive(Drop)]
 struct TenantWorkings {
-    heads: Vec<Head<PipelineItem>>,
+    heads: Vec<FreeHead<PipelineItem>>,
     pipelines: Vec<Pipeline>,
     inbox: Vec<PipelineInbox>,
     reports: Sequence<PipelineReport>,

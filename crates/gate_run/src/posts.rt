@@ -6,11 +6,12 @@ ghost use Rattle.gate_run.specs.Lists.{Pairwise};
 ghost use Rattle.gate_run.specs.PipelineEnds.{ends_of, inbox_of};
 ghost use Rattle.gate_run.specs.Ports.{AreOpened, IsOpened, pipeline_counts};
 
+use crate::lane::open_queue;
 use crossbeam_utils::sync::{Parker, Unparker};
 use gate_config::Config;
 use gate_core::PLACES;
 use gate_items::{JobResult, Manage};
-use gate_queue::{EventQueue, Full, Head, Tagged, Tail, open};
+use gate_queue::{EventQueue, Full, Head, Tagged, Tail};
 use gate_record::{Memory, PipelineId, Shared, TenantId};
 use gate_source::{StopCause, StopCell, StopNote};
 use std::alloc::Global;
@@ -89,12 +90,7 @@ impl<T> PostSeat<T> {
 fn open_pair<T: Drop>(alloc: Global) -> Result<(PostSeat<T>, InboxSeat<T>), Memory>
     ensures { IfOk result (λ ends. IsOpened ends.0 ends.1) }
 {
-    let Ok((queue, mut tails, head)) = open(alloc, PLACES, 1) else {
-        return Err(Memory);
-    };
-    let Some(tail) = tails.pop() else {
-        unreachable!()
-    };
+    let (queue, head, tail) = open_queue(alloc, PLACES)?;
     let queue = Shared::new(alloc, queue)?;
     let other = queue.share()?;
     Ok((PostSeat { queue, tail }, InboxSeat { queue: other, head }))

@@ -2,23 +2,23 @@
 ghost use Rattle.std.specs.Prelude.{◌≡◌, ℕ, map, IfErr, OnOk};
 ghost use Rattle.gate_run.specs.Seats.{PutAt, seat_of};
 
-use gate_queue::{EventQueue, Full, Head, Tail};
+use gate_queue::{FreeQueue, FreeTail, Memory};
 use std::sync::Wait;
 
 /// The seats of a thread that took from one queue and put into several.
 #[derive(Drop)]
-pub(crate) struct PassedOn<A, B> {
-    pub(crate) head: Head<A>,
+pub(crate) struct PassedOn<H, T> {
+    pub(crate) head: H,
     /// By queue.
-    pub(crate) tails: Vec<Tail<B>>,
+    pub(crate) tails: Vec<FreeTail<T>>,
 }
 
-/// Puts a value into the queue of this number, by the seat of that number. The value comes back where the queue was full, and where
-/// there is none of this number.
-pub(crate) fn put_at<T, R: Wait>(
+/// Puts a value into the queue of this number, by the seat of that number. The value comes back where memory was refused, and where
+/// there is no queue of this number.
+pub(crate) fn put_at<T: Drop, R: Wait>(
     rt: &R,
-    queues: &[EventQueue<T>],
-    tails: &mut Vec<Tail<T>>,
+    queues: &[FreeQueue<T>],
+    tails: &mut Vec<FreeTail<T>>,
     number: u32,
     value: T,
 ) -> Result<(), T>
@@ -33,6 +33,6 @@ pub(crate) fn put_at<T, R: Wait>(
     }
     match queues[place].put(rt, &mut tails[place], value) {
         Ok(()) => Ok(()),
-        Err(Full(value)) => Err(value),
+        Err(Memory(value)) => Err(value),
     }
 }

@@ -17,7 +17,7 @@ use crate::worker::Worker;
 use crossbeam_utils::sync::{Parker, Unparker};
 use gate_config::Config;
 use gate_pipeline::Pipeline;
-use gate_queue::{EventQueue, Head, Tail};
+use gate_queue::{EventQueue, FreeHead, FreeQueue, FreeTail, Head, Tail};
 use gate_record::{ConnEntry, ConnId, Memory, PipelineId, PipelineItem, TenantId, TenantItem};
 use gate_source::{RecordFeed, StopCell};
 use std::alloc::Global;
@@ -64,8 +64,8 @@ pub(crate) fn seat_forwarders<'a>(
     config: &'a Config,
     sources: &'a [EventQueue<ConnEntry>],
     heads: Vec<Head<ConnEntry>>,
-    targets: &'a [EventQueue<TenantItem>],
-    tails: Vec<Vec<Tail<TenantItem>>>,
+    targets: &'a [FreeQueue<TenantItem>],
+    tails: Vec<Vec<FreeTail<TenantItem>>>,
 ) -> Result<(Vec<Forwarder<'a>>, Vec<Unparker>), Memory>
     requires sources { length sources.now ≡ length (connections_of config.now) }
     requires heads { heads.items ≡ map fresh_head sources.now }
@@ -99,10 +99,10 @@ pub(crate) fn seat_forwarders<'a>(
 pub(crate) fn seat_dispatchers<'a>(
     alloc: Global,
     config: &'a Config,
-    sources: &'a [EventQueue<TenantItem>],
-    heads: Vec<Head<TenantItem>>,
-    targets: &'a [Vec<EventQueue<PipelineItem>>],
-    tails: Vec<Vec<Tail<PipelineItem>>>,
+    sources: &'a [FreeQueue<TenantItem>],
+    heads: Vec<FreeHead<TenantItem>>,
+    targets: &'a [Vec<FreeQueue<PipelineItem>>],
+    tails: Vec<Vec<FreeTail<PipelineItem>>>,
 ) -> Result<(Vec<Dispatcher<'a>>, Vec<Unparker>), Memory>
     requires sources { length sources.now ≡ length (tenants_of config.now) }
     requires heads { heads.items ≡ map fresh_head sources.now }
@@ -137,8 +137,8 @@ pub(crate) fn seat_dispatchers<'a>(
 pub(crate) fn seat_workers<'a, G>(
     alloc: Global,
     config: &'a Config,
-    sources: &'a [Vec<EventQueue<PipelineItem>>],
-    heads: Vec<Vec<Head<PipelineItem>>>,
+    sources: &'a [Vec<FreeQueue<PipelineItem>>],
+    heads: Vec<Vec<FreeHead<PipelineItem>>>,
     inbox: Vec<Vec<PipelineInbox>>,
     gate: &'a G,
 ) -> Result<(Vec<Vec<Worker<'a, G>>>, Vec<Vec<Unparker>>), Memory>
@@ -176,8 +176,8 @@ fn seat_pipelines<'a, G>(
     alloc: Global,
     config: &'a Config,
     tenant: TenantId,
-    sources: &'a [EventQueue<PipelineItem>],
-    heads: Vec<Head<PipelineItem>>,
+    sources: &'a [FreeQueue<PipelineItem>],
+    heads: Vec<FreeHead<PipelineItem>>,
     inbox: Vec<PipelineInbox>,
     gate: &'a G,
 ) -> Result<(Vec<Worker<'a, G>>, Vec<Unparker>), Memory>

@@ -13,14 +13,15 @@ ghost use Rattle.gate_run.specs.Stages.{AreLanesSettled, IsStageSettled};
 use crate::fault::RunFault;
 use crate::gate::Gate;
 use crate::gathering::{Ends, Readings, Workings, gather_readers, gather_seats, gather_workers};
+use crate::lane::settle_lane;
 use crate::posts::Inbox;
 use crate::queues::{Queues, open_queues};
 use crate::running::run_between;
-use crate::stage::{settle_lane, settle_lanes, settle_stage};
+use crate::stage::{settle_lanes, settle_stage};
 use gate_config::Config;
 use gate_core::{PLACES, RunReport, each_way_delivers};
 use gate_pipeline::{Pipeline, what_was_taken_is_processed};
-use gate_queue::EventQueue;
+use gate_queue::{EventQueue, FreeQueue};
 use gate_record::{ConnEntry, Memory, PipelineItem, Shared, TenantItem};
 use gate_source::{RecordFeed, StopCell, StopNote};
 use std::alloc::Global;
@@ -42,8 +43,8 @@ pub struct Served<F> {
 }
 
 /// Runs a configuration until all that its feeds have is processed, or a stop was asked for, or memory was refused: a reader and a
-/// forwarder for each connection, a worker for each tenant and one for each pipeline, each in a thread of its own, with queues of
-/// 4,096 places between them. It waits for all of them.
+/// forwarder for each connection, a worker for each tenant and one for each pipeline, each in a thread of its own. The queue between a
+/// reader and its forwarder has 4,096 places; those of tenants and pipelines have no bound. It waits for all of them.
 ///
 /// `feeds` are those of the connections, by connection number, each of which has answered fewer than 2^64 - 1 faults; `inbox` was
 /// opened on this configuration. Each pipeline begins with nothing in it. `gate` is told of each pipeline by its worker.
@@ -72,7 +73,7 @@ pub fn serve<'c, F: RecordFeed + Drop + Send, G: Gate + Sync, R: Threads + Wait 
     serve_over(rt, alloc, PLACES, config, feeds, inbox, gate)
 }
 
-/// The same with queues of so many places, at least one, between the threads. Those of the inbox are as they were opened.
+/// The same with so many places, at least one, for the queue of each connection.
 pub fn serve_over<
     'c,
     F: RecordFeed + Drop + Send,
@@ -126,8 +127,8 @@ pub(crate) fn finish<F: Drop, R: Wait>(
     rt: &R,
     alloc: Global,
     records: Vec<EventQueue<ConnEntry>>,
-    items: Vec<EventQueue<TenantItem>>,
-    triggers: Vec<Vec<EventQueue<PipelineItem>>>,
+    items: Vec<FreeQueue<TenantItem>>,
+    triggers: Vec<Vec<FreeQueue<PipelineItem>>>,
     ends: Ends<F>,
     cell: Shared<StopCell>,
     note: StopNote,

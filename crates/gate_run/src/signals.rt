@@ -1,8 +1,17 @@
 //! What threads tell each other besides what goes through queues: that all are to halt, since memory was refused to one of them, and
 //! that there may be something to do. No contract speaks of it: whatever is told, or isn't, what is promised of the queues holds.
+//!
+//! A thread parks only once it found nothing to do, and a wake-up that comes between its last look and its parking makes it look
+//! again. So none is left parked while something waits for it, where whoever put that wakes it afterwards:
+//!
+//! - A reader wakes its forwarder at each record, since it can't know whether its feed will wait for the next.
+//! - A forwarder wakes its reader, which parks on a full queue alone, once it took many records, and before it parks or returns.
+//!   What it found full is taken by then.
+//! - A forwarder wakes tenants' workers, and these those of pipelines, as `Owed` says.
 
+use crate::owed::Owed;
 use crossbeam_utils::sync::Unparker;
-use gate_record::{ConnId, PipelineId, TenantId};
+use gate_record::{ConnId, TenantId};
 use std::sync::atomic::{AtomicBool, Ordering};
 
 /// The halt flag, and what wakes each thread.
@@ -45,20 +54,15 @@ impl Signals {
         wake(&self.forwarders, conn.0);
     }
 
-    /// There may be room for items of a tenant.
-    pub(crate) fn wake_forwarders(&self) {
-        wake_all(&self.forwarders);
+    /// There may be items of the tenants to which it is owed.
+    pub(crate) fn wake_dispatchers(&self, owed: &mut Owed) {
+        owed.pay(&self.dispatchers);
     }
 
-    /// There may be an item of this tenant, or room for one of a pipeline of its.
-    pub(crate) fn wake_dispatcher(&self, tenant: TenantId) {
-        wake(&self.dispatchers, tenant.0);
-    }
-
-    /// There may be something for this pipeline.
-    pub(crate) fn wake_worker(&self, tenant: TenantId, pipeline: PipelineId) {
+    /// There may be items of the pipelines of this tenant to which it is owed.
+    pub(crate) fn wake_workers(&self, tenant: TenantId, owed: &mut Owed) {
         if let Some(workers) = self.workers.get(tenant.0 as usize) {
-            wake(workers, pipeline.0);
+            owed.pay(workers);
         }
     }
 }

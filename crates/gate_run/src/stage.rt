@@ -1,44 +1,38 @@
-//! The queues between threads of two kinds.
-ghost use Rattle.std.specs.Prelude.{◌≡◌, ◌<◌, ◌∷◌, [], IfOk, OnOk, length, map};
+//! The queues without a bound between threads of two kinds.
+ghost use Rattle.std.specs.Prelude.{◌≡◌, ◌∷◌, [], IfOk, OnOk, length, map};
 ghost use Rattle.std.specs.List.{range_with_len};
 ghost use Rattle.gate_run.specs.Seats.{seat_in, seat_of};
 ghost use Rattle.gate_run.specs.Stages.{AreLanesSettled, AreSettled, IsOpenStage, IsStageSettled, seats_in};
 
 use crate::lists::{columns_of, next_of};
-use gate_queue::{EventQueue, Head, OpenFault, Tail, open};
+use gate_queue::{FreeHead, FreeQueue, FreeTail, open_free};
 use gate_record::Memory;
 use std::alloc::Global;
 use std::sync::Wait;
 
 /// Queues which have the same senders, with all their seats.
 #[derive(Drop)]
-pub(crate) struct Stage<T> {
-    pub(crate) queues: Vec<EventQueue<T>>,
+pub(crate) struct Stage<T: Drop> {
+    pub(crate) queues: Vec<FreeQueue<T>>,
     /// By queue: the taker's seat.
-    pub(crate) heads: Vec<Head<T>>,
+    pub(crate) heads: Vec<FreeHead<T>>,
     /// By sender, and then by queue: the sender's seat.
-    pub(crate) tails: Vec<Vec<Tail<T>>>,
+    pub(crate) tails: Vec<Vec<FreeTail<T>>>,
 }
 
-/// Opens so many queues, each of so many places and senders.
+/// Opens so many queues, each of so many senders.
 pub(crate) fn open_stage<T: Drop>(
     alloc: Global,
-    places: usize,
     count: usize,
     senders: usize,
 ) -> Result<Stage<T>, Memory>
-    requires places { 0 < places }
     ensures { IfOk result (λ stage. IsOpenStage count senders stage.queues.items stage.heads.items (map (λ row. row.items) stage.tails.items)) }
 {
     let mut queues = Vec::new(alloc);
     let mut heads = Vec::new(alloc);
     let mut rows = Vec::new(alloc);
     for _queue in 0..count {
-        let (queue, tails, head) = match open(alloc, places, senders) {
-            Ok(opened) => opened,
-            Err(OpenFault::Memory) => return Err(Memory),
-            Err(OpenFault::Capacity) => unreachable!(),
-        };
+        let (queue, tails, head) = open_free(alloc, senders)?;
         queues.push(queue)?;
         heads.push(head)?;
         rows.push(tails)?;
@@ -55,9 +49,9 @@ pub(crate) fn open_stage<T: Drop>(
 pub(crate) fn settle_stage<T: Drop, R: Wait>(
     rt: &R,
     alloc: Global,
-    queues: Vec<EventQueue<T>>,
-    heads: Vec<Head<T>>,
-    tails: Vec<Vec<Tail<T>>>,
+    queues: Vec<FreeQueue<T>>,
+    heads: Vec<FreeHead<T>>,
+    tails: Vec<Vec<FreeTail<T>>>,
 ) -> Result<(), Memory>
     requires senders { map (λ queue. queue.name.senders) queues.items ≡ map (λ queue. length tails.items) queues.items }
     requires heads { map (λ head. head.queue) heads.items ≡ map (λ queue. queue.name) queues.items }
@@ -71,9 +65,9 @@ pub(crate) fn settle_stage<T: Drop, R: Wait>(
 // Ends each of these queues, with its seats.
 fn settle_all<T: Drop, R: Wait>(
     rt: &R,
-    queues: Vec<EventQueue<T>>,
-    heads: Vec<Head<T>>,
-    seats: Vec<Vec<Tail<T>>>,
+    queues: Vec<FreeQueue<T>>,
+    heads: Vec<FreeHead<T>>,
+    seats: Vec<Vec<FreeTail<T>>>,
 ) -> Result<(), Memory>
     requires heads { map (λ head. head.queue) heads.items ≡ map (λ queue. queue.name) queues.items }
     requires seats { map (λ tails. map seat_of tails.items) seats.items ≡ map seats_in queues.items }
@@ -95,9 +89,9 @@ fn settle_all<T: Drop, R: Wait>(
 pub(crate) fn settle_lanes<T: Drop, R: Wait>(
     rt: &R,
     alloc: Global,
-    lanes: Vec<Vec<EventQueue<T>>>,
-    heads: Vec<Vec<Head<T>>>,
-    tails: Vec<Vec<Tail<T>>>,
+    lanes: Vec<Vec<FreeQueue<T>>>,
+    heads: Vec<Vec<FreeHead<T>>>,
+    tails: Vec<Vec<FreeTail<T>>>,
 ) -> Result<(), Memory>
     requires senders { map (λ queues. map (λ queue. queue.name.senders) queues.items) lanes.items ≡ map (λ queues. map (λ queue. 1) queues.items) lanes.items }
     requires heads { map (λ row. map (λ head. head.queue) row.items) heads.items ≡ map (λ queues. map (λ queue. queue.name) queues.items) lanes.items }
@@ -109,18 +103,18 @@ pub(crate) fn settle_lanes<T: Drop, R: Wait>(
     for queues in lanes {
         let own_heads = next_of(&mut heads);
         let own_tails = next_of(&mut tails);
-        settle_lane(rt, alloc, queues, own_heads, own_tails)?;
+        settle_single(rt, alloc, queues, own_heads, own_tails)?;
     }
     Ok(())
 }
 
-/// Ends the queues of a stage with one sender. `Memory` where there is none to see what waits.
-pub(crate) fn settle_lane<T: Drop, R: Wait>(
+// Ends the queues of a stage with one sender.
+fn settle_single<T: Drop, R: Wait>(
     rt: &R,
     alloc: Global,
-    queues: Vec<EventQueue<T>>,
-    heads: Vec<Head<T>>,
-    tails: Vec<Tail<T>>,
+    queues: Vec<FreeQueue<T>>,
+    heads: Vec<FreeHead<T>>,
+    tails: Vec<FreeTail<T>>,
 ) -> Result<(), Memory>
     requires senders { map (λ queue. queue.name.senders) queues.items ≡ map (λ queue. 1) queues.items }
     requires heads { map (λ head. head.queue) heads.items ≡ map (λ queue. queue.name) queues.items }

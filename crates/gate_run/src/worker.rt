@@ -13,7 +13,7 @@ use crossbeam_utils::sync::Parker;
 use gate_config::Config;
 use gate_items::{JobResult, Manage};
 use gate_pipeline::{Pipeline, Taken, Which};
-use gate_queue::{EventQueue, Head};
+use gate_queue::{FreeHead, FreeQueue};
 use gate_record::{Memory, PipelineId, PipelineItem, TenantId};
 use std::sync::Wait;
 use std::thread::Threads;
@@ -31,8 +31,8 @@ pub(crate) struct Worker<'a, G> {
     /// Nothing was taken yet.
     pub(crate) state: Pipeline,
     /// The trigger queue, and the taker's seat in it.
-    pub(crate) source: &'a EventQueue<PipelineItem>,
-    pub(crate) head: Head<PipelineItem>,
+    pub(crate) source: &'a FreeQueue<PipelineItem>,
+    pub(crate) head: FreeHead<PipelineItem>,
     pub(crate) management: InboxSeat<Manage>,
     pub(crate) results: InboxSeat<JobResult>,
     pub(crate) parker: Parker,
@@ -43,7 +43,7 @@ pub(crate) struct Worker<'a, G> {
 #[derive(Drop)]
 pub(crate) struct WorkerEnd {
     pub(crate) state: Pipeline,
-    pub(crate) head: Head<PipelineItem>,
+    pub(crate) head: FreeHead<PipelineItem>,
     pub(crate) management: InboxSeat<Manage>,
     pub(crate) results: InboxSeat<JobResult>,
     pub(crate) parker: Parker,
@@ -96,7 +96,7 @@ pub(crate) struct Working {
     pub(crate) tenant: TenantId,
     pub(crate) pipeline: PipelineId,
     pub(crate) state: Pipeline,
-    pub(crate) head: Head<PipelineItem>,
+    pub(crate) head: FreeHead<PipelineItem>,
     pub(crate) management: InboxSeat<Manage>,
     pub(crate) results: InboxSeat<JobResult>,
     // How many queues were found empty since something was processed.
@@ -109,7 +109,7 @@ impl Working {
         &mut self,
         rt: &R,
         config: &Config,
-        source: &EventQueue<PipelineItem>,
+        source: &FreeQueue<PipelineItem>,
         signals: &Signals,
         gate: &G,
     ) -> Went
@@ -134,7 +134,6 @@ impl Working {
             },
             Which::Trigger => match source.take(rt, &mut self.head) {
                 Some(taken) => {
-                    signals.wake_dispatcher(self.tenant);
                     self.process(rt, config, Taken::Trigger(taken.value), signals, gate)
                 }
                 None => self.found_empty(),

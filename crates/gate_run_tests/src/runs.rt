@@ -110,7 +110,7 @@ fn a_long_run(rt: HostRuntime) -> Result<(), Fail> {
     reports(&rt, rt.alloc(), &config, feeds, &Silent, wanted.as_str())
 }
 
-// Runs a configuration with queues of two places, where every put is refused often.
+// Runs a configuration with two places for the records of each connection, so that records are refused often.
 fn run_with_two_places<R: Threads + Wait + Clock + Abort + Sync>(
     rt: &R,
     alloc: Global,

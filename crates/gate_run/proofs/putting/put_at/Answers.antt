@@ -18,4 +18,4 @@ returns-in-Ok-clause-seats g c =
 pub returns-in-Err-clause-refused : goal.returns-in-Err-clause-refused
 returns-in-Err-clause-refused g c =
     let low : c.args.number < length c.args.tails.now.items = search rules in
-    (c.in-Err.ensures.full.0, set_itself c.args.tails.now.items c.args.number c.put.new.tail c.index_mut.result.now low (search rules))
+    (c.in-Err.ensures.memory.0, set_itself c.args.tails.now.items c.args.number c.put.new.tail c.index_mut.result.now low (search rules))

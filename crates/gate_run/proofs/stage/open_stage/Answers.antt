@@ -11,18 +11,18 @@ pub loop-queue-preserved : goal.loop-queue-preserved
 loop-queue-preserved g c =
     let (many, senders, heads, rows) = c.loop-queue.invariant in
     let n = c.args.senders in
-    let queue = c.in-Ok.opened.0 in
-    let tails = c.in-Ok.opened.1 in
-    let head = c.in-Ok.opened.2 in
-    let said = c.in-Ok.ensures in
+    let queue = c.in_ok-queue.queue in
+    let tails = c.in_ok-queue.tails in
+    let head = c.in_ok-queue.head in
+    let said = c.in_ok-queue.ensures in
     let queues = c.loop-queue.queues.items in
     let more = c.in_ok-push.ensures.items in
     let queues' = c.push.new.self.items in (
       one_longer queues queues' queue c.loop-queue._queue many more,
-      alike_more (λ q. q.name.senders) (λ q. n) queues queues' queues queues' queue queue senders said.queue.1 more more,
+      alike_more (λ q. q.name.senders) (λ q. n) queues queues' queues queues' queue queue senders said.queue more more,
       made_alike fresh_head c.loop-queue.heads.items c.push-in-loop-queue.new.self.items queues queues' head queue heads (λ i. record { queue = said.head.0 i; taken = said.head.1 i }) c.in_ok-push-2.ensures.items more,
       alike_more (λ row. row.items) (λ q. map (λ s. fresh_tail s q) (range_with_len 0 n)) c.loop-queue.rows.items c.push-in-loop-queue-2.new.self.items queues queues' tails queue rows
-          (fresh_row queue n 0 tails.items (said.tails.0 ∙ said.queue.1) (λ k d low. let (of, number) = said.tails.1 k d low in (of, number ∙ omega arith)) said.nothing_put) c.in_ok-push-3.ensures.items more,
+          (fresh_row queue n 0 tails.items (said.tails.0 ∙ said.queue) (λ k d low. let (of, number) = said.tails.1 k d low in (of, number ∙ omega arith)) said.nothing_put) c.in_ok-push-3.ensures.items more,
     )
 
 pub columns_of-requires : goal.columns_of-requires

@@ -5,14 +5,14 @@ use Rattle.gate_run.proofs.dispatcher.Dispatching.give.Goals as goal
 
 pub returns-in-Ok-clause-dispatches : goal.returns-in-Ok-clause-dispatches
 returns-in-Ok-clause-dispatches g c =
-    given_one _ c.requires.dispatches (state_of c.next.new.self) c.in-Some.pipeline c.in-Some.item
+    given_one _ _ _ c.requires.dispatches (state_of c.next.new.self) c.in-Some.pipeline c.in-Some.item
     (first_out (state_of c.args.self.now.dispatch) (state_of c.next.new.self) (c.in-Some.pipeline, c.in-Some.item) c.in-Some.ensures.moves)
-    c.in-Ok.ensures.puts c.given.ensures.closes (c.given.ensures.config ∙ c.in-Some.ensures.config) (c.given.ensures.tenant ∙ c.in-Some.ensures.tenant) refl refl
+    c.in-Ok.ensures.puts c.given.ensures.closes (c.given.ensures.config ∙ c.in-Some.ensures.config) (c.given.ensures.tenant ∙ c.in-Some.ensures.tenant) refl
 
 pub returns-in-Err-clause-dispatches : goal.returns-in-Err-clause-dispatches
 returns-in-Err-clause-dispatches g c =
-    still _ c.requires.dispatches (c.ungiven.ensures.config ∙ c.in-Some.ensures.config) (c.ungiven.ensures.tenant ∙ c.in-Some.ensures.tenant)
+    still _ _ _ c.requires.dispatches (c.ungiven.ensures.config ∙ c.in-Some.ensures.config) (c.ungiven.ensures.tenant ∙ c.in-Some.ensures.tenant)
     (back_in (state_of c.args.self.now.dispatch) (state_of c.next.new.self) (state_of c.ungiven.new.self) (c.in-Some.pipeline, c.in-Some.item) c.requires.dispatches.place
     (first_out (state_of c.args.self.now.dispatch) (state_of c.next.new.self) (c.in-Some.pipeline, c.in-Some.item) c.in-Some.ensures.moves)
     (c.ungiven.ensures.fills ∙ ap (λ item. put_back item (state_of c.next.new.self).out (state_of c.next.new.self)) c.in-Err.ensures.refused.0))
-    refl refl c.in-Err.ensures.refused.1
+    refl c.in-Err.ensures.refused.1

@@ -1,10 +1,14 @@
-use Rattle.std.proofs.Common.{◌≡◌, ◌++◌, ◌∷◌, [], refl, ap}
-use Rattle.gate_run.specs.declared.dispatcher.Dispatching.{Dispatching}
-use Rattle.gate_run.proofs.Dispatches.{gathered_one}
+use Rattle.std.proofs.Common.{◌∙◌, ◌<◌, refl, sym, ap, subst}
+use Rattle.gate_tenant.specs.States.{has_ended, room_of}
+use Rattle.gate_run.proofs.Dispatches.{gathered_one, still}
 use Rattle.gate_run.proofs.dispatcher.Dispatching.take.Goals as goal
 
-pub returns-in-Ok-clause-dispatches : goal.returns-in-Ok-clause-dispatches
-returns-in-Ok-clause-dispatches g c =
-    let now : Dispatching = record { tenant = c.args.self.now.tenant; dispatch = c.gather.new.self; head = c.take.new.head; kept = c.args.self.now.kept; tails = c.args.self.now.tails } in
-    let more : c.take.new.head.taken ≡ c.args.self.now.head.taken ++ c.in-Some.taken ∷ [] = ap (λ head. head.taken) c.in-Some.ensures.some in
-    gathered_one now c.requires.dispatches c.in-Ok.ensures.config c.in-Ok.ensures.tenant c.in-Some.taken c.requires.kept more refl c.requires.kept c.requires.room c.requires.goes_on c.in-Ok.ensures.gathers
+pub returns-clause-dispatches : goal.returns-clause-dispatches
+returns-clause-dispatches g c =
+    let made = c.in-Ok.ensures in
+    let did = c.gather.ensures in
+    let tails = c.args.self.now.tails.items in
+    let roomy = still c.make_room.new.self c.args.self.now.head tails c.requires.dispatches made.config made.tenant made.state refl refl in
+    c.gather_batch.ensures.continues _ _ _
+    (gathered_one c.gather.new.dispatch c.take.new.head tails roomy did.config did.tenant c.in-Some.first (ap (λ head. head.taken) c.in-Some.ensures.some) refl
+    (subst (λ state. 0 < room_of state) (sym made.state) c.requires.room) ((λ i. has_ended (made.config i) (made.tenant i) (made.state i)) ∙ c.requires.goes_on) did.gathers)

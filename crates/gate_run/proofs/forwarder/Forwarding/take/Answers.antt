@@ -5,12 +5,12 @@ use Rattle.gate_run.proofs.forwarder.Forwarding.take.Goals as goal
 
 pub returns-in-Ok-clause-forwards : goal.returns-in-Ok-clause-forwards
 returns-in-Ok-clause-forwards g c =
-    let now : Forwarding = record { conn = c.args.self.now.conn; hand = c.load.new.self; head = c.take.new.head; kept = c.args.self.now.kept; tails = c.args.self.now.tails } in
+    let now : Forwarding = record { hand = c.load.new.self; head = c.take.new.head; kept = c.args.self.now.kept; tails = c.args.self.now.tails } in
     let more : c.take.new.head.taken ≡ c.args.self.now.head.taken ++ c.in-Some.taken ∷ [] = ap (λ head. head.taken) c.in-Some.ensures.some in
     loaded_one now c.requires.forwards c.in-Some.taken c.requires.kept more refl c.in-Ok.ensures.config c.in-Ok.ensures.conn c.requires.empty c.requires.kept _ _ c.in-Ok.ensures.loads (search rules)
 
 pub returns-in-End-clause-forwards : goal.returns-in-End-clause-forwards
 returns-in-End-clause-forwards g c =
-    let now : Forwarding = record { conn = c.args.self.now.conn; hand = c.load_end.new.self; head = c.take.new.head; kept = c.args.self.now.kept; tails = c.args.self.now.tails } in
+    let now : Forwarding = record { hand = c.load_end.new.self; head = c.take.new.head; kept = c.args.self.now.kept; tails = c.args.self.now.tails } in
     let more : c.take.new.head.taken ≡ c.args.self.now.head.taken ++ c.in-Some.taken ∷ [] = ap (λ head. head.taken) c.in-Some.ensures.some in
     loaded_end now c.requires.forwards c.in-Some.taken c.requires.kept more refl c.load_end.ensures.config c.load_end.ensures.conn c.requires.empty c.requires.kept c.in-End.is c.load_end.ensures.loads

@@ -2,43 +2,45 @@ use Rattle.std.proofs.Common.{rules, refl, sym, length, ◌∙◌, ap}
 use Rattle.gate_config.specs.Lookups.{pipelines_of}
 use Rattle.gate_run.proofs.Dispatches.{dispatcher_ends, dispatching_begins, not_dispatched}
 use Rattle.gate_run.proofs.Seated.{as_many, fresh_seats, only_queues}
-use Rattle.gate_run.proofs.dispatcher.DispatcherWorkPassedOnTenantItemPipelineItem.work.Goals as goal
+use Rattle.gate_run.proofs.dispatcher.DispatcherWorkPassedOnFreeHeadTenantItemPipelineItem.work.Goals as goal
 
 pub loop-init : goal.loop-init
 loop-init g c = (
   (tt, tt),
-  dispatching_begins _ c.args.self.source.now c.args.self.targets.now c.in-Ok.ensures.config c.in-Ok.ensures.tenant c.in-Ok.ensures.state c.requires.not_taken refl c.requires.not_put,
-  refl,
+  dispatching_begins _ _ _ c.args.self.source.now c.args.self.targets.now c.in-Ok-new.ensures.config c.in-Ok-new.ensures.tenant c.in-Ok-new.ensures.state c.requires.not_taken c.requires.not_put,
   ap (λ head. head.queue) c.requires.not_taken,
   fresh_seats 0 c.args.self.tails.items c.args.self.targets.now c.requires.not_put,
 )
 
 pub returns-then-is_halted : goal.returns-then-is_halted
 returns-then-is_halted g c =
-    let (iterator, was, kept, head, seats) = c.loop.invariant in
+    let (iterator, was, head, seats) = c.loop.invariant in
     dispatcher_ends _ _ c.end.result.head c.end.result.tails.items c.end.ensures.head (ap (λ v. v.items) c.end.ensures.tails) head seats was c.end.ensures.given
 
 pub step-requires-clause-seats : goal.step-requires-clause-seats
 step-requires-clause-seats g c =
-    let (iterator, was, kept, head, seats) = c.loop.invariant in
+    let (iterator, was, head, seats) = c.loop.invariant in
     only_queues 0 c.loop.dispatching.tails.items c.args.self.targets.now seats
 
 pub returns-in-Out : goal.returns-in-Out
 returns-in-Out g c =
-    let (iterator, was, kept, head, seats) = c.loop.invariant in
-    dispatcher_ends {f = c.step.new.self} _ _ c.end-in-Out.result.head c.end-in-Out.result.tails.items c.end-in-Out.ensures.head (ap (λ v. v.items) c.end-in-Out.ensures.tails) (c.step.ensures.head ∙ head) (c.step.ensures.seats ∙ seats) (search rules) c.end-in-Out.ensures.given
+    let (iterator, was, head, seats) = c.loop.invariant in
+    dispatcher_ends {d = c.step.new.self.dispatch} {taker = c.step.new.self.head} {senders = c.step.new.self.tails.items} _ _ c.end-in-Out.result.head c.end-in-Out.result.tails.items c.end-in-Out.ensures.head (ap (λ v. v.items) c.end-in-Out.ensures.tails) (c.step.ensures.head ∙ head) (c.step.ensures.seats ∙ seats) (search rules) c.end-in-Out.ensures.given
 
 pub returns-in_default : goal.returns-in_default
 returns-in_default g c = not_dispatched c.args.self.config.now c.args.self.tenant.0 c.args.self.source.now c.args.self.targets.now c.args.self.head c.args.self.tails.items c.requires.not_taken c.requires.not_put
 
 pub end-requires-clause-pipelines : goal.end-requires-clause-pipelines
 end-requires-clause-pipelines g c =
-    let (iterator, was, kept, head, seats) = c.loop.invariant in
+    let (iterator, was, head, seats) = c.loop.invariant in
     as_many 0 c.loop.dispatching.tails.items c.args.self.targets.now seats ∙ c.requires.pipelines ∙ (λ i. length (pipelines_of (sym was.by_config i) (sym was.of_tenant i)))
 
 pub end-requires-in-Out-clause-pipelines : goal.end-requires-in-Out-clause-pipelines
 end-requires-in-Out-clause-pipelines g c =
-    let (iterator, was, kept, head, seats) = c.loop.invariant in
+    let (iterator, was, head, seats) = c.loop.invariant in
     let next = c.step.ensures.dispatches in
     as_many 0 c.step.new.self.tails.items c.args.self.targets.now (c.step.ensures.seats ∙ seats) ∙ c.requires.pipelines
     ∙ (λ i. length (pipelines_of (sym (next.by_config ∙ was.by_config) i) (sym (next.of_tenant ∙ was.of_tenant) i)))
+
+pub returns-in_default-new : goal.returns-in_default-new
+returns-in_default-new g c = not_dispatched c.args.self.config.now c.args.self.tenant.0 c.args.self.source.now c.args.self.targets.now c.args.self.head c.args.self.tails.items c.requires.not_taken c.requires.not_put

@@ -2,7 +2,7 @@ use Rattle.std.specs.Prelude.{◌≡◌, None, map}
 use Rattle.gate_queue.specs.Seats.{IsHeadOf}
 use Rattle.gate_run.specs.Forwarders.{IsForwarding}
 use Rattle.gate_run.specs.Seats.{seat_in, seat_of}
-use Rattle.gate_run.proofs.forwarder.ForwarderWorkPassedOnConnEntryTenantItem.work.Given as goal
+use Rattle.gate_run.proofs.forwarder.ForwarderWorkPassedOnHeadConnEntryTenantItem.work.Given as goal
 
 abbrev pub invariant-loop : goal.invariant-loop
 invariant-loop g l =

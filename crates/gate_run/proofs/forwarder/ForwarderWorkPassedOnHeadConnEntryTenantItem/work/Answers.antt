@@ -1,7 +1,7 @@
 use Rattle.std.proofs.Common.{rules, refl, ◌∙◌, ap}
-use Rattle.gate_run.proofs.Forwards.{forwarder_ends, forwarding_begins}
+use Rattle.gate_run.proofs.Forwards.{forwarder_ends, forwarding_begins, not_forwarded}
 use Rattle.gate_run.proofs.Seated.{fresh_seats, only_queues}
-use Rattle.gate_run.proofs.forwarder.ForwarderWorkPassedOnConnEntryTenantItem.work.Goals as goal
+use Rattle.gate_run.proofs.forwarder.ForwarderWorkPassedOnHeadConnEntryTenantItem.work.Goals as goal
 
 pub loop-init : goal.loop-init
 loop-init g c = (
@@ -26,3 +26,6 @@ pub returns-in-Out : goal.returns-in-Out
 returns-in-Out g c =
     let (iterator, was, kept, head, seats) = c.loop.invariant in
     forwarder_ends {f = c.step.new.self} _ _ c.end-in-Out.result.head c.end-in-Out.result.tails.items c.end-in-Out.ensures.head (ap (λ v. v.items) c.end-in-Out.ensures.tails) (c.step.ensures.head ∙ head) (c.step.ensures.seats ∙ seats) (search rules) c.end-in-Out.ensures.put
+
+pub returns-in_default : goal.returns-in_default
+returns-in_default g c = not_forwarded c.args.self.config.now c.args.self.conn.0 c.args.self.source.now c.args.self.targets.now c.args.self.head c.args.self.tails.items c.requires.not_taken c.requires.not_put
