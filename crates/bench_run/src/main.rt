@@ -1,6 +1,7 @@
 //! Times `serve`, and puts it under stress. Without words it prints nothing.
 #![tactic(auto)]
 
+mod bursts;
 mod documents;
 mod idle;
 mod mixed;
@@ -14,7 +15,7 @@ use anyhow::{Context, Result, bail};
 use std::env;
 
 /// The words: `serve` or `play`, how many connections there are, and how many records each of them has; or `idle` and a
-/// number of seconds, for which feeds have nothing; or `stress`.
+/// number of seconds, for which feeds have nothing; or `stress`; or `bursts` and a number of bursts.
 fn main(rt: HostRuntime) -> Result<()> {
     let mut words = env::args(&rt)?;
     let Some(kind) = words.nth(1) else {
@@ -45,6 +46,10 @@ fn main(rt: HostRuntime) -> Result<()> {
                 let told = stress::run(&rt, rt.alloc(), stop)?;
                 println!(rt; "{told}")?;
             }
+        }
+        "bursts" => {
+            let told = bursts::run(&rt, rt.alloc(), number(words.next())?)?;
+            println!(rt; "{told}")?;
         }
         _ => bail!("no such word"),
     }
