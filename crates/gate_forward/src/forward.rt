@@ -8,8 +8,8 @@ ghost use Rattle.gate_record.specs.declared.transit.ConnEntry.TheVariants as ent
 use crate::places::{Places, no_items};
 use gate_config::{Config, MAX_TENANTS};
 use gate_record::{
-    ConnId, Event, Memory, Reading, Record, Shared, Stamp, Stamped, TenantId, TenantItem,
-    read_record,
+    ConnId, Event, Memory, Reading, Record, RecordReader, Shared, Stamp, Stamped, TenantId,
+    TenantItem,
 };
 use std::alloc::{AllocFailed, Global};
 
@@ -26,6 +26,7 @@ pub struct Forward<'c> {
     pub(crate) places: Places,
     // Whether the end mark was loaded.
     pub(crate) marked: bool,
+    pub(crate) reader: RecordReader,
 }
 
 impl<'c> Forward<'c> {
@@ -40,6 +41,7 @@ impl<'c> Forward<'c> {
             conn,
             places: Places::new(no_items()),
             marked: false,
+            reader: RecordReader::new(),
         }
     }
 
@@ -132,16 +134,17 @@ impl<'c> Forward<'c> {
         self.marked && self.places.is_empty()
     }
 
-    // What the tenants get of a record.
+    // What the tenants get of a record. Nothing but the reader's room changes.
     fn read(
-        &self,
+        &mut self,
         alloc: Global,
         number: u64,
         line: &Record,
     ) -> Result<[Option<TenantItem>; MAX_TENANTS], Memory>
-        ensures { IfOk result (λ items. held 0 items ≡ sends (config_of self.now) (conn_of self.now) (entry.Numbered number line.now)) }
+        ensures items { IfOk result (λ items. held 0 items ≡ sends (config_of self.old) (conn_of self.old) (entry.Numbered number line.now)) }
+        ensures same { self.new ≡ self.old }
     {
-        match read_record(alloc, line)? {
+        match self.reader.read(alloc, line)? {
             Reading::Event(event) => self.share(alloc, number, event),
             Reading::Nothing(_) => Ok(no_items()),
         }

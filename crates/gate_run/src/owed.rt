@@ -8,8 +8,8 @@ use crossbeam_utils::sync::Unparker;
 use gate_record::Memory;
 use std::alloc::Global;
 
-// How many values may be put before those that they are for are woken.
-const MANY: u32 = 64;
+// How many values may be put before those that they are for are woken: as many as a tenant matches at once.
+const MANY: u32 = 256;
 
 /// Which threads of a kind are owed a wake-up, by number.
 #[derive(Drop)]

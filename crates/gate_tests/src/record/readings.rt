@@ -1,7 +1,7 @@
 //! What records are read as, by their form.
 use super::{check, play, shown};
 use crate::lines::comes_to;
-use gate_record::Record;
+use gate_record::{Record, RecordReader};
 use std::alloc::{AllocError, Global};
 use std::process::Abort;
 use std::test::Fail;
@@ -54,6 +54,17 @@ fn reads_records_by_their_form(rt: HostRuntime) -> Result<(), Fail> {
 
         read {"type":"a","x":1e308}
         kind "a"
+
+        read {"change":{"type":"a"},"x":{"type":"b"},"y":["type","c"]}
+        nothing NoType
+
+        # escapes are undone, in keys too
+        read {"t\u0079pe":"a\u0062\n\"","change":{"br\u0061nch":"\ud83d\ude00","br\/anch":"b"}}
+        kind "ab\n\""
+        branch "😀"
+
+        read {"type":"\ud83d"}
+        nothing NotJson
 
         # every field may be missing
         read {"type":"ref-updated"}
@@ -111,7 +122,7 @@ fn reads_what_no_script_has(rt: HostRuntime) -> Result<(), Fail> {
 fn is_oversize(rt: &impl Abort, alloc: Global) -> Result<(), Fail> {
     let mut found = String::new(alloc);
     let oversize = Record::Oversize.copy(alloc)?;
-    shown::push_record(alloc, &mut found, &oversize)?;
+    shown::push_record(alloc, &mut found, &mut RecordReader::new(), &oversize)?;
     comes_to(rt, "oversize", found.as_str(), "nothing Oversize\n");
     Ok(())
 }

@@ -1,22 +1,29 @@
-//! What records are read as, as text: a line for each field that an event has, or why there is none.
-use gate_record::{Event, Reading, Record, Sequence, Text, read_record};
+//! What records are read as, as text: a line for each field that an event has, or why there is none. Each is read twice,
+//! by `read_record` and by a reader that has read those before it.
+use gate_record::{Event, Reading, Record, RecordReader, Sequence, Text, read_record};
 use std::alloc::{AllocError, Global};
 use std::test::Fail;
 
 // Each record of a script, and what it is read as.
 pub(super) fn played(alloc: Global, script: &str) -> Result<String, Fail> {
     let mut text = String::new(alloc);
+    let mut reader = RecordReader::new();
     for line in script.lines() {
-        push_line(alloc, &mut text, line)?;
+        push_line(alloc, &mut text, &mut reader, line)?;
     }
     Ok(text)
 }
 
-fn push_line(alloc: Global, text: &mut String, line: &str) -> Result<(), Fail> {
+fn push_line(
+    alloc: Global,
+    text: &mut String,
+    reader: &mut RecordReader,
+    line: &str,
+) -> Result<(), Fail> {
     match line.strip_prefix("read ") {
         Some(record) => {
             write!(text, "{line}\n")?;
-            push_reading(alloc, text, record.as_bytes())
+            push_reading(alloc, text, reader, record.as_bytes())
         }
         None => Ok(()),
     }
@@ -25,17 +32,55 @@ fn push_line(alloc: Global, text: &mut String, line: &str) -> Result<(), Fail> {
 // What a line is read as.
 pub(super) fn reading(alloc: Global, line: &[u8]) -> Result<String, Fail> {
     let mut text = String::new(alloc);
-    push_reading(alloc, &mut text, line)?;
+    push_reading(alloc, &mut text, &mut RecordReader::new(), line)?;
     Ok(text)
 }
 
-fn push_reading(alloc: Global, text: &mut String, line: &[u8]) -> Result<(), Fail> {
+fn push_reading(
+    alloc: Global,
+    text: &mut String,
+    reader: &mut RecordReader,
+    line: &[u8],
+) -> Result<(), Fail> {
     let record = Record::Line(Sequence::new(line.to_vec(alloc)?));
-    push_record(alloc, text, &record)
+    push_record(alloc, text, reader, &record)
 }
 
-pub(super) fn push_record(alloc: Global, text: &mut String, record: &Record) -> Result<(), Fail> {
+// What a record is read as, where both ways agree.
+pub(super) fn push_record(
+    alloc: Global,
+    text: &mut String,
+    reader: &mut RecordReader,
+    record: &Record,
+) -> Result<(), Fail> {
+    let mut plain = String::new(alloc);
+    push_plain(alloc, &mut plain, record)?;
+    let mut read = String::new(alloc);
+    push_by_reader(alloc, &mut read, reader, record)?;
+    push_same(text, plain.as_str(), read.as_str())
+}
+
+fn push_same(text: &mut String, plain: &str, read: &str) -> Result<(), Fail> {
+    if plain == read {
+        text.push_str(plain)?;
+    } else {
+        write!(text, "{plain}but a reader reads\n{read}")?;
+    }
+    Ok(())
+}
+
+fn push_plain(alloc: Global, text: &mut String, record: &Record) -> Result<(), Fail> {
     let reading = read_record(alloc, record)?;
+    push_read(text, &reading)
+}
+
+fn push_by_reader(
+    alloc: Global,
+    text: &mut String,
+    reader: &mut RecordReader,
+    record: &Record,
+) -> Result<(), Fail> {
+    let reading = reader.read(alloc, record)?;
     push_read(text, &reading)
 }
 
