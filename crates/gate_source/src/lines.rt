@@ -5,6 +5,7 @@ ghost use Rattle.gate_record.specs.Lines.{ended_records, is_line_feed, record_of
 ghost use Rattle.gate_source.specs.Splitting.{HasNoFeed};
 
 use gate_record::{MAX_LINE, Memory, Record, Sequence};
+use memchr::memchr;
 use std::alloc::Global;
 
 /// Adds the records of the lines that end in a piece which begins with a line. The answer is what follows its last LF.
@@ -49,7 +50,7 @@ pub(crate) fn split_line(piece: &[u8]) -> Option<(&[u8], &[u8])>
 fn line_end(piece: &[u8]) -> Option<usize>
     ensures { result ≡ position is_line_feed piece.now }
 {
-    piece.iter().position(|byte| *byte == b'\n')
+    memchr(b'\n', piece)
 }
 
 /// The record of a line that has ended, whose bytes are copied. `Memory` where they find no room.
