@@ -28,9 +28,7 @@ pub fn run<R: Threads + Wait + Clock + Sync>(
     each: u64,
     taking: Taking,
 ) -> Result<Duration> {
-    let (queue, tails, head) = open_free(alloc, senders)
-        .ok()
-        .context("opening the queue")?;
+    let (queue, tails, head) = open_free(alloc, senders).ok().context("opening the queue")?;
     let shared = &queue;
     let all = each.saturating_mul(senders as u64);
     let start = Instant::now(rt)?;

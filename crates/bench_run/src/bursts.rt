@@ -1,10 +1,9 @@
 //! Runs in which a pipeline is held while a burst of events comes to wait for it.
-use crate::repeated::record;
 use anyhow::{Context, Result, bail};
 use gate_config::{Config, read_config};
 use gate_core::{PipelineReport, RunReport};
 use gate_pipeline::Pipeline;
-use gate_record::{PipelineId, Record, TenantId};
+use gate_record::{PipelineId, Record, Sequence, TenantId};
 use gate_run::{FeedStep, Gate, Posts, RecordFeed, serve};
 use std::alloc::Global;
 use std::sync::Wait;
@@ -15,6 +14,9 @@ use std::time::Clock;
 
 // How many events come to wait.
 const BURST: u32 = 200_000;
+
+// A record has so many lines of comment, so that what waits is large beside the numbers that are kept of it.
+const COMMENT: u32 = 32;
 
 // The pipeline that is held, by number.
 const HELD: u32 = 0;
@@ -114,11 +116,10 @@ pub fn run<R: Threads + Wait + Clock + Sync>(rt: &R, alloc: Global, bursts: u32)
     };
     let count = BURST.saturating_mul(bursts);
     let report = run_feed(rt, alloc, &config, &begun, count)?;
-    let has_passed = report
-        .pipelines
+    let has_passed = report.pipelines.as_slice().iter().all(|tenant| tenant
         .as_slice()
         .iter()
-        .all(|tenant| tenant.as_slice().iter().all(|it| is_whole(it, count)));
+        .all(|it| is_whole(it, count)));
     let verdict = if has_passed { "passed" } else { "FAILED" };
     Ok(format!(in alloc; "{verdict}: {bursts} times {BURST} events waited for a pipeline")?)
 }
@@ -133,7 +134,7 @@ fn run_feed<R: Threads + Wait + Clock + Sync>(
     let mut feeds = Vec::new(alloc);
     feeds.push(Bursts {
         alloc,
-        record: record(alloc).ok().context("memory")?,
+        record: record(alloc)?,
         next: 0,
         count,
         begun,
@@ -148,9 +149,24 @@ fn run_feed<R: Threads + Wait + Clock + Sync>(
     Ok(served.report)
 }
 
+// A new patch set, with its comment.
+fn record(alloc: Global) -> Result<Record> {
+    let mut line = String::new(alloc);
+    line.push_str(
+        r#"{"type":"patchset-created","change":{"project":"demo","number":7},"comment":""#,
+    )?;
+    for _ in 0..COMMENT {
+        line.push_str("a line of thirty-two characters.")?;
+    }
+    line.push_str(r#""}"#)?;
+    Ok(Record::Line(Sequence::new(line.into_bytes())))
+}
+
 // Whether a pipeline is finished and has processed so many records, each once and in order.
 fn is_whole(pipeline: &PipelineReport, count: u32) -> bool {
     pipeline.finished
         && pipeline.done.len() == count as usize
-        && (0u64..).zip(pipeline.done.as_slice()).all(|(number, stamp)| stamp.number == number)
+        && (0u64..)
+            .zip(pipeline.done.as_slice())
+            .all(|(number, stamp)| stamp.number == number)
 }
