@@ -1,0 +1,78 @@
+// Refuses memory to the program that this library is preloaded to (bin/refusals): a call of malloc or realloc that stands in the
+// program itself, and not in a library of it, is counted from 1, over all threads. Call REFUSE_CALL is answered NULL, and with
+// REFUSE_ALWAYS each one behind it, too. The file REFUSE_COUNT has two numbers of 64 bits, how many calls there were and how many
+// of them were refused; it is mapped, so it says that however the program ends.
+#define _GNU_SOURCE
+#include <dlfcn.h>
+#include <errno.h>
+#include <fcntl.h>
+#include <link.h>
+#include <stdatomic.h>
+#include <stdint.h>
+#include <stdlib.h>
+#include <sys/mman.h>
+#include <unistd.h>
+
+struct counts {
+    _Atomic uint64_t calls, refused;
+};
+
+static void *(*real_malloc)(size_t);
+static void *(*real_realloc)(void *, size_t);
+static struct counts unwritten, *counts = &unwritten;
+static uint64_t refused_call, always;
+static uintptr_t first, behind;
+
+// The first object is the program: where its code stands.
+static int find_program(struct dl_phdr_info *object, size_t size, void *unused) {
+    for (int i = 0; i < object->dlpi_phnum; i++)
+        if (object->dlpi_phdr[i].p_type == PT_LOAD && object->dlpi_phdr[i].p_flags & PF_X) {
+            first = object->dlpi_addr + object->dlpi_phdr[i].p_vaddr;
+            behind = first + object->dlpi_phdr[i].p_memsz;
+        }
+    return 1;
+}
+
+static void find_calls(void) {
+    real_malloc = dlsym(RTLD_NEXT, "malloc");
+    real_realloc = dlsym(RTLD_NEXT, "realloc");
+}
+
+__attribute__((constructor)) static void begin(void) {
+    const char *call = getenv("REFUSE_CALL"), *more = getenv("REFUSE_ALWAYS"), *path = getenv("REFUSE_COUNT");
+    int file = path ? open(path, O_RDWR | O_CREAT, 0600) : -1;
+    if (file >= 0 && ftruncate(file, sizeof(struct counts)) == 0) {
+        void *map = mmap(NULL, sizeof(struct counts), PROT_READ | PROT_WRITE, MAP_SHARED, file, 0);
+        if (map != MAP_FAILED)
+            counts = map, counts->calls = counts->refused = 0;
+    }
+    if (file >= 0)
+        close(file);
+    refused_call = call ? strtoull(call, NULL, 10) : 0;
+    always = more && *more == '1';
+    find_calls();
+    dl_iterate_phdr(find_program, NULL);
+}
+
+static int is_refused(void *caller) {
+    if ((uintptr_t)caller < first || (uintptr_t)caller >= behind)
+        return 0;
+    uint64_t call = ++counts->calls;
+    if (!refused_call || (always ? call < refused_call : call != refused_call))
+        return 0;
+    counts->refused++;
+    errno = ENOMEM;
+    return 1;
+}
+
+void *malloc(size_t size) {
+    if (!real_malloc)
+        find_calls();
+    return is_refused(__builtin_return_address(0)) ? NULL : real_malloc(size);
+}
+
+void *realloc(void *old, size_t size) {
+    if (!real_realloc)
+        find_calls();
+    return is_refused(__builtin_return_address(0)) ? NULL : real_realloc(old, size);
+}
