@@ -6,16 +6,10 @@ use Rattle.gate_config.specs.declared.fault.ConfigFault.{ConfigFault}
 use Rattle.gate_config.specs.declared.fault.ConfigFault.TheVariants as fault
 use Rattle.gate_config.specs.Faults.{Check, Asks, AllPass, IsFirstFault, IsFaultOf, HasPassed, HasFault, Reads, Tests}
 
--- IsFaultOf is a map of IsFirstFault
+-- what is a first fault there is one here, and want of memory is everywhere
 over_faults : (xs ys : List Check) → ((found : ConfigFault) → IsFirstFault xs found → IsFirstFault ys found) → (found : ConfigFault) → IsFaultOf xs found → IsFaultOf ys found
-over_faults xs ys f fault.Memory h = tt
-over_faults xs ys f fault.NotJson h = f fault.NotJson h
-over_faults xs ys f (fault.Shape place) h = f (fault.Shape place) h
-over_faults xs ys f (fault.Limit place) h = f (fault.Limit place) h
-over_faults xs ys f (fault.Manager place) h = f (fault.Manager place) h
-over_faults xs ys f (fault.Attribute place) h = f (fault.Attribute place) h
-over_faults xs ys f (fault.Pattern place) h = f (fault.Pattern place) h
-over_faults xs ys f (fault.Repeated place) h = f (fault.Repeated place) h
+over_faults xs ys f found (inl memory) = inl memory
+over_faults xs ys f found (inr first) = inr (f found first)
 
 first_front : (xs ys : List Check) (found : ConfigFault) → IsFirstFault xs found → IsFirstFault (xs ++ ys) found
 first_front [] ys found h = absurd h
@@ -69,7 +63,7 @@ pub new : {b : Bool} (place : List ℕ) → b ≡ false → HasPassed (Asks (not
 new place e = record { all = (ap not e, tt) }
 
 pub taken : {b : Bool} {place found : List ℕ} → b ≡ true → found ≡ place → HasFault (Asks (not b) (fault.Repeated place) ∷ []) (fault.Repeated found)
-taken e p = record { first = inl (ap not e, ap fault.Repeated p) }
+taken e p = record { first = inr (inl (ap not e, ap fault.Repeated p)) }
 
 -- a reader that gives nothing, and what else is known once it has passed
 pub saying : {T : Type 0} (checks : List Check) {Q : Type 0} (r : Result T ConfigFault) → Tests checks r → Q → Reads checks (λ _. Q) r

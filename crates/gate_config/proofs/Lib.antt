@@ -6,10 +6,12 @@ pub mod JobLists
 pub mod Keyed
 pub mod Lines
 pub mod Listed
+pub mod LookUps
 pub mod NameSets
 pub mod Outcome
 pub mod Picked
 pub mod ProjectSets
+pub mod SelectsAlike
 pub mod Views
 pub mod Votes
 pub mod WithinLimits

@@ -1,20 +1,15 @@
 -- What a reader of bytes found, and what its document is read as.
-use Rattle.std.proofs.Common.{◌≡◌, ◌∙◌, ℕ, List, [], Bool, true, false, cond, Option, Some, None, Result, map, option_map, Ok, Err, refl, sym, ap, subst}
-use Rattle.std.specs.Prelude.{option_and_then, slice_get, unwrap_or}
+use Rattle.std.proofs.Common.{◌≡◌, ◌∙◌, ℕ, List, Bool, true, false, cond, Some, None, Result, map, Ok, Err, refl, sym, ap, subst}
 use Rattle.std.specs.Result.{IfOk, IfErr, OnOk}
 use Rattle.std.specs.Str.{IsUtf8, is_utf8}
-use Rattle.std.proofs.lemmas.Option.{slice_get-map}
 use Rattle.std.proofs.lemmas.Str.{IsUtf8-from_is_utf8, is_utf8-from_IsUtf8}
 use Rattle.serde_json.specs.Data.{Data}
 use Rattle.serde_json.specs.Read.{read}
 use Rattle.gate_record.specs.Json.{json_of}
 use Rattle.gate_config.specs.declared.config.Config.{Config}
-use Rattle.gate_config.specs.declared.config.TenantSpec.{TenantSpec}
-use Rattle.gate_config.specs.declared.jobs.Jobs.{Jobs}
 use Rattle.gate_config.specs.declared.fault.ConfigFault.{ConfigFault}
 use Rattle.gate_config.specs.Checks.{checks_of, checks_of_json, document_checks}
-use Rattle.gate_config.specs.Document.{TenantTexts, connection_names, jobs_among, tenants_in}
-use Rattle.gate_config.specs.Lookups.{jobs_of, jobs_under}
+use Rattle.gate_config.specs.Document.{connection_names, tenants_in}
 use Rattle.gate_config.specs.Faults.{AllPass, IsFaultOf, Reads}
 use Rattle.gate_config.specs.Texts.{IsReadFrom, texts_of_tenant}
 
@@ -30,31 +25,13 @@ none_by_test bytes false e h = refl
 pub json_of_none : (bytes : List ℕ) → (IsUtf8 bytes → read bytes ≡ None) → json_of bytes ≡ None
 json_of_none bytes h = none_by_test bytes (is_utf8 bytes) refl h
 
--- the jobs of each project, by numbers
-module _ (p : ℕ) (project : List ℕ) where
-  of_pipeline : (o : Option Jobs) → unwrap_or (option_map (λ (jobs : Jobs). jobs_under jobs project) o) [] ≡ unwrap_or (option_map (λ (jobs : List ℕ → List (List ℕ)). jobs project) (option_map jobs_under o)) []
-  of_pipeline None = refl
-  of_pipeline (Some jobs) = refl
-
-  of_tenant : (o : Option TenantSpec) → unwrap_or (option_map (λ (jobs : Jobs). jobs_under jobs project) (option_and_then (λ (tenant : TenantSpec). slice_get tenant.jobs p) o)) [] ≡ unwrap_or (option_map (λ (jobs : List ℕ → List (List ℕ)). jobs project) (option_and_then (λ (tenant : TenantTexts). slice_get tenant.jobs p) (option_map texts_of_tenant o))) []
-  of_tenant None = refl
-  of_tenant (Some tenant) =
-      of_pipeline (slice_get tenant.jobs p)
-      ∙ ap (λ o. unwrap_or (option_map (λ (jobs : List ℕ → List (List ℕ)). jobs project) o) []) (sym (slice_get-map jobs_under tenant.jobs p))
-
-jobs_read : (config : Config) (tenants : List TenantTexts) → map texts_of_tenant config.tenants ≡ tenants → (t p : ℕ) (project : List ℕ) → jobs_of config t p project ≡ jobs_among tenants t p project
-jobs_read config tenants e t p project =
-    of_tenant p project (slice_get config.tenants t)
-    ∙ ap (λ o. unwrap_or (option_map (λ (jobs : List ℕ → List (List ℕ)). jobs project) (option_and_then (λ (tenant : TenantTexts). slice_get tenant.jobs p) o)) []) (sym (slice_get-map texts_of_tenant config.tenants t))
-    ∙ ap (λ ts. jobs_among ts t p project) e
-
 -- what the reader of a document says
 abbrev Said : Data → Config → Type 0
 Said d config = (config.connections ≡ connection_names d) × (map texts_of_tenant config.tenants ≡ tenants_in d)
 
 -- the same, of its bytes
 pub config_read : (bytes : List ℕ) (d : Data) (r : Result Config ConfigFault) → json_of bytes ≡ Some d → Reads (document_checks d) (Said d) r → IfOk r (λ config. (x : Data) × (json_of bytes ≡ Some x) × IsReadFrom x config)
-config_read bytes d (Ok config) e h = (d, e, record { connections = h.1.0; tenants = h.1.1; jobs = jobs_read config (tenants_in d) h.1.1 })
+config_read bytes d (Ok config) e h = (d, e, record { connections = h.1.0; tenants = h.1.1 })
 config_read bytes d (Err found) e h = tt
 
 pub config_passed : (bytes : List ℕ) (d : Data) (r : Result Config ConfigFault) → json_of bytes ≡ Some d → Reads (document_checks d) (Said d) r → OnOk r (AllPass (checks_of bytes))

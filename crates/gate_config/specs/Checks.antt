@@ -9,9 +9,9 @@ use Rattle.gate_config.specs.declared.fault.ConfigFault.TheVariants.{NotJson, Sh
 use Rattle.gate_config.specs.Document.{tenant_entries, tenant_of, tenant_name, name_of, name_in, group, sources_of, names_in, config_items, pipeline_items, pipeline_names, project_items, is_stanza, job_list, manager_named, vote_at, votes_of}
 use Rattle.gate_config.specs.Faults.{Check, Asks, Builds}
 use Rattle.gate_config.specs.Names.{with_name, with_names}
-use Rattle.gate_config.specs.Parts.{is_object, is_list, is_text, is_there, is_fine, is_flag, items_of, keys_of, optional, optional_in, text_of_member}
+use Rattle.gate_config.specs.Parts.{is_fine, is_flag, is_list, is_object, is_text, is_there, items_of, keys_of, one_or_list, optional, optional_in, text_of_member}
 use Rattle.gate_config.specs.Places.{below, nth}
-use Rattle.gate_config.specs.declared.limits.TheConstants.{MAX_TENANTS, MAX_CONNECTIONS, MAX_PIPELINES, MAX_RULES, MAX_ENTRIES}
+use Rattle.gate_config.specs.Limits.{most_tenants, most_connections, most_pipelines, most_rules, most_entries}
 
 -- the checks of each of the values, by its position from 0
 abbrev pub each : {A : Type 0} → (ℕ → A → List Check) → List A → List Check
@@ -55,10 +55,10 @@ listing_checks here source =
     ∷ (list_checks here source (codes "config-projects") ++ list_checks here source (codes "untrusted-projects"))
 
 -- A connection among the sources: with those that earlier tenants list and those before it there are at most
--- `MAX_CONNECTIONS` names.
+-- `most_connections` names.
 abbrev pub source_checks : List (List ℕ) → List ℕ → Option Data → List (List ℕ) → List ℕ → List Check
 source_checks known place sources before key =
-    Asks (nat_le (length (with_name key (with_names known before))) MAX_CONNECTIONS) (Limit (below place key))
+    Asks (nat_le (length (with_name key (with_names known before))) most_connections) (Limit (below place key))
     ∷ listing_checks (below place key) (optional_in key sources)
 
 -- the connections that a tenant lists, in byte order
@@ -102,22 +102,18 @@ text_checks place None = Asks false (Shape place) ∷ []
 
 -- an entry of a list of patterns
 abbrev pub entry_checks : List ℕ → ℕ → Data → List Check
-entry_checks place position value = Asks (nat_lt position MAX_ENTRIES) (Limit place) ∷ text_checks (nth place position) (as_str value)
-
-abbrev pub value_checks : List ℕ → Option Items → Data → List Check
-value_checks place (Some items) value = each (entry_checks place) (items_in items)
-value_checks place None value = text_checks place (as_str value)
+entry_checks place position value = Asks (nat_lt position most_entries) (Limit place) ∷ text_checks (nth place position) (as_str value)
 
 -- the patterns of an attribute: a text or a list of texts, if it is there
 abbrev pub pattern_checks : List ℕ → Option Data → List Check
 pattern_checks place None = []
-pattern_checks place (Some value) = value_checks place (as_array value) value
+pattern_checks place (Some value) = one_or_list (each (entry_checks place)) (λ text. text_checks place (as_str text)) value
 
--- The vote at a key of an object of approvals: at most `MAX_ENTRIES` stand in an attribute, and it is a number. `rank` votes
+-- The vote at a key of an object of approvals: at most `most_entries` stand in an attribute, and it is a number. `rank` votes
 -- stand before it.
 abbrev pub vote_checks : List ℕ → List ℕ → Data → ℕ → List ℕ → List Check
 vote_checks place here labels rank key =
-    Asks (nat_lt rank MAX_ENTRIES) (Limit place) ∷ Asks (is_some (vote_at labels key)) (Shape here) ∷ []
+    Asks (nat_lt rank most_entries) (Limit place) ∷ Asks (is_some (vote_at labels key)) (Shape here) ∷ []
 
 -- an object of approvals, whose keys are taken in byte order; `count` votes stand before it
 abbrev pub votes_checks : List ℕ → List ℕ → ℕ → Data → List Check
@@ -132,14 +128,10 @@ objects_checks place position count (labels ∷ others) =
     votes_checks place (nth place position) count labels
     ++ objects_checks place (position + 1) (count + length (votes_of labels)) others
 
-abbrev pub votes_value_checks : List ℕ → Option Items → Data → List Check
-votes_value_checks place (Some items) value = objects_checks place 0 0 (items_in items)
-votes_value_checks place None value = votes_checks place place 0 value
-
 -- approvals: one object or a list of objects, if it is there
 abbrev pub approval_checks : List ℕ → Option Data → List Check
 approval_checks place None = []
-approval_checks place (Some value) = votes_value_checks place (as_array value) value
+approval_checks place (Some value) = one_or_list (objects_checks place 0 0) (votes_checks place place 0) value
 
 -- true or false, if it is there
 abbrev pub flag_checks : List ℕ → Option Data → List Check
@@ -158,13 +150,9 @@ attribute_checks place rule key =
     else (if bytes_eq key (codes "ignore-deletes") then flag_checks (below place key) (optional key rule)
     else Asks false (Attribute (below place key)) ∷ []))
 
-abbrev pub is_nonempty : Option Items → Bool
-is_nonempty None = true
-is_nonempty (Some items) = nat_lt 0 (length (items_in items))
-
 -- the value asks for something: it is no empty list
 abbrev pub is_asking : Data → Bool
-is_asking value = is_nonempty (as_array value)
+is_asking value = one_or_list (λ items. nat_lt 0 (length items)) (λ other. true) value
 
 -- a rule at this place: an object of attributes, whose keys are taken in byte order; `event` is required
 abbrev pub rule_checks_at : List ℕ → Data → List Check
@@ -176,19 +164,14 @@ rule_checks_at here rule =
 abbrev pub rule_checks : List ℕ → ℕ → Data → List Check
 rule_checks place position rule = rule_checks_at (nth place position) rule
 
--- a list of at most `MAX_RULES` rules
+-- a list of at most `most_rules` rules
 abbrev pub rule_list_checks : List ℕ → List Data → List Check
-rule_list_checks here rules = Asks (nat_le (length rules) MAX_RULES) (Limit here) ∷ each (rule_checks here) rules
+rule_list_checks here rules = Asks (nat_le (length rules) most_rules) (Limit here) ∷ each (rule_checks here) rules
 
--- a list of rules or one rule
-abbrev pub rules_value_checks : List ℕ → Option Items → Data → List Check
-rules_value_checks here (Some items) value = rule_list_checks here (items_in items)
-rules_value_checks here None value = rule_checks_at here value
-
--- rules, if they are there
+-- a list of rules or one rule, if it is there
 abbrev pub rules_checks : List ℕ → Option Data → List Check
 rules_checks here None = []
-rules_checks here (Some value) = rules_value_checks here (as_array value) value
+rules_checks here (Some value) = one_or_list (rule_list_checks here) (rule_checks_at here) value
 
 -- the rules of a trigger for a connection. What stands at other keys isn't looked into.
 abbrev pub connection_checks : List ℕ → Option Data → List ℕ → List Check
@@ -218,7 +201,7 @@ pipeline_checks_at connections item here before pipeline =
     Asks (is_object pipeline) (Shape here)
     ∷ Asks (is_there is_text (get (codes "name") pipeline)) (Shape (below here (codes "name")))
     ∷ Asks (not (is_named before (name_of pipeline))) (Repeated (below here (codes "name")))
-    ∷ Asks (nat_lt (length before) MAX_PIPELINES) (Limit item)
+    ∷ Asks (nat_lt (length before) most_pipelines) (Limit item)
     ∷ (manager_checks here pipeline ++ trigger_checks connections here pipeline)
 
 abbrev pub pipeline_checks : List (List ℕ) → List ℕ → List (ℕ × Data) → ℕ × Data → List Check
@@ -279,7 +262,7 @@ config_checks config connections entry =
 -- all tenants are read before their lists in `config`
 abbrev pub entries_checks : Option Data → List (ℕ × Data) → List Check
 entries_checks config entries =
-    Asks (nat_le (length entries) MAX_TENANTS) (Limit (codes "tenants"))
+    Asks (nat_le (length entries) most_tenants) (Limit (codes "tenants"))
     ∷ (along tenant_checks entries ++ flat_map (config_checks config (names_in entries)) entries)
 
 abbrev pub document_checks : Data → List Check

@@ -11,7 +11,7 @@ use Rattle.gate_record.specs.declared.ids.ManagerKind.{ManagerKind}
 use Rattle.gate_record.specs.declared.ids.ManagerKind.TheVariants.{Independent, Dependent}
 use Rattle.gate_config.specs.Jobs.{firsts}
 use Rattle.gate_config.specs.Names.{is_among, with_names}
-use Rattle.gate_config.specs.Parts.{is_object, is_text, items_of, keys_of, optional, optional_in, text_of_member, texts_in}
+use Rattle.gate_config.specs.Parts.{by_kind, is_object, is_text, items_of, keys_of, one_or_list, optional, optional_in, text_of_member, texts_in}
 
 -- what is picked of the values, each with the position of the value that it was picked of
 abbrev pub picked : (Data → Option Data) → List Data → List (ℕ × Data)
@@ -69,13 +69,9 @@ connection_names document = names_in (tenant_entries document)
 abbrev pub group : Data → Option Items
 group entry = option_and_then as_array (optional (codes "projects") entry)
 
-abbrev pub names_of_group : Option Items → Data → List (List ℕ)
-names_of_group (Some items) entry = filter_map name_in (items_in items)
-names_of_group None entry = option_to_list (name_in entry)
-
 -- the projects of an entry: those of its list `projects`, or the one that it names
 abbrev pub entry_projects : Data → List (List ℕ)
-entry_projects entry = names_of_group (group entry) entry
+entry_projects entry = by_kind (filter_map name_in) (λ value. option_to_list (name_in value)) (group entry) entry
 
 -- the projects of a project list
 abbrev pub listed_at : List ℕ → Data → List (List ℕ)
@@ -106,14 +102,10 @@ manager_named text =
     if bytes_eq text (codes "independent") then Some Independent
     else (if bytes_eq text (codes "dependent") then Some Dependent else None)
 
-abbrev pub texts_of_patterns : Option Items → Data → List (List ℕ)
-texts_of_patterns (Some items) value = texts_in (items_in items)
-texts_of_patterns None value = option_to_list (as_str value)
-
 -- the texts of a pattern attribute: one text, or those of a list
 abbrev pub pattern_texts : Option Data → List (List ℕ)
 pattern_texts None = []
-pattern_texts (Some value) = texts_of_patterns (as_array value) value
+pattern_texts (Some value) = one_or_list texts_in (λ text. option_to_list (as_str text)) value
 
 -- the vote that an object of approvals asks for at a key
 abbrev pub vote_at : Data → List ℕ → Option (List ℕ × ℤ)
@@ -123,14 +115,10 @@ vote_at labels key = option_map (λ vote. (category key, vote)) (option_and_then
 abbrev pub votes_of : Data → List (List ℕ × ℤ)
 votes_of labels = filter_map (vote_at labels) (keys_of (Some labels))
 
-abbrev pub votes_in : Option Items → Data → List (List ℕ × ℤ)
-votes_in (Some items) value = flat_map votes_of (items_in items)
-votes_in None value = votes_of value
-
 -- the votes of `approval`: those of one object, or of a list of objects
 abbrev pub votes : Option Data → List (List ℕ × ℤ)
 votes None = []
-votes (Some value) = votes_in (as_array value) value
+votes (Some value) = one_or_list (flat_map votes_of) votes_of value
 
 -- true where it isn't there
 abbrev pub flag : Option Data → Bool
@@ -159,14 +147,10 @@ rule_texts rule = record {
   ignore_deletes = flag (optional (codes "ignore-deletes") rule);
 }
 
-abbrev pub rules_in : Option Items → Data → List RuleTexts
-rules_in (Some items) value = map rule_texts (items_in items)
-rules_in None value = rule_texts value ∷ []
-
 -- the rules of a list, or the one rule
 abbrev pub rules_at : Option Data → List RuleTexts
 rules_at None = []
-rules_at (Some value) = rules_in (as_array value) value
+rules_at (Some value) = one_or_list (map rule_texts) (λ rule. rule_texts rule ∷ []) value
 
 -- the rules of a trigger for the connection of this name
 abbrev pub rules_under : Option Data → List ℕ → List RuleTexts
@@ -245,7 +229,20 @@ tenant_texts config connections entry = record {
 abbrev pub tenants_in : Data → List TenantTexts
 tenants_in document = map (tenant_texts (get (codes "config") document) (connection_names document)) (tenant_entries document)
 
--- the jobs of a project in a pipeline, by numbers; none out of range
+-- ---- the same by the numbers of connections, tenants and pipelines; out of range there is nothing
+
+-- the projects that a tenant lists under a connection, if it lists the connection
+abbrev pub sources_among : List TenantTexts → ℕ → ℕ → Option (List ℕ → Bool)
+sources_among tenants t c = option_and_then (λ (tenant : TenantTexts). unwrap_or (slice_get tenant.sources c) None) (slice_get tenants t)
+
+abbrev pub pipelines_among : List TenantTexts → ℕ → List PipelineTexts
+pipelines_among tenants t = unwrap_or (option_map (λ (tenant : TenantTexts). tenant.pipelines) (slice_get tenants t)) []
+
+-- the rules of a pipeline for a connection
+abbrev pub rules_among : List TenantTexts → ℕ → ℕ → ℕ → List RuleTexts
+rules_among tenants t p c = unwrap_or (option_and_then (λ (pipeline : PipelineTexts). slice_get pipeline.rules c) (slice_get (pipelines_among tenants t) p)) []
+
+-- the jobs of a project in a pipeline
 abbrev pub jobs_among : List TenantTexts → ℕ → ℕ → List ℕ → List (List ℕ)
 jobs_among tenants t p project =
     unwrap_or (option_map (λ (jobs : List ℕ → List (List ℕ)). jobs project) (option_and_then (λ (tenant : TenantTexts). slice_get tenant.jobs p) (slice_get tenants t))) []

@@ -1,6 +1,7 @@
 -- The first fault of a list of checks, in reading order.
 use Rattle.std.specs.Prelude.{◌≡◌, ◌⊎◌, ℕ, List, [], ◌∷◌, Bool, true, false, Result, Ok, Err}
 use Rattle.gate_rule.specs.declared.pattern.Pattern.{Pattern}
+use Rattle.gate_rule.specs.Built.{IsRefused}
 use Rattle.gate_rule.specs.Pattern.{text_of}
 use Rattle.gate_config.specs.declared.fault.ConfigFault.{ConfigFault}
 use Rattle.gate_config.specs.declared.fault.ConfigFault.TheVariants as fault
@@ -17,11 +18,11 @@ abbrev pub Passes : Check → Type 0
 Passes (Asks holds fault) = holds ≡ true
 Passes (Builds text place) = (pattern : Pattern) × (text_of pattern ≡ text)
 
--- This is the fault of a test that doesn't hold. Which texts `regex` refuses no definition says, so a refusal may
--- stand at any pattern text.
+-- This is the fault of a test that doesn't hold, or of a text that `regex` refuses. Which texts are too large for it no
+-- definition says, so a refusal may stand at any text that its grammar reads.
 abbrev pub Fails : Check → ConfigFault → Type 0
 Fails (Asks holds fault) found = (holds ≡ false) × (found ≡ fault)
-Fails (Builds text place) found = found ≡ fault.Pattern place
+Fails (Builds text place) found = (found ≡ fault.Pattern place) × IsRefused text
 
 abbrev pub AllPass : List Check → Type 0
 AllPass [] = Unit {0}
@@ -34,14 +35,7 @@ IsFirstFault (check ∷ checks) found = Fails check found ⊎ (Passes check × I
 
 -- Memory may be refused at whichever point; each other fault is the first.
 abbrev pub IsFaultOf : List Check → ConfigFault → Type 0
-IsFaultOf checks fault.Memory = Unit {0}
-IsFaultOf checks fault.NotJson = IsFirstFault checks fault.NotJson
-IsFaultOf checks (fault.Shape place) = IsFirstFault checks (fault.Shape place)
-IsFaultOf checks (fault.Limit place) = IsFirstFault checks (fault.Limit place)
-IsFaultOf checks (fault.Manager place) = IsFirstFault checks (fault.Manager place)
-IsFaultOf checks (fault.Attribute place) = IsFirstFault checks (fault.Attribute place)
-IsFaultOf checks (fault.Pattern place) = IsFirstFault checks (fault.Pattern place)
-IsFaultOf checks (fault.Repeated place) = IsFirstFault checks (fault.Repeated place)
+IsFaultOf checks found = (found ≡ fault.Memory) ⊎ IsFirstFault checks found
 
 -- `AllPass` and `IsFaultOf` as records, whose lists of checks a proof can read off
 pub record HasPassed (checks : List Check) : Type 0 where

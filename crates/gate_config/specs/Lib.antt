@@ -6,6 +6,8 @@ pub mod Entry
 pub mod Faults
 pub mod Jobs
 pub mod Keyed
+pub mod Laws
+pub mod Limits
 pub mod Lookups
 pub mod Names
 pub mod Parts

@@ -1,7 +1,7 @@
 -- Parts of a JSON value. Where a value is of another kind than asked for, it has no such parts.
 use Rattle.std.specs.Prelude.{ℕ, List, [], ◌∷◌, Bool, true, false, Option, Some, None, is_some, option_and_then, unwrap_or, option_map}
 use Rattle.std.specs.List.{filter_map}
-use Rattle.serde_json.specs.Data.{Data, null, boolean, number, string, array, object, Members, no_members, member}
+use Rattle.serde_json.specs.Data.{Data, Items, null, boolean, number, string, array, object, Members, no_members, member}
 use Rattle.serde_json.specs.Find.{get, as_bool, as_str, as_array, as_object}
 use Rattle.gate_record.specs.Json.{items_in}
 
@@ -30,6 +30,14 @@ is_fine test (Some value) = test value
 abbrev pub keys_in : Members → List (List ℕ)
 keys_in no_members = []
 keys_in (member key value members) = key ∷ keys_in members
+
+-- what the items of a list say, and what a value says that is no list
+abbrev pub by_kind : {A : Type 0} → (List Data → A) → (Data → A) → Option Items → Data → A
+by_kind of_items of_value (Some items) value = of_items (items_in items)
+by_kind of_items of_value None value = of_value value
+
+abbrev pub one_or_list : {A : Type 0} → (List Data → A) → (Data → A) → Data → A
+one_or_list of_items of_value value = by_kind of_items of_value (as_array value) value
 
 -- the items of a list, in order
 abbrev pub items_of : Option Data → List Data

@@ -1,13 +1,13 @@
 -- A configuration's texts: what of it a document can name.
-use Rattle.std.specs.Prelude.{◌≡◌, ℕ, List, Some, map, option_map}
+use Rattle.std.specs.Prelude.{◌≡◌, Some, map, option_map}
 use Rattle.serde_json.specs.Data.{Data}
 use Rattle.gate_rule.specs.declared.rule.Rule.{Rule}
 use Rattle.gate_rule.specs.Pattern.{text_of}
 use Rattle.gate_config.specs.declared.config.Config.{Config}
 use Rattle.gate_config.specs.declared.config.TenantSpec.{TenantSpec}
 use Rattle.gate_config.specs.declared.config.PipelineSpec.{PipelineSpec}
-use Rattle.gate_config.specs.Lookups.{has_project, jobs_of, jobs_under}
-use Rattle.gate_config.specs.Document.{RuleTexts, PipelineTexts, TenantTexts, connection_names, jobs_among, tenants_in}
+use Rattle.gate_config.specs.Lookups.{has_project, jobs_under}
+use Rattle.gate_config.specs.Document.{RuleTexts, PipelineTexts, TenantTexts, connection_names, tenants_in}
 
 abbrev pub texts_of_rule : Rule → RuleTexts
 texts_of_rule rule = record {
@@ -27,8 +27,7 @@ texts_of_pipeline pipeline = record { name = pipeline.name; manager = Some pipel
 abbrev pub texts_of_tenant : TenantSpec → TenantTexts
 texts_of_tenant tenant = record { name = tenant.name; sources = map (option_map has_project) tenant.sources; pipelines = map texts_of_pipeline tenant.pipelines; jobs = map jobs_under tenant.jobs }
 
--- the configuration says what the document says
+-- the configuration says what the document says: the names of its connections, and its tenants with all that they have
 pub record IsReadFrom (document : Data) (config : Config) : Type 0 where
   pub connections : config.connections ≡ connection_names document
   pub tenants : map texts_of_tenant config.tenants ≡ tenants_in document
-  pub jobs : (t p : ℕ) (project : List ℕ) → jobs_of config t p project ≡ jobs_among (tenants_in document) t p project

@@ -1,5 +1,5 @@
 ghost use Rattle.std.specs.Prelude.{◌≡◌, ◌≤◌, ℕ, length, IsTrue};
-ghost use Rattle.gate_config.specs.declared.limits.TheConstants.{MAX_CONNECTIONS, MAX_PIPELINES, MAX_TENANTS};
+ghost use Rattle.gate_config.specs.Limits.{most_connections, most_pipelines, most_tenants};
 
 use crate::jobs::Jobs;
 use crate::project_set::ProjectSet;
@@ -12,8 +12,8 @@ use gate_rule::Rule;
 pub struct Config {
     pub(crate) connections: Sequence<Text>,
     pub(crate) tenants: Sequence<TenantSpec>,
-    pub ghost few_connections: { length connections ≤ MAX_CONNECTIONS },
-    pub ghost few_tenants: { length tenants ≤ MAX_TENANTS },
+    pub ghost few_connections: { length connections ≤ most_connections },
+    pub ghost few_tenants: { length tenants ≤ most_tenants },
 }
 
 /// A tenant of a configuration.
@@ -27,7 +27,7 @@ pub struct TenantSpec {
     pub pipelines: Sequence<PipelineSpec>,
     /// By pipeline number: the jobs of projects.
     pub(crate) jobs: Sequence<Jobs>,
-    pub ghost few_pipelines: { length pipelines ≤ MAX_PIPELINES },
+    pub ghost few_pipelines: { length pipelines ≤ most_pipelines },
 }
 
 /// A pipeline of a tenant (Zuul's documentation, "Pipeline Definition").

@@ -1,4 +1,5 @@
-ghost use Rattle.std.specs.Prelude.{◌≡◌, IfOk, IfSome};
+ghost use Rattle.std.specs.Prelude.{◌≡◌, IfErr, IfOk, IfSome};
+ghost use Rattle.gate_rule.specs.Built.{IsNoPattern};
 ghost use Rattle.gate_rule.specs.Pattern.{text_of};
 ghost use Rattle.gate_config.specs.Keyed.{IsKeyed};
 
@@ -24,7 +25,8 @@ impl PatternTable {
 
     // The pattern of a text: the one that was built of it, or a new one. Errors are those of `Pattern::new`.
     pub(crate) fn pattern(&mut self, alloc: Global, text: &str) -> Result<Pattern, PatternFault>
-        ensures { IfOk result (λ pattern. text_of pattern ≡ text.now) }
+        ensures built { IfOk result (λ pattern. text_of pattern ≡ text.now) }
+        ensures refused { IfErr result (IsNoPattern text.now) }
     {
         match self.find(text) {
             Some(pattern) => share(pattern),
@@ -39,7 +41,8 @@ impl PatternTable {
     }
 
     fn build(&mut self, alloc: Global, text: &str) -> Result<Pattern, PatternFault>
-        ensures { IfOk result (λ pattern. text_of pattern ≡ text.now) }
+        ensures built { IfOk result (λ pattern. text_of pattern ≡ text.now) }
+        ensures refused { IfErr result (IsNoPattern text.now) }
     {
         let pattern = Pattern::new(alloc, text)?;
         match self.keep(alloc, text, &pattern) {
@@ -58,7 +61,8 @@ impl PatternTable {
 }
 
 fn share(pattern: &Pattern) -> Result<Pattern, PatternFault>
-    ensures { IfOk result (λ shared. shared ≡ pattern.now) }
+    ensures same { IfOk result (λ shared. shared ≡ pattern.now) }
+    ensures memory { IfErr result (λ fault. fault ≡ PatternFault.Memory) }
 {
     match pattern.share() {
         Ok(shared) => Ok(shared),

@@ -6,6 +6,7 @@ ghost use Rattle.gate_config.specs.Checks.{along, each, config_checks, all_items
 ghost use Rattle.gate_config.specs.Document.{name_of, tenant_texts, pipeline_texts, pipeline_items, manager_named, jobs_in, pipeline_names, project_items};
 ghost use Rattle.gate_config.specs.Entry.{entry_view};
 ghost use Rattle.gate_config.specs.Faults.{Asks, Reads, Tests};
+ghost use Rattle.gate_config.specs.Limits.{most_pipelines};
 ghost use Rattle.gate_config.specs.Lookups.{jobs_under};
 ghost use Rattle.gate_config.specs.Parts.{text_of_member};
 ghost use Rattle.gate_config.specs.Places.{below};
@@ -209,7 +210,7 @@ fn is_named(before: &[Entry<'_>], name: &str) -> bool
 
 // `Limit` at the item of a pipeline that is one too many.
 fn check_room(alloc: Global, before: &[Entry<'_>], item: &str) -> Result<(), ConfigFault>
-    ensures { Tests (Asks (nat_lt (length (map entry_view before.now)) MAX_PIPELINES) (Limit item.now) ∷ []) result }
+    ensures { Tests (Asks (nat_lt (length (map entry_view before.now)) most_pipelines) (Limit item.now) ∷ []) result }
 {
     if before.len() >= MAX_PIPELINES {
         return Err(ConfigFault::Limit(Text::copy(alloc, item)?));

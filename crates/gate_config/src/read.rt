@@ -6,6 +6,7 @@ ghost use Rattle.gate_config.specs.Checks.{checks_of, document_checks, entries_c
 ghost use Rattle.gate_config.specs.Document.{connection_names, names_in, tenant_texts, tenants_in};
 ghost use Rattle.gate_config.specs.Entry.{entry_view};
 ghost use Rattle.gate_config.specs.Faults.{AllPass, Asks, IsFaultOf, Reads, Tests};
+ghost use Rattle.gate_config.specs.Limits.{most_tenants};
 ghost use Rattle.gate_config.specs.Texts.{IsReadFrom, texts_of_tenant};
 ghost use Rattle.gate_config.specs.declared.fault.ConfigFault.TheVariants.{Limit};
 
@@ -74,7 +75,7 @@ fn read_entries(alloc: Global, config: &Value, entries: &[Entry<'_>]) -> Result<
 
 // `Limit` where there are too many tenants.
 fn check_count(alloc: Global, entries: &[Entry<'_>]) -> Result<(), ConfigFault>
-    ensures { Tests (Asks (nat_le (length (map entry_view entries.now)) MAX_TENANTS) (Limit (codes "tenants")) ∷ []) result }
+    ensures { Tests (Asks (nat_le (length (map entry_view entries.now)) most_tenants) (Limit (codes "tenants")) ∷ []) result }
 {
     if entries.len() > MAX_TENANTS {
         return Err(ConfigFault::Limit(Text::copy(alloc, "tenants")?));

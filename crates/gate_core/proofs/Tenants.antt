@@ -4,7 +4,7 @@ use Rattle.std.specs.Prelude.{slice_get}
 use Rattle.std.proofs.Math.Seq.{take-add}
 use Rattle.std.proofs.lemmas.List.{drop-drop, length-append}
 use Rattle.gate_record.specs.declared.transit.TenantItem.{TenantItem}
-use Rattle.gate_tenant.specs.declared.TheConstants.{MAX_GATHERED}
+use Rattle.gate_tenant.specs.Limits.{most_gathered}
 use Rattle.gate_record.specs.declared.memory.Memory.{Memory}
 use Rattle.gate_record.specs.declared.ids.PipelineId.{PipelineId}
 use Rattle.gate_record.specs.declared.transit.PipelineItem.{PipelineItem}
@@ -61,7 +61,7 @@ room_after dispatch items n room = by (length dispatch.items == 0) room
     more : length (dispatch.gathered ++ items) ≡ length dispatch.gathered + length items
     more = length-append dispatch.gathered items
 
-    by : (empty : Bool) → length items + n ≤ (if empty then MAX_GATHERED - length dispatch.gathered else 0) → n ≤ (if empty then MAX_GATHERED - length (dispatch.gathered ++ items) else 0)
+    by : (empty : Bool) → length items + n ≤ (if empty then most_gathered - length dispatch.gathered else 0) → n ≤ (if empty then most_gathered - length (dispatch.gathered ++ items) else 0)
     by true room' = omega (arith, more, room')
     by false room' = omega (arith, room')
 

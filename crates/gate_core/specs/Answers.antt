@@ -9,10 +9,7 @@ abbrev pub Changes : Answer → Type 0
 Changes (Accepted n) = Unit {0}
 Changes Moved = Unit {0}
 Changes (Turned stamp action outcome) = Unit {0}
-Changes Closed = ⊥
-Changes Full = ⊥
-Changes Idle = ⊥
-Changes Passed = ⊥
+Changes other = ⊥
 
 -- It leaves and answers what is given; or it would change something, memory was refused, and what is left is as it was, save
 -- that a turn may hold what it took.

@@ -29,117 +29,46 @@ History = List (Step × Answer)
 
 abbrev pub is_accepted : Answer → Bool
 is_accepted (Accepted n) = true
-is_accepted Closed = false
-is_accepted Full = false
-is_accepted Moved = false
-is_accepted Idle = false
-is_accepted (Turned stamp action outcome) = false
-is_accepted Passed = false
+is_accepted other = false
 
 abbrev pub is_moved : Answer → Bool
 is_moved Moved = true
-is_moved (Accepted n) = false
-is_moved Closed = false
-is_moved Full = false
-is_moved Idle = false
-is_moved (Turned stamp action outcome) = false
-is_moved Passed = false
+is_moved other = false
 
 -- what was processed: an action, the stamp of a trigger event's, and the outcome
 abbrev pub processed : Answer → Option Processed
 processed (Turned stamp action outcome) = Some (stamp, action, outcome)
-processed (Accepted n) = None
-processed Closed = None
-processed Full = None
-processed Moved = None
-processed Idle = None
-processed Passed = None
+processed other = None
 
 -- the record that the step offers to connection c
 abbrev pub offered_to : ℕ → Step → Option Record
 offered_to c (Offer d line) = if d.0 == c then Some line else None
-offered_to c (Close d) = None
-offered_to c (Take d) = None
-offered_to c (Send d) = None
-offered_to c (Fetch t count) = None
-offered_to c (Match t) = None
-offered_to c (Give t) = None
-offered_to c (PostManage t p manage) = None
-offered_to c (PostResult t p ended) = None
-offered_to c (Turn t p) = None
+offered_to c other = None
 
 abbrev pub is_offer : ℕ → Step → Bool
 is_offer c (Offer d line) = d.0 == c
-is_offer c (Close d) = false
-is_offer c (Take d) = false
-is_offer c (Send d) = false
-is_offer c (Fetch t count) = false
-is_offer c (Match t) = false
-is_offer c (Give t) = false
-is_offer c (PostManage t p manage) = false
-is_offer c (PostResult t p ended) = false
-is_offer c (Turn t p) = false
+is_offer c other = false
 
 abbrev pub is_close : ℕ → Step → Bool
 is_close c (Close d) = d.0 == c
-is_close c (Offer d line) = false
-is_close c (Take d) = false
-is_close c (Send d) = false
-is_close c (Fetch t count) = false
-is_close c (Match t) = false
-is_close c (Give t) = false
-is_close c (PostManage t p manage) = false
-is_close c (PostResult t p ended) = false
-is_close c (Turn t p) = false
+is_close c other = false
 
 abbrev pub is_take : ℕ → Step → Bool
 is_take c (Take d) = d.0 == c
-is_take c (Offer d line) = false
-is_take c (Close d) = false
-is_take c (Send d) = false
-is_take c (Fetch t count) = false
-is_take c (Match t) = false
-is_take c (Give t) = false
-is_take c (PostManage t p manage) = false
-is_take c (PostResult t p ended) = false
-is_take c (Turn t p) = false
+is_take c other = false
 
 abbrev pub is_turn : ℕ → ℕ → Step → Bool
 is_turn t p (Turn u q) = (u.0 == t) && (q.0 == p)
-is_turn t p (Offer d line) = false
-is_turn t p (Close d) = false
-is_turn t p (Take d) = false
-is_turn t p (Send d) = false
-is_turn t p (Fetch u count) = false
-is_turn t p (Match u) = false
-is_turn t p (Give u) = false
-is_turn t p (PostManage u q manage) = false
-is_turn t p (PostResult u q ended) = false
+is_turn t p other = false
 
 -- the management event, and the result, that the step posts to pipeline p of tenant t
 abbrev pub posted_manage : ℕ → ℕ → Step → Option Manage
 posted_manage t p (PostManage u q manage) = if (u.0 == t) && (q.0 == p) then Some manage else None
-posted_manage t p (PostResult u q ended) = None
-posted_manage t p (Offer d line) = None
-posted_manage t p (Close d) = None
-posted_manage t p (Take d) = None
-posted_manage t p (Send d) = None
-posted_manage t p (Fetch u count) = None
-posted_manage t p (Match u) = None
-posted_manage t p (Give u) = None
-posted_manage t p (Turn u q) = None
+posted_manage t p other = None
 
 abbrev pub posted_result : ℕ → ℕ → Step → Option JobResult
 posted_result t p (PostResult u q ended) = if (u.0 == t) && (q.0 == p) then Some ended else None
-posted_result t p (PostManage u q manage) = None
-posted_result t p (Offer d line) = None
-posted_result t p (Close d) = None
-posted_result t p (Take d) = None
-posted_result t p (Send d) = None
-posted_result t p (Fetch u count) = None
-posted_result t p (Match u) = None
-posted_result t p (Give u) = None
-posted_result t p (Turn u q) = None
+posted_result t p other = None
 
 -- ---- what was accepted and what is wanted
 

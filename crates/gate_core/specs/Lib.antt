@@ -3,6 +3,7 @@ pub mod Chains
 pub mod Faults
 pub mod History
 pub mod Late
+pub mod Limits
 pub mod Needs
 pub mod Output
 pub mod Pipelines

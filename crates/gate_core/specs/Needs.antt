@@ -1,5 +1,6 @@
 -- Which steps need memory, by what they find.
 use Rattle.std.specs.Prelude.{ℕ, List, [], ◌∷◌, Option, Some, None, slice_get}
+use Rattle.gate_record.specs.Lines.{IsLine}
 use Rattle.gate_record.specs.declared.transit.ConnEntry.{ConnEntry}
 use Rattle.gate_record.specs.declared.transit.ConnEntry.TheVariants as entry
 use Rattle.gate_pipeline.specs.States.{MayBeRefused, to_process}
@@ -14,10 +15,10 @@ abbrev pub IsThere : {X : Type 0} → (X → Type 0) → Option X → Type 0
 IsThere P None = ⊥
 IsThere P (Some x) = P x
 
--- the first entry is a record, which is to be read; an end mark needs none
+-- the first entry is a line, which is to be read; neither an end mark nor a record that is too long needs memory
 abbrev pub NeedsOf : List ConnEntry → Type 0
 NeedsOf [] = ⊥
-NeedsOf (entry.Numbered n line ∷ queue) = Unit {0}
+NeedsOf (entry.Numbered n line ∷ queue) = IsLine line
 NeedsOf (entry.End ∷ queue) = ⊥
 
 abbrev pub TakeNeeds : ConnectionState → Type 0
@@ -39,11 +40,4 @@ TenantTurnNeeds p tenant = IsThere TurnNeeds (slice_get tenant.pipelines p)
 abbrev pub StepNeeds : State → Step → Type 0
 StepNeeds state (step.Take c) = IsThere TakeNeeds (slice_get state.connections c.0)
 StepNeeds state (step.Turn t p) = IsThere (TenantTurnNeeds p.0) (slice_get state.tenants t.0)
-StepNeeds state (step.Offer c line) = Unit {0}
-StepNeeds state (step.Close c) = Unit {0}
-StepNeeds state (step.Send c) = Unit {0}
-StepNeeds state (step.Fetch t count) = Unit {0}
-StepNeeds state (step.Match t) = Unit {0}
-StepNeeds state (step.Give t) = Unit {0}
-StepNeeds state (step.PostManage t p manage) = Unit {0}
-StepNeeds state (step.PostResult t p ended) = Unit {0}
+StepNeeds state other = Unit {0}

@@ -13,7 +13,7 @@ use Rattle.gate_pipeline.specs.States.{Processed, first_state, found_empty, held
 use Rattle.gate_core.specs.declared.answer.Answer.{Answer}
 use Rattle.gate_core.specs.declared.answer.Answer.TheVariants.{Full, Idle, Moved, Passed, Turned}
 use Rattle.gate_core.specs.declared.pipeline.Pipeline.{Pipeline}
-use Rattle.gate_core.specs.declared.TheConstants.{PLACES}
+use Rattle.gate_core.specs.Limits.{places}
 
 -- pipeline p of tenant t before anything came
 abbrev pub fresh_pipeline : Config → ℕ → ℕ → Pipeline
@@ -22,10 +22,10 @@ fresh_pipeline config t p = record { management = []; results = []; triggers = [
 -- ---- posts
 
 abbrev pub post_manage : Manage → Pipeline → Pipeline × Answer
-post_manage manage pipe = if nat_lt (length pipe.management) PLACES then (record pipe { management = pipe.management ++ manage ∷ [] }, Moved) else (pipe, Full)
+post_manage manage pipe = if nat_lt (length pipe.management) places then (record pipe { management = pipe.management ++ manage ∷ [] }, Moved) else (pipe, Full)
 
 abbrev pub post_result : JobResult → Pipeline → Pipeline × Answer
-post_result ended pipe = if nat_lt (length pipe.results) PLACES then (record pipe { results = pipe.results ++ ended ∷ [] }, Moved) else (pipe, Full)
+post_result ended pipe = if nat_lt (length pipe.results) places then (record pipe { results = pipe.results ++ ended ∷ [] }, Moved) else (pipe, Full)
 
 -- ---- turns
 

@@ -16,7 +16,7 @@ use Rattle.gate_core.specs.declared.answer.Answer.{Answer}
 use Rattle.gate_core.specs.declared.answer.Answer.TheVariants.{Accepted, Closed, Full, Moved}
 use Rattle.gate_core.specs.declared.step.Step.{Step}
 use Rattle.gate_core.specs.declared.step.Step.TheVariants.{Offer, Close, Take, Send, Fetch, Match, Give, PostManage, PostResult, Turn}
-use Rattle.gate_core.specs.declared.TheConstants.{PLACES}
+use Rattle.gate_core.specs.Limits.{places}
 use Rattle.gate_core.specs.History.{History, accepted, actions, asked_by, closed, done, finished, manage_posts, managed, numbers_from, outcomes, result_posts, resulted, stamp_with, triggered, waiting, wanted}
 use Rattle.gate_core.specs.Late.{LateIsDiscarded}
 use Rattle.gate_core.specs.Reports.{report_after, report_of}
@@ -33,24 +33,17 @@ pub record Delivers (config : Config) (history : History) : Type 0 where
 abbrev pub offer_answer : ℕ → History → Answer
 offer_answer c history =
     if closed c history then Closed
-    else (if waiting c history == PLACES then Full else Accepted (length (accepted c history)))
+    else (if waiting c history == places then Full else Accepted (length (accepted c history)))
 
 -- the answer to a close, after this history
 abbrev pub close_answer : ℕ → History → Answer
-close_answer c history = if closed c history then Closed else (if waiting c history == PLACES then Full else Moved)
+close_answer c history = if closed c history then Closed else (if waiting c history == places then Full else Moved)
 
 -- offers and closes of connections in range have these answers
 abbrev pub IsRightAnswer : Config → History → Step → Answer → Type 0
 IsRightAnswer config before (Offer c line) answer = c.0 < length (connections_of config) → answer ≡ offer_answer c.0 before
 IsRightAnswer config before (Close c) answer = c.0 < length (connections_of config) → answer ≡ close_answer c.0 before
-IsRightAnswer config before (Take c) answer = Unit {0}
-IsRightAnswer config before (Send c) answer = Unit {0}
-IsRightAnswer config before (Fetch t count) answer = Unit {0}
-IsRightAnswer config before (Match t) answer = Unit {0}
-IsRightAnswer config before (Give t) answer = Unit {0}
-IsRightAnswer config before (PostManage t p manage) answer = Unit {0}
-IsRightAnswer config before (PostResult t p ended) answer = Unit {0}
-IsRightAnswer config before (Turn t p) answer = Unit {0}
+IsRightAnswer config before other answer = Unit {0}
 
 -- each offer and each close is answered by what came before it
 abbrev pub AnswersRightly : Config → History → History → Type 0

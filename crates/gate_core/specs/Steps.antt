@@ -18,7 +18,7 @@ use Rattle.gate_core.specs.declared.answer.Answer.TheVariants.{Accepted, Closed,
 use Rattle.gate_core.specs.declared.pipeline.Pipeline.{Pipeline}
 use Rattle.gate_core.specs.declared.step.Step.{Step}
 use Rattle.gate_core.specs.declared.step.Step.TheVariants as step
-use Rattle.gate_core.specs.declared.TheConstants.{PLACES}
+use Rattle.gate_core.specs.Limits.{places}
 use Rattle.gate_core.specs.Pipelines.{fresh_pipeline, post_manage, post_result, refused, turned}
 use Rattle.gate_core.specs.States.{ConnectionState, TenantState, State, with_gathered}
 
@@ -41,14 +41,14 @@ first config = record {
 abbrev pub offer : Record → ConnectionState → ConnectionState × Answer
 offer line conn =
     if conn.closed then (conn, Closed)
-    else (if nat_lt (length conn.queue) PLACES
+    else (if nat_lt (length conn.queue) places
     then (record conn { accepted = conn.accepted + 1; queue = conn.queue ++ entry.Numbered conn.accepted line ∷ [] }, Accepted conn.accepted)
     else (conn, Full))
 
 abbrev pub close : ConnectionState → ConnectionState × Answer
 close conn =
     if conn.closed then (conn, Closed)
-    else (if nat_lt (length conn.queue) PLACES then (record conn { closed = true; queue = conn.queue ++ entry.End ∷ [] }, Moved) else (conn, Full))
+    else (if nat_lt (length conn.queue) places then (record conn { closed = true; queue = conn.queue ++ entry.End ∷ [] }, Moved) else (conn, Full))
 
 -- with these in the forwarder's hand, and these in the queue
 abbrev pub take_from : Config → ℕ → List (TenantId × TenantItem) → List ConnEntry → ConnectionState → ConnectionState × Answer
@@ -169,15 +169,7 @@ refused_in t p (Some tenant) state = record state { tenants = slice_set state.te
 
 abbrev pub refused_step : State → Step → State
 refused_step state (step.Turn t p) = refused_in t.0 p.0 (slice_get state.tenants t.0) state
-refused_step state (step.Offer c line) = state
-refused_step state (step.Close c) = state
-refused_step state (step.Take c) = state
-refused_step state (step.Send c) = state
-refused_step state (step.Fetch t count) = state
-refused_step state (step.Match t) = state
-refused_step state (step.Give t) = state
-refused_step state (step.PostManage t p manage) = state
-refused_step state (step.PostResult t p ended) = state
+refused_step state other = state
 
 -- steps one after another, each with its answer
 abbrev pub run_from : Config → State → List Step → List (Step × Answer)

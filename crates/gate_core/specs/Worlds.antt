@@ -22,12 +22,4 @@ AcceptedAtMost n state = EachAt (λ c (conn : ConnectionState). conn.accepted �
 -- the connection that is offered a record, if it is there, has a number left for it; a step of another kind needs none
 abbrev pub HasNumber : State → Step → Type 0
 HasNumber state (step.Offer c line) = (conn : ConnectionState) → slice_get state.connections c.0 ≡ Some conn → conn.accepted + 1 < 2 ^ 64
-HasNumber state (step.Close c) = Unit {0}
-HasNumber state (step.Take c) = Unit {0}
-HasNumber state (step.Send c) = Unit {0}
-HasNumber state (step.Fetch t count) = Unit {0}
-HasNumber state (step.Match t) = Unit {0}
-HasNumber state (step.Give t) = Unit {0}
-HasNumber state (step.PostManage t p manage) = Unit {0}
-HasNumber state (step.PostResult t p ended) = Unit {0}
-HasNumber state (step.Turn t p) = Unit {0}
+HasNumber state other = Unit {0}

@@ -1,5 +1,5 @@
 ghost use Rattle.std.specs.Prelude.{◌≡◌, ◌<◌, ◌+◌, ◌^◌, None};
-ghost use Rattle.gate_core.specs.declared.TheConstants.{PLACES};
+ghost use Rattle.gate_core.specs.Limits.{places};
 ghost use Rattle.gate_forward.specs.Hands.{hand_of};
 
 use crate::PLACES;

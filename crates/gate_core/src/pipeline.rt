@@ -1,5 +1,5 @@
 ghost use Rattle.std.specs.Prelude.{◌≡◌};
-ghost use Rattle.gate_core.specs.declared.TheConstants.{PLACES};
+ghost use Rattle.gate_core.specs.Limits.{places};
 ghost use Rattle.gate_pipeline.specs.States.{asked, next_of};
 
 use crate::PLACES;

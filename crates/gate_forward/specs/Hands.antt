@@ -4,7 +4,7 @@ use Rattle.std.specs.List.{cons_option}
 use Rattle.gate_record.specs.declared.ids.TenantId.{TenantId}
 use Rattle.gate_record.specs.declared.transit.TenantItem.{TenantItem}
 use Rattle.gate_config.specs.declared.config.Config.{Config}
-use Rattle.gate_config.specs.declared.limits.TheConstants.{MAX_TENANTS}
+use Rattle.gate_config.specs.Limits.{most_tenants}
 use Rattle.gate_forward.specs.declared.forward.Forward.{Forward}
 use Rattle.gate_forward.specs.declared.places.Places.{Places}
 use Rattle.gate_forward.specs.Forwarding.{for_tenant, tenant_id}
@@ -28,7 +28,7 @@ items_of places = held places.next (drop places.next places.items)
 abbrev pub out_before : ℕ → Bool → Option TenantId
 out_before next false = None
 out_before zero true = None
-out_before (suc t) true = if nat_lt t MAX_TENANTS then Some (tenant_id t) else None
+out_before (suc t) true = if nat_lt t most_tenants then Some (tenant_id t) else None
 
 abbrev pub out_of : Places → Option TenantId
 out_of places = out_before places.next places.out

@@ -1,7 +1,8 @@
-ghost use Rattle.std.specs.Prelude.{◌≡◌, ◌==◌, ◌&&◌, [], true, false, length, is_some, None, IfErr, IfOk, OnOk};
+ghost use Rattle.std.specs.Prelude.{◌≡◌, ◌==◌, ◌&&◌, [], true, false, length, is_some, None, IfErr, IfOk, OnErr, OnOk};
 ghost use Rattle.gate_config.specs.Selection.{is_listed};
 ghost use Rattle.gate_forward.specs.Forwarding.{forwarded_entry, forwarded_reading, sends, sends_reading};
 ghost use Rattle.gate_forward.specs.Hands.{config_of, conn_of, empty_hand, hand_of, held, moved_out, put_back};
+ghost use Rattle.gate_record.specs.Lines.{IsLine};
 ghost use Rattle.gate_record.specs.declared.reading.Reading.TheVariants as reading;
 ghost use Rattle.gate_record.specs.declared.transit.ConnEntry.TheVariants as entry;
 
@@ -59,6 +60,7 @@ impl<'c> Forward<'c> {
         ensures conn { conn_of self.new ≡ conn_of self.old }
         ensures loads { OnOk result (hand_of self.new ≡ record (hand_of self.old) { items = sends (config_of self.old) (conn_of self.old) (entry.Numbered number line) }) }
         ensures refused { IfErr result (λ refused. (self.new ≡ self.old) × (refused.value ≡ line)) }
+        ensures needs { OnErr result (IsLine line) }
     {
         match self.read(alloc, number, &line) {
             Ok(items) => {
@@ -142,6 +144,7 @@ impl<'c> Forward<'c> {
         line: &Record,
     ) -> Result<[Option<TenantItem>; MAX_TENANTS], Memory>
         ensures items { IfOk result (λ items. held 0 items ≡ sends (config_of self.old) (conn_of self.old) (entry.Numbered number line.now)) }
+        ensures needs { OnErr result (IsLine line.now) }
         ensures same { self.new ≡ self.old }
     {
         match self.reader.read(alloc, line)? {

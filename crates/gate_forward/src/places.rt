@@ -1,5 +1,5 @@
 ghost use Rattle.std.specs.Prelude.{◌≡◌, ◌∷◌, ◌==◌, [], MatchOption, length, is_some, replicate, true, Some, None};
-ghost use Rattle.gate_config.specs.declared.limits.TheConstants.{MAX_TENANTS};
+ghost use Rattle.gate_config.specs.Limits.{most_tenants};
 ghost use Rattle.gate_forward.specs.Hands.{IsFirst, held, items_of, out_of};
 
 use gate_config::MAX_TENANTS;
@@ -90,7 +90,7 @@ fn first(items: &[Option<TenantItem>], from: usize) -> Option<usize>
 
 // No items.
 pub(crate) fn no_items() -> [Option<TenantItem>; MAX_TENANTS]
-    ensures { result ≡ replicate MAX_TENANTS None }
+    ensures { result ≡ replicate most_tenants None }
 {
     [
         None, None, None, None, None, None, None, None, None, None, None, None, None, None, None,

@@ -2,11 +2,11 @@
 use Rattle.std.specs.Prelude.{◌≡◌, ◌≤◌, length}
 use Rattle.gate_intern.specs.Columns.{approval_cells_of, approvals_of, columns_of, deletes_of}
 use Rattle.gate_intern.specs.declared.columns.Columns.TheInside.{Inside}
-use Rattle.gate_intern.specs.declared.columns.TheConstants.{MAX_ROWS}
+use Rattle.gate_intern.specs.Limits.{most_rows}
 
 -- each part is what its definition makes of the events, of which there are few
 pub record AreOfEvents (c : Inside) : Type 0 where
-  pub few : length c.events.now ≤ MAX_ROWS
+  pub few : length c.events.now ≤ most_rows
   pub texts : c.texts ≡ columns_of c.events.now
   pub approvals : c.approvals ≡ approvals_of c.events.now
   pub cells : c.cells ≡ approval_cells_of c.events.now

@@ -1,5 +1,6 @@
 ghost use Rattle.std.specs.Prelude.{◌≡◌, ◌≤◌, ◌%◌, length, map, IfOk};
 ghost use Rattle.gate_intern.specs.Columns.{approval_cells_of, approvals_of, column_at, column_of, columns_of, deletes_of, texts_of};
+ghost use Rattle.gate_intern.specs.Limits.{most_rows};
 
 use crate::approvals::Approvals;
 use crate::column::Column;
@@ -41,7 +42,7 @@ impl<'e> Columns<'e> {
     /// The columns of these events. `Memory` where they find no room, or where there are more different approvals than a
     /// `u32` counts. Takes time in the texts and in the cells of the approvals.
     pub fn build(alloc: Global, events: &'e [Shared<Event>]) -> Result<Columns<'e>, Memory>
-        requires { length events.now ≤ MAX_ROWS }
+        requires { length events.now ≤ most_rows }
         ensures { IfOk result (λ columns. columns ≡ events.now) }
     {
         let approvals = Approvals::new(alloc, events)?;
@@ -60,7 +61,7 @@ impl<'e> Columns<'e> {
     /// The events that the columns were built of.
     pub fn events(&self) -> &'e [Shared<Event>]
         ensures events { result.now ≡ self.now }
-        ensures few { length self.now ≤ MAX_ROWS }
+        ensures few { length self.now ≤ most_rows }
     {
         self.events
     }
@@ -68,7 +69,7 @@ impl<'e> Columns<'e> {
     /// How many events there are.
     pub fn rows(&self) -> usize
         ensures rows { result ≡ length self.now }
-        ensures few { result ≤ MAX_ROWS }
+        ensures few { result ≤ most_rows }
     {
         self.events.len()
     }

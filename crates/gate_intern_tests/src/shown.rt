@@ -1,5 +1,6 @@
 //! The columns of a batch as text: a line for each part.
 ghost use Rattle.std.specs.Prelude.{◌≤◌, length};
+ghost use Rattle.gate_intern.specs.Limits.{most_rows};
 
 use gate_intern::{Columns, Field, MAX_ROWS};
 use gate_record::{Event, Shared};
@@ -26,7 +27,7 @@ pub(crate) fn shown(alloc: Global, events: &[Shared<Event>]) -> Result<String, F
 }
 
 fn push_columns(text: &mut String, alloc: Global, events: &[Shared<Event>]) -> Result<(), Fail>
-    requires { length events.now ≤ MAX_ROWS }
+    requires { length events.now ≤ most_rows }
 {
     let columns = Columns::build(alloc, events)?;
     push_parts(text, alloc, &columns)

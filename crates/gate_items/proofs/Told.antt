@@ -1,11 +1,11 @@
 -- Each job has the outcome that was said of it.
-use Rattle.std.proofs.Common.{◌≡◌, ◌∙◌, refl, sym, ap, subst, ◌+◌, ◌<◌, ◌≤◌, ℕ, ℤ, zero, suc, List, [], ◌∷◌, ◌++◌, Bool, true, false, cond, Option, Some, None, length, map, nat_eq, nat_lt, append-nil, append_assoc, arith}
-use Rattle.std.specs.Prelude.{int_lt, not, ◌^◌, ◌&&◌, slice_get, unwrap_or}
-use Rattle.std.specs.List.{cons_option, filter, filter_map, find}
+use Rattle.std.proofs.Common.{◌≡◌, ◌∙◌, refl, sym, ap, subst, ◌+◌, ◌<◌, ◌≤◌, ℕ, ℤ, List, [], ◌∷◌, ◌++◌, Bool, true, false, cond, Option, Some, None, map, nat_eq, nat_lt, append-nil, append_assoc, arith}
+use Rattle.std.specs.Prelude.{int_lt, ◌^◌, ◌&&◌, unwrap_or}
+use Rattle.std.specs.List.{cons_option, find}
 use Rattle.std.specs.Option.{option_to_list}
 use Rattle.std.specs.Ordering.{int_eq}
 use Rattle.std.specs.Str.{bytes_eq}
-use Rattle.std.proofs.lemmas.Bool.{eqb-true, eqb-false, ltb-true, ltb-false}
+use Rattle.std.proofs.lemmas.Bool.{eqb-true, ltb-true, ltb-false}
 use Rattle.std.proofs.lemmas.List.Elements.{filter_map-append}
 use Rattle.std.proofs.lemmas.Slice.Eq.{bytes_eq-Decides}
 use Rattle.gate_record.specs.declared.ids.ManagerKind.{ManagerKind}
@@ -21,37 +21,11 @@ use Rattle.gate_items.specs.declared.action.Outcome.TheVariants.{Applied, Discar
 use Rattle.gate_items.specs.declared.item.QueueItem.{QueueItem}
 use Rattle.gate_items.specs.declared.key.Key.{Key}
 use Rattle.gate_items.specs.History.{after, start}
-use Rattle.gate_items.specs.Machine.{Plan, Refuses, Makes, State, after_plan, apply, before, behind, behind_it, dequeued, ended, has_set, is_complete, is_first_failure, is_job, is_of, leaving, new_item, open_job, placing, plan, record_at, recorded, renewed, report_of, reset, rest_of, resulted, sets_behind, staying, triggered, with_outcome, with_set}
+use Rattle.gate_items.specs.Machine.{Plan, Refuses, Makes, State, after_plan, apply, before, behind, behind_it, dequeued, ended, has_set, is_first_failure, is_job, is_of, leaving, new_item, open_job, placing, plan, record_at, recorded, renewed, report_of, reset, resulted, sets_behind, staying, triggered, with_outcome, with_set}
 use Rattle.gate_items.specs.Outcomes.{OutcomesAreSaid, run, said, says}
-use Rattle.gate_items.proofs.Sound.{Goes, Sound, goes}
+use Rattle.gate_items.proofs.Each.{Each, each_append, each_at, each_before, each_behind, each_map, each_staying}
+use Rattle.gate_items.proofs.Sound.{Sound, goes}
 use Rattle.gate_items.proofs.Times.{bit, once, times, times_split}
-
--- ---- lists
-
-abbrev Each : {X : Type 0} → (X → Type 0) → List X → Type 0
-Each P [] = Unit {0}
-Each P (x ∷ xs) = P x × Each P xs
-
-each_map : {X : Type 0} (P Q : X → Type 0) → ((x : X) → P x → Q x) → (xs : List X) → Each P xs → Each Q xs
-each_map P Q f [] h = tt
-each_map P Q f (x ∷ xs) h = (f x h.0, each_map P Q f xs h.1)
-
-each_append : {X : Type 0} (P : X → Type 0) (xs ys : List X) → Each P xs → Each P ys → Each P (xs ++ ys)
-each_append P [] ys h k = k
-each_append P (x ∷ xs) ys h k = (h.0, each_append P xs ys h.1 k)
-
-each_at : {X : Type 0} (P : X → Type 0) (xs : List X) (i : ℕ) (x : X) → Each P xs → slice_get xs i ≡ Some x → P x
-each_at P [] i x h e = absurd (cc)
-each_at P (y ∷ ys) zero x h e = let same : y ≡ x = ap (λ o. unwrap_or o y) e in subst P same h.0
-each_at P (y ∷ ys) (suc i) x h e = each_at P ys i x h.1 e
-
-each_filter : {X : Type 0} (P : X → Type 0) (test : X → Bool) (xs : List X) → Each P xs → Each P (filter test xs)
-each_filter P test [] h = tt
-each_filter P test (x ∷ xs) h = by (test x) (each_filter P test xs h.1)
-  where
-    by : (b : Bool) → Each P (filter test xs) → Each P (cond b (x ∷ filter test xs) (filter test xs))
-    by true rest = (h.0, rest)
-    by false rest = rest
 
 -- ---- what was said
 
@@ -106,34 +80,6 @@ renewed_told h next k unsaid le (item ∷ items) = (opened h k (λ name. unsaid 
 behind_told : (h : Past) (next k : ℕ) → Unsaid next h → next ≤ k → (m : ManagerKind) (items : List QueueItem) → Each (ItemTold h) items → Each (ItemTold h) (behind_it m k items)
 behind_told h next k unsaid le Independent items told = told
 behind_told h next k unsaid le Dependent items told = renewed_told h next k unsaid le items
-
-each_before : (P : QueueItem → Type 0) (test : QueueItem → Bool) (items : List QueueItem) → Each P items → Each P (before test items)
-each_before P test [] h = tt
-each_before P test (item ∷ items) h = by (test item) (each_before P test items h.1)
-  where
-    by : (b : Bool) → Each P (before test items) → Each P (cond b [] (item ∷ before test items))
-    by true rest = tt
-    by false rest = (h.0, rest)
-
-each_behind : (P : QueueItem → Type 0) (test : QueueItem → Bool) (items : List QueueItem) → Each P items → Each P (behind test items)
-each_behind P test [] h = tt
-each_behind P test (item ∷ items) h = by (test item) (each_behind P test items h.1)
-  where
-    by : (b : Bool) → Each P (behind test items) → Each P (cond b items (behind test items))
-    by true rest = h.1
-    by false rest = rest
-
-each_rest : (P : QueueItem → Type 0) (items : List QueueItem) → Each P items → Each P (rest_of items)
-each_rest P [] h = tt
-each_rest P (item ∷ items) h = by (is_complete item) (each_rest P items h.1)
-  where
-    by : (b : Bool) → Each P (rest_of items) → Each P (cond b (rest_of items) (item ∷ items))
-    by true rest = rest
-    by false rest = h
-
-each_staying : (P : QueueItem → Type 0) (m : ManagerKind) (items : List QueueItem) → Each P items → Each P (staying m items)
-each_staying P Independent items h = each_filter P (λ item. not (is_complete item)) items h
-each_staying P Dependent items h = each_rest P items h
 
 -- ---- plans of which nothing is said
 

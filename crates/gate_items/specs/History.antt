@@ -1,5 +1,5 @@
 -- What a list of actions leaves, and what is true of it whatever the actions were.
-use Rattle.std.specs.Prelude.{◌≡◌, ◌≤◌, ◌<◌, ◌++◌, ℕ, List, [], ◌∷◌, Bool, true, false, length, nat_eq}
+use Rattle.std.specs.Prelude.{◌≡◌, ◌≤◌, ◌<◌, ◌++◌, ◌⊎◌, ℕ, List, [], ◌∷◌, Bool, true, false, Some, length, nat_eq, slice_get}
 use Rattle.std.specs.List.{filter, list_any}
 use Rattle.gate_record.specs.declared.ids.ManagerKind.{ManagerKind}
 use Rattle.gate_record.specs.declared.ids.ManagerKind.TheVariants.{Independent, Dependent}
@@ -9,6 +9,7 @@ use Rattle.gate_items.specs.declared.action.Manage.TheVariants as manage
 use Rattle.gate_items.specs.declared.action.JobResult.{JobResult}
 use Rattle.gate_items.specs.declared.action.Discard.TheVariants.{NotCurrent}
 use Rattle.gate_items.specs.declared.action.Outcome.TheVariants.{Discarded}
+use Rattle.gate_items.specs.declared.item.QueueItem.{QueueItem}
 use Rattle.gate_items.specs.declared.item.Report.{Report}
 use Rattle.gate_items.specs.Machine.{State, apply, has_set}
 
@@ -48,6 +49,18 @@ MayTakeMemory Dependent (action.Manage (manage.Reset key)) = ⊥
 -- No two items have one build set.
 abbrev pub EachHasItsOwn : Type 0
 EachHasItsOwn = (manager : ManagerKind) (first : ℕ) (actions : List Action) (set : ℕ) → length (filter (has_set set) (after (start manager first) actions).items) ≤ 1
+
+-- the item is an older one, whatever came of its jobs: it has that one's key, patch set and build set
+abbrev pub IsSame : QueueItem → QueueItem → Type 0
+IsSame old item = (item.key ≡ old.key) × (item.patchset ≡ old.patchset) × (item.set ≡ old.set)
+
+-- the item stood there, or has a build set whose number wasn't handed out yet
+abbrev pub IsOldOrNew : State → QueueItem → Type 0
+IsOldOrNew s item = ((place : ℕ) × (old : QueueItem) × (slice_get s.items place ≡ Some old) × IsSame old item) ⊎ (s.next ≤ item.set)
+
+-- Each item behind an action stood there before with its build set, or has a new one.
+abbrev pub EachIsOldOrNew : Type 0
+EachIsOldOrNew = (s : State) (action : Action) (place : ℕ) (item : QueueItem) → slice_get (apply s action).0.items place ≡ Some item → IsOldOrNew s item
 
 -- A number that was handed out, and is no item's any more, is never handed out again.
 abbrev pub NeverAgain : Type 0

@@ -1,10 +1,16 @@
-ghost use Rattle.gate_items.specs.History.{CancelledChangesNothing, EachHasItsOwn, NeverAgain, LateResultsAreLost};
+ghost use Rattle.gate_items.specs.History.{CancelledChangesNothing, EachHasItsOwn, EachIsOldOrNew, NeverAgain, LateResultsAreLost};
 ghost use Rattle.gate_items.specs.Outcomes.{OutcomesAreSaid};
 
 /// After any actions no two items have one build set.
 #[tactic(auto, using(crate::proofs::Histories::each_has_its_own))]
 pub fn each_item_has_its_own_build_set()
     ensures { EachHasItsOwn }
+{}
+
+/// Each item behind an action stood there before, with its key, patch set and build set, or has a build set whose number was
+/// handed out by no action before.
+pub fn each_item_is_an_old_one_or_has_a_new_build_set()
+    ensures { EachIsOldOrNew }
 {}
 
 /// A build set's number that is no item's any more is no item's ever again, whatever actions come.

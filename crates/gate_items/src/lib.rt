@@ -24,6 +24,7 @@ pub use items::Items;
 pub use key::Key;
 pub use laws::{
     cancelled_build_sets_change_nothing, each_item_has_its_own_build_set,
-    each_outcome_is_that_of_one_result, late_results_change_nothing, no_build_set_comes_again,
+    each_item_is_an_old_one_or_has_a_new_build_set, each_outcome_is_that_of_one_result,
+    late_results_change_nothing, no_build_set_comes_again,
 };
 pub use queue_items::QueueItems;

@@ -11,9 +11,8 @@ use crate::stream::Stream;
 use gate_config::{Config, read_config};
 use gate_core::report_text;
 use gate_record::Shared;
-use gate_run::{Posts, ReaderFeed, RecordFeed, serve};
+use gate_run::{Inbox, Posts, ReaderFeed, RecordFeed, Served, serve};
 use gate_status::{Board, BoardGate};
-use std::fs;
 use std::fs::File;
 use std::io::ErrorKind;
 use std::net::{Net, TcpListener, TcpStream};
@@ -21,6 +20,7 @@ use std::rt::Files;
 use std::sync::{Mutex, Wait};
 use std::thread::Threads;
 use std::time::Clock;
+use std::{fs, mem};
 
 /// Runs the configuration of a document over the streams of these words, with a port where STATUS asks for one, and gives the report.
 ///
@@ -91,13 +91,13 @@ where
     let alloc = rt.alloc();
     let config = Shared::new(alloc, config)?;
     let board = Shared::new(alloc, Mutex::new(Board::new(alloc, config.get())?))?;
-    let (posts, inbox) = Posts::open(alloc, config.get())?;
-    let sessions = match port {
+    let (sessions, inbox) = match port {
         Some(port) => {
+            let (posts, inbox) = Posts::open(alloc, config.get())?;
             let sessions = Sessions::new(port, config.share()?, board.share()?, posts);
-            Some(sessions.start(rt, (*rt, alloc))?)
+            (Some(sessions.start(rt, (*rt, alloc))?), inbox)
         }
-        None => None,
+        None => (None, Inbox::without_posts(alloc, config.get())?),
     };
     let served = serve(
         rt,
@@ -108,5 +108,17 @@ where
         &BoardGate::new(board.get()),
     )?;
     let port = sessions.map(|sessions| sessions.join(rt));
-    Ok((report_text(alloc, config.get(), &served.report)?, port))
+    let Served {
+        report,
+        pipelines,
+        feeds,
+        inbox: _inbox,
+    } = served;
+    // A stream may stand where standard output was closed.
+    drop(feeds);
+    let text = report_text(alloc, config.get(), &report)?;
+    // The program ends behind this, and the system takes all of them back at once.
+    mem::forget(pipelines);
+    mem::forget(config);
+    Ok((text, port))
 }

@@ -1,5 +1,5 @@
 -- What is true after any calls.
-use Rattle.std.proofs.Common.{◌≡◌, ◌∙◌, refl, sym, ap, ℕ, List, [], ◌∷◌, ◌++◌, map, Option, Some, None, append-nil, append_assoc}
+use Rattle.std.proofs.Common.{◌≡◌, ◌∙◌, refl, sym, ap, List, [], ◌∷◌, ◌++◌, map, Option, Some, None, append-nil, append_assoc}
 use Rattle.std.specs.List.{filter_map}
 use Rattle.std.specs.Option.{option_to_list}
 use Rattle.std.proofs.lemmas.List.Elements.{filter_map-append}
@@ -17,8 +17,8 @@ use Rattle.gate_pipeline.specs.declared.which.Held.TheVariants as held
 use Rattle.gate_pipeline.specs.declared.which.Taken.{Taken}
 use Rattle.gate_pipeline.specs.declared.which.Taken.TheVariants as taken
 use Rattle.gate_pipeline.specs.Histories.{AppliedOnce, Call, FoundEmpty, PhasesFollow, Refused, Took, action_of, after_call, after_calls, processed_in, stamp_of, taking_of, takings, takings_of}
-use Rattle.gate_pipeline.specs.Passes.{after_taking, first_pass, pass_after}
-use Rattle.gate_pipeline.specs.States.{Processed, State, first_state, found_empty, held_as, processed, taken_in, takes, to_process, with_processed}
+use Rattle.gate_pipeline.specs.Passes.{after_taking, pass_after}
+use Rattle.gate_pipeline.specs.States.{State, first_state, found_empty, held_as, taken_in, takes, to_process, with_processed}
 
 -- ---- phases
 

@@ -1,5 +1,5 @@
 -- What was taken is processed or held, after any history of calls.
-use Rattle.std.proofs.Common.{◌≡◌, ◌∙◌, refl, sym, ap, subst, ℕ, List, [], ◌∷◌, ◌++◌, Bool, true, false, map, Option, Some, None, append-nil, append_assoc}
+use Rattle.std.proofs.Common.{◌≡◌, ◌∙◌, refl, sym, ap, subst, ℕ, List, [], ◌∷◌, ◌++◌, Bool, true, false, map, Option, Some, None, append-nil}
 use Rattle.std.specs.Prelude.{◌||◌, is_some, if◌then◌else◌}
 use Rattle.std.specs.List.{cons_option, filter_map, list_any}
 use Rattle.std.specs.Option.{option_to_list}
@@ -29,7 +29,7 @@ use Rattle.gate_pipeline.specs.declared.which.Taken.TheVariants as taken
 use Rattle.gate_pipeline.specs.declared.which.Which.{Which}
 use Rattle.gate_pipeline.specs.declared.which.Which.TheVariants as which
 use Rattle.gate_pipeline.specs.Histories.{AreProcessed, Happens, History, TakenIsProcessed, action_of, asking, beginning, begins, held_ended, held_items, held_managed, is_end, managing, outcome_of, passed, refused, resulting, stamp_in, stamp_of, took, triggering, with_taken}
-use Rattle.gate_pipeline.specs.States.{MayBeRefused, Processed, State, asked, counted, found_empty, held_as, is_taking, manager_of, next_of, processed, queue_of, taken_in, takes, to_process, with_processed}
+use Rattle.gate_pipeline.specs.States.{MayBeRefused, Processed, State, asked, counted, found_empty, held_as, is_taking, manager_of, next_of, processed, queue_of, taken_in, to_process, with_processed}
 use Rattle.gate_pipeline.specs.Triggers.{trigger_of}
 
 -- ---- lists that grow

@@ -6,6 +6,7 @@ use Rattle.gate_record.specs.declared.ids.Stamp.{Stamp}
 use Rattle.gate_record.specs.declared.transit.PipelineItem.{PipelineItem}
 use Rattle.gate_record.specs.declared.transit.PipelineItem.TheVariants as item
 use Rattle.gate_config.specs.declared.config.Config.{Config}
+use Rattle.gate_config.specs.Lookups.{jobs_of}
 use Rattle.gate_items.specs.declared.action.Action.{Action}
 use Rattle.gate_items.specs.declared.action.Action.TheVariants as action
 use Rattle.gate_items.specs.declared.action.JobResult.{JobResult}
@@ -41,10 +42,8 @@ after_calls state (call ∷ calls) = after_calls (after_call state call) calls
 
 -- what a call took: what is tried again was taken before
 abbrev pub taking_of : Taken → List Taking
-taking_of (taken.Manage manage) = Value ∷ []
-taking_of (taken.Result result) = Value ∷ []
-taking_of (taken.Trigger item) = Value ∷ []
 taking_of taken.Again = []
+taking_of other = Value ∷ []
 
 abbrev pub takings_of : Call → List Taking
 takings_of (Took config given) = taking_of given
@@ -95,21 +94,15 @@ beginning config t p = record { state = first_state config t p; triggers = []; m
 
 abbrev pub trigger_in : Taken → List PipelineItem
 trigger_in (taken.Trigger item) = item ∷ []
-trigger_in (taken.Manage manage) = []
-trigger_in (taken.Result result) = []
-trigger_in taken.Again = []
+trigger_in other = []
 
 abbrev pub manage_in : Taken → List Manage
 manage_in (taken.Manage manage) = manage ∷ []
-manage_in (taken.Trigger item) = []
-manage_in (taken.Result result) = []
-manage_in taken.Again = []
+manage_in other = []
 
 abbrev pub result_in : Taken → List JobResult
 result_in (taken.Result result) = result ∷ []
-result_in (taken.Trigger item) = []
-result_in (taken.Manage manage) = []
-result_in taken.Again = []
+result_in other = []
 
 -- with what was handed in, which left this state and this was processed
 abbrev pub with_taken : Taken → State → List Processed → History → History
@@ -200,3 +193,8 @@ pub record AreProcessed (config : Config) (t p : ℕ) (h : History) : Type 0 whe
 
 abbrev pub TakenIsProcessed : Type 0
 TakenIsProcessed = (config : Config) (t p : ℕ) (h : History) → Happens config t p h → AreProcessed config t p h
+
+-- By two configurations in which the pipeline has the same jobs, the same comes of what is handed in or tried again.
+abbrev pub SameJobsSameActions : Type 0
+SameJobsSameActions = (a b : Config) (state : State) (given : Taken) →
+    ((project : List ℕ) → jobs_of a state.tenant state.pipeline project ≡ jobs_of b state.tenant state.pipeline project) → takes a state given ≡ takes b state given

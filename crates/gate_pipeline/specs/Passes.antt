@@ -5,7 +5,7 @@ use Rattle.gate_pipeline.specs.declared.pass.Phase.TheVariants.{Management, Resu
 use Rattle.gate_pipeline.specs.declared.pass.Taking.{Taking}
 use Rattle.gate_pipeline.specs.declared.pass.Taking.TheVariants.{Value, Nothing}
 use Rattle.gate_pipeline.specs.declared.pass.Pass.{Pass}
-use Rattle.gate_pipeline.specs.declared.TheConstants.{PHASE}
+use Rattle.gate_pipeline.specs.Limits.{most_takings}
 
 abbrev pub next_phase : Phase → Phase
 next_phase Management = Result
@@ -20,7 +20,7 @@ next_pass pass = record { phase = next_phase pass.phase; takings = 0 }
 
 -- an empty taking, or the 256th of a phase, moves the pass on
 abbrev pub after_taking : Pass → Taking → Pass
-after_taking pass Value = if nat_lt pass.takings (PHASE - 1) then record { phase = pass.phase; takings = pass.takings + 1 } else next_pass pass
+after_taking pass Value = if nat_lt pass.takings (most_takings - 1) then record { phase = pass.phase; takings = pass.takings + 1 } else next_pass pass
 after_taking pass Nothing = next_pass pass
 
 -- where a pass stands after takings, one after another

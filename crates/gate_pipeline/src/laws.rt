@@ -1,4 +1,4 @@
-ghost use Rattle.gate_pipeline.specs.Histories.{AppliedOnce, PhasesFollow, TakenIsProcessed};
+ghost use Rattle.gate_pipeline.specs.Histories.{AppliedOnce, PhasesFollow, SameJobsSameActions, TakenIsProcessed};
 
 /// Where a pipeline's pass stands is a function of all its takings so far, empty ones included, whatever calls came: what
 /// was held for want of memory counts once, where it was taken.
@@ -20,4 +20,11 @@ pub fn each_action_is_applied_once()
 #[tactic(auto, using(crate::proofs::Processing::taken_is_processed))]
 pub fn what_was_taken_is_processed()
     ensures { TakenIsProcessed }
+{}
+
+/// What was refused memory is tried again with the configuration of the later call: by one in which the pipeline has the same
+/// jobs the same comes of it.
+#[tactic(auto, using(crate::proofs::SameJobs::same_jobs_same_actions))]
+pub fn the_same_jobs_are_the_same_actions()
+    ensures { SameJobsSameActions }
 {}

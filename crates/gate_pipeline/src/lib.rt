@@ -7,7 +7,10 @@ mod pipeline;
 mod trigger;
 mod which;
 
-pub use laws::{each_action_is_applied_once, phases_follow_takings, what_was_taken_is_processed};
+pub use laws::{
+    each_action_is_applied_once, phases_follow_takings, the_same_jobs_are_the_same_actions,
+    what_was_taken_is_processed,
+};
 pub use pass::{Pass, Phase, Taking};
 pub use pipeline::Pipeline;
 pub use which::{Held, Taken, Which};

@@ -1,5 +1,5 @@
 ghost use Rattle.std.specs.Prelude.{◌≡◌};
-ghost use Rattle.gate_pipeline.specs.declared.TheConstants.{PHASE};
+ghost use Rattle.gate_pipeline.specs.Limits.{most_takings};
 
 use crate::PHASE;
 

@@ -1,4 +1,4 @@
-ghost use Rattle.std.specs.Prelude.{◌≡◌, IfOk};
+ghost use Rattle.std.specs.Prelude.{◌≡◌, IfOk, OnErr, is_some, true};
 ghost use Rattle.gate_pipeline.specs.States.{manager_of};
 ghost use Rattle.gate_pipeline.specs.Triggers.{key_of, patchset_of, project_of, ref_key, trigger_of};
 
@@ -46,7 +46,8 @@ fn project_of(event: &Event) -> &str
 }
 
 fn key_of(alloc: Global, conn: ConnId, event: &Event) -> Result<Option<Key>, Memory>
-    ensures { IfOk result (λ key. key ≡ key_of conn event.now event.now.change) }
+    ensures key { IfOk result (λ key. key ≡ key_of conn event.now event.now.change) }
+    ensures needs { OnErr result (is_some (key_of conn event.now event.now.change) ≡ true) }
 {
     match event.change {
         Some(number) => Ok(Some(Key::Change { conn, number })),
@@ -55,7 +56,8 @@ fn key_of(alloc: Global, conn: ConnId, event: &Event) -> Result<Option<Key>, Mem
 }
 
 fn ref_key(alloc: Global, conn: ConnId, event: &Event) -> Result<Option<Key>, Memory>
-    ensures { IfOk result (λ key. key ≡ ref_key conn (project_of event.now) event.now.refname event.now.newrev) }
+    ensures key { IfOk result (λ key. key ≡ ref_key conn (project_of event.now) event.now.refname event.now.newrev) }
+    ensures needs { OnErr result (is_some (ref_key conn (project_of event.now) event.now.refname event.now.newrev) ≡ true) }
 {
     let Some(refname) = &event.refname else {
         return Ok(None);

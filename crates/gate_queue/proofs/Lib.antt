@@ -9,3 +9,4 @@ pub mod Settles
 pub mod FreeKeeps
 pub mod FreeHeads
 pub mod FreeSettles
+pub mod Rules

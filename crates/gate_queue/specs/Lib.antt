@@ -6,3 +6,4 @@ pub mod Views
 pub mod FreeSharing
 pub mod FreeViews
 pub mod Batches
+pub mod Laws

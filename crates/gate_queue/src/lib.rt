@@ -8,6 +8,7 @@
 mod fault;
 mod free;
 mod known;
+mod laws;
 mod opening;
 mod queue;
 mod seats;
@@ -16,6 +17,7 @@ mod tagged;
 
 pub use fault::{Full, OpenFault, Unsettled};
 pub use free::{Batch, FreeHead, FreeQueue, FreeTail, Memory, UnsettledFree, open_free};
+pub use laws::{the_protocol_keeps_the_rule, the_rule_is_the_protocols};
 pub use opening::open;
 pub use queue::EventQueue;
 pub use seats::{Head, Tail};

@@ -5,7 +5,7 @@ use Rattle.std.specs.Option.{option_or}
 use Rattle.std.specs.Char.{to_ascii_lowercase}
 use Rattle.serde_json.specs.Data.{Data}
 use Rattle.gate_record.specs.Json.{text_at, number_at, items_at}
-use Rattle.gate_record.specs.declared.approvals.TheConstants.{MAX_APPROVALS}
+use Rattle.gate_record.specs.Limits.{most_approvals}
 
 -- 32 is a space, 45 a dash
 abbrev pub category_byte : ℕ → ℕ
@@ -29,4 +29,4 @@ approval_of entry = option_and_then
 
 -- the first of the list `approvals` that have both
 abbrev pub approvals_of : Data → List (List ℕ × ℤ)
-approvals_of value = take MAX_APPROVALS (filter_map approval_of (items_at (codes "approvals" ∷ []) value))
+approvals_of value = take most_approvals (filter_map approval_of (items_at (codes "approvals" ∷ []) value))

@@ -3,6 +3,7 @@ pub mod Entries
 pub mod Events
 pub mod Fields
 pub mod Json
+pub mod Limits
 pub mod Lines
 pub mod Names
 pub mod Numbers

@@ -4,12 +4,17 @@ use Rattle.std.specs.List.{filter_map, slice_split}
 use Rattle.std.specs.Str.Lines.{lines, strip_carriage_return}
 use Rattle.gate_record.specs.declared.record.Record.{Record}
 use Rattle.gate_record.specs.declared.record.Record.TheVariants.{Line, Oversize}
-use Rattle.gate_record.specs.declared.record.TheConstants.{MAX_LINE}
+use Rattle.gate_record.specs.Limits.{longest_line}
+
+-- the record has its bytes
+abbrev pub IsLine : Record → Type 0
+IsLine (Line bytes) = Unit {0}
+IsLine Oversize = ⊥
 
 -- the record of a line, its end aside: an empty line is none
 abbrev pub record_of_line : List ℕ → Option Record
 record_of_line [] = None
-record_of_line (byte ∷ bytes) = if nat_lt MAX_LINE (length (byte ∷ bytes)) then Some Oversize else Some (Line (byte ∷ bytes))
+record_of_line (byte ∷ bytes) = if nat_lt longest_line (length (byte ∷ bytes)) then Some Oversize else Some (Line (byte ∷ bytes))
 
 -- The records of a whole text. `lines` cuts it at each LF, and takes one CR away at the end of each line that ends with LF;
 -- what follows the last LF is a line as it is.

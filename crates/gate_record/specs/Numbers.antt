@@ -26,7 +26,4 @@ number_in (sign ∷ digits) =
 abbrev pub number_of : Data → Option ℤ
 number_of (number n) = as_i64 n
 number_of (string text) = number_in text
-number_of null = None
-number_of (boolean _) = None
-number_of (array _) = None
-number_of (object _) = None
+number_of other = None

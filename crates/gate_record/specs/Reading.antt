@@ -56,11 +56,7 @@ reading_of_object value (Some kind) = reading.Event (event_of value kind)
 
 abbrev pub reading_of_value : Data → Reading
 reading_of_value (object members) = reading_of_object (object members) (text_at (codes "type" ∷ []) (object members))
-reading_of_value null = reading.Nothing why.NotObject
-reading_of_value (boolean b) = reading.Nothing why.NotObject
-reading_of_value (number n) = reading.Nothing why.NotObject
-reading_of_value (string s) = reading.Nothing why.NotObject
-reading_of_value (array values) = reading.Nothing why.NotObject
+reading_of_value other = reading.Nothing why.NotObject
 
 abbrev pub reading_of_json : Option Data → Reading
 reading_of_json None = reading.Nothing why.NotJson

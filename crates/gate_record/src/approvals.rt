@@ -1,7 +1,7 @@
 ghost use Rattle.std.specs.Prelude.{◌≡◌, ◌≤◌, ◌++◌, IfOk, OnOk, length, option_to_list, string_bytes, take};
 ghost use Rattle.serde_json.specs.View.{view};
 ghost use Rattle.gate_record.specs.Approvals.{approval_of, approvals_of, category, category_byte};
-ghost use Rattle.gate_record.specs.declared.approvals.TheConstants.{MAX_APPROVALS};
+ghost use Rattle.gate_record.specs.Limits.{most_approvals};
 
 use crate::memory::Memory;
 use crate::paths::{items_member, number_member, text_member};
@@ -57,8 +57,8 @@ fn push_approval(
     entry: &Value,
     approvals: &mut Sequence<(Text, i64)>,
 ) -> Result<(), Memory>
-    requires { length approvals.old ≤ MAX_APPROVALS }
-    ensures { OnOk result (approvals.new ≡ take MAX_APPROVALS (approvals.old ++ option_to_list (approval_of (view entry.now)))) }
+    requires { length approvals.old ≤ most_approvals }
+    ensures { OnOk result (approvals.new ≡ take most_approvals (approvals.old ++ option_to_list (approval_of (view entry.now)))) }
 {
     if approvals.len() >= MAX_APPROVALS {
         return Ok(());

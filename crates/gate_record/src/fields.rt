@@ -7,7 +7,7 @@ ghost use Rattle.gate_record.specs.Approvals.{approval_of, approvals_of};
 ghost use Rattle.gate_record.specs.Fields.{AreFields, account_in, label_of, labelled};
 ghost use Rattle.gate_record.specs.Reading.{account_of, event_of, project_of};
 ghost use Rattle.gate_record.specs.Tapes.{Begins, Finds, GoesOn};
-ghost use Rattle.gate_record.specs.declared.approvals.TheConstants.{MAX_APPROVALS};
+ghost use Rattle.gate_record.specs.Limits.{most_approvals};
 
 use crate::approvals::{MAX_APPROVALS, category};
 use crate::event::Event;
@@ -115,9 +115,9 @@ fn push_approvals(
     entries: Items<'_, '_>,
     approvals: &mut Sequence<(Text, i64)>,
 ) -> Result<(), Memory>
-    requires { length approvals.old ≤ MAX_APPROVALS }
+    requires { length approvals.old ≤ most_approvals }
     ensures { (values : List Data) → GoesOn entries.entry values
-        → OnOk result (approvals.new ≡ take MAX_APPROVALS (approvals.old ++ filter_map approval_of values)) }
+        → OnOk result (approvals.new ≡ take most_approvals (approvals.old ++ filter_map approval_of values)) }
 {
     let mut entries = entries;
     while let Some(entry) = next_of(&mut entries) {
@@ -132,10 +132,10 @@ fn push_approval(
     entry: &Element<'_, '_>,
     approvals: &mut Sequence<(Text, i64)>,
 ) -> Result<(), Memory>
-    requires { length approvals.old ≤ MAX_APPROVALS }
+    requires { length approvals.old ≤ most_approvals }
     ensures added { (value : Data) → Begins entry.now value
-        → OnOk result (approvals.new ≡ take MAX_APPROVALS (approvals.old ++ option_to_list (approval_of value))) }
-    ensures few { length approvals.new ≤ MAX_APPROVALS }
+        → OnOk result (approvals.new ≡ take most_approvals (approvals.old ++ option_to_list (approval_of value))) }
+    ensures few { length approvals.new ≤ most_approvals }
 {
     if approvals.len() >= MAX_APPROVALS {
         return Ok(());

@@ -1,6 +1,7 @@
-ghost use Rattle.std.specs.Prelude.{◌≡◌, IfOk, option_map};
+ghost use Rattle.std.specs.Prelude.{◌≡◌, IfOk, OnErr, option_map};
 ghost use Rattle.serde_json.specs.View.{view};
 ghost use Rattle.gate_record.specs.Json.{json_of};
+ghost use Rattle.gate_record.specs.Lines.{IsLine};
 ghost use Rattle.gate_record.specs.Reading.{account_of, account_text, event_of, project_of, reading_of, reading_of_json, reading_of_value};
 
 use crate::approvals::approvals;
@@ -15,9 +16,10 @@ use serde_json::error::Category;
 use std::alloc::Global;
 
 /// Reads a record as an event. Each field is taken from the JSON value by its path in Gerrit's documentation of
-/// `stream-events`. `Memory` where the value or a field finds no room.
+/// `stream-events`. `Memory` where the value or a field of a line finds no room.
 pub fn read_record(alloc: Global, record: &Record) -> Result<Reading, Memory>
-    ensures { IfOk result (λ reading. reading ≡ reading_of «record».now) }
+    ensures reads { IfOk result (λ reading. reading ≡ reading_of «record».now) }
+    ensures needs { OnErr result (IsLine «record».now) }
 {
     match record {
         Record::Oversize => Ok(Reading::Nothing(Why::Oversize)),

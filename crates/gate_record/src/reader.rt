@@ -1,10 +1,11 @@
-ghost use Rattle.std.specs.Prelude.{◌≡◌, ℕ, List, IfOk, IsSome, is_some};
+ghost use Rattle.std.specs.Prelude.{◌≡◌, ℕ, List, IfOk, IsSome, OnErr, is_some};
 ghost use Rattle.json.specs.Json.{document};
 ghost use Rattle.json.specs.Lex.{tokens};
 ghost use Rattle.serde_json.specs.Data.{Data};
 ghost use Rattle.serde_json.specs.Find.{as_object};
 ghost use Rattle.serde_json.specs.Read.{read};
 ghost use Rattle.gate_record.specs.Json.{json_of};
+ghost use Rattle.gate_record.specs.Lines.{IsLine};
 ghost use Rattle.gate_record.specs.Reading.{reading_of, reading_of_json, reading_of_value};
 ghost use Rattle.gate_record.specs.Tapes.{Begins};
 
@@ -44,10 +45,11 @@ impl RecordReader {
         RecordReader { scratch: None }
     }
 
-    /// Reads a record as an event. `Memory` where the reader's room, the list or a field finds none; the reader can go on
-    /// after that as before.
+    /// Reads a record as an event. `Memory` where the reader's room, the list or a field of a line finds none; the reader can
+    /// go on after that as before.
     pub fn read(&mut self, alloc: Global, record: &Record) -> Result<Reading, Memory>
-        ensures { IfOk result (λ reading. reading ≡ reading_of «record».now) }
+        ensures reads { IfOk result (λ reading. reading ≡ reading_of «record».now) }
+        ensures needs { OnErr result (IsLine «record».now) }
     {
         match record {
             Record::Oversize => Ok(Reading::Nothing(Why::Oversize)),

@@ -1,5 +1,6 @@
-ghost use Rattle.std.specs.Prelude.{◌≡◌, IfOk};
-ghost use Rattle.gate_rule.specs.Built.{IsReadByDefault};
+ghost use Rattle.std.specs.Prelude.{◌≡◌, IfErr, IfOk};
+ghost use Rattle.regex.specs.Strings.{regex_source};
+ghost use Rattle.gate_rule.specs.Built.{IsNoPattern, IsNotBuilt, IsReadByDefault};
 
 use crate::matcher::Matcher;
 use gate_record::{Memory, Shared};
@@ -13,7 +14,7 @@ use std::fmt;
 #[derive(Drop)]
 pub struct Pattern {
     regex: Shared<Regex>,
-    ghost built: { ∥ IsReadByDefault regex ∥₁ },
+    pub ghost built: { ∥ IsReadByDefault regex ∥₁ },
 }
 
 /// Why a text became no pattern.
@@ -23,6 +24,16 @@ pub enum PatternFault {
     Memory,
     /// `regex` doesn't read the text, or what it makes of it is too large.
     Refused,
+}
+
+// Why nothing was built of a text.
+pub(crate) enum BuildFault {
+    // Memory was refused.
+    Memory,
+    // The grammar of `regex` doesn't read the text, or it nests too deep.
+    Unread,
+    // What is built of the text is too large.
+    TooLarge,
 }
 
 impl fmt::Display for PatternFault {
@@ -41,15 +52,16 @@ impl Pattern {
 
     /// Builds the pattern of a text. `Memory` where memory is refused, else `Refused` where `regex` refuses the text.
     pub fn new(alloc: Global, text: &str) -> Result<Pattern, PatternFault>
-        ensures { IfOk result (λ pattern. text_of pattern ≡ text.now) }
+        ensures built { IfOk result (λ pattern. text_of pattern ≡ text.now) }
+        ensures refused { IfErr result (IsNoPattern text.now) }
     {
-        match Regex::new(alloc, text) {
+        match build(alloc, text) {
             Ok(regex) => match Shared::new(alloc, regex) {
                 Ok(regex) => Ok(Pattern { regex }),
                 Err(Memory) => Err(PatternFault::Memory),
             },
-            Err(regex::Error::OutOfMemory) => Err(PatternFault::Memory),
-            Err(_) => Err(PatternFault::Refused),
+            Err(BuildFault::Memory) => Err(PatternFault::Memory),
+            Err(BuildFault::Unread | BuildFault::TooLarge) => Err(PatternFault::Refused),
         }
     }
 
@@ -91,5 +103,20 @@ impl Pattern {
         ensures { IfOk result (λ found. found ≡ within self.now text.now) }
     {
         Ok(self.matcher(alloc)?.within(text))
+    }
+}
+
+// What `regex` builds of a text under its default options.
+fn build(alloc: Global, text: &str) -> Result<Regex, BuildFault>
+    ensures source { IfOk result (λ regex. regex_source regex ≡ text.now) }
+    ensures by_default { IfOk result IsReadByDefault }
+    ensures not_built { IfErr result (IsNotBuilt text.now) }
+{
+    match Regex::new(alloc, text) {
+        Ok(regex) => Ok(regex),
+        Err(regex::Error::OutOfMemory) => Err(BuildFault::Memory),
+        Err(regex::Error::Syntax(_)) => Err(BuildFault::Unread),
+        Err(regex::Error::CompiledTooBig) => Err(BuildFault::TooLarge),
+        Err(regex::Error::Internal) => unreachable!(),
     }
 }

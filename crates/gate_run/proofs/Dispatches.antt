@@ -9,7 +9,7 @@ use Rattle.gate_record.specs.declared.transit.TenantItem.{TenantItem}
 use Rattle.gate_config.specs.declared.config.Config.{Config}
 use Rattle.gate_config.specs.Lookups.{pipelines_of}
 use Rattle.gate_tenant.specs.declared.dispatch.Dispatch.{Dispatch}
-use Rattle.gate_tenant.specs.declared.TheConstants.{MAX_GATHERED}
+use Rattle.gate_tenant.specs.Limits.{most_gathered}
 use Rattle.gate_tenant.specs.Dispatching.{chosen}
 use Rattle.gate_tenant.specs.Histories.{EachGetsItsOwn, NothingIsLost, beginning, begins, gathers, gives, item_for, items_for, matches, moves}
 use Rattle.gate_tenant.specs.States.{State, config_of, first_state, has_ended, matched, moved_out, put_back, room_of, state_of, tenant_of}
@@ -77,7 +77,7 @@ room_left s x n m one most = by (length s.items == 0) most
     longer [] = refl
     longer (y ∷ xs) = ap suc (longer xs) ∙ omega arith
 
-    by : (b : Bool) → m ≤ (if b then MAX_GATHERED - length s.gathered else 0) → n ≤ (if b then MAX_GATHERED - length (s.gathered ++ x ∷ []) else 0)
+    by : (b : Bool) → m ≤ (if b then most_gathered - length s.gathered else 0) → n ≤ (if b then most_gathered - length (s.gathered ++ x ∷ []) else 0)
     by true h = omega (arith, one, h, longer s.gathered)
     by false h = omega (arith, one, h)
 

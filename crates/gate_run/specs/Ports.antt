@@ -6,7 +6,7 @@ use Rattle.gate_config.specs.Lookups.{pipelines_of, tenants_of}
 use Rattle.gate_items.specs.declared.action.JobResult.{JobResult}
 use Rattle.gate_items.specs.declared.action.Manage.{Manage}
 use Rattle.gate_queue.specs.Seats.{SenderSeat, Shape, TakerSeat, with_put}
-use Rattle.gate_core.specs.declared.TheConstants.{PLACES}
+use Rattle.gate_core.specs.Limits.{places}
 use Rattle.gate_source.specs.Stops.{Note}
 use Rattle.gate_run.specs.Lists.{Pairwise}
 use Rattle.gate_run.specs.Seats.{fresh_head, fresh_tail}
@@ -60,16 +60,16 @@ with_manage t p manage posts = record posts { pipelines = changed_at t p (λ (en
 abbrev pub with_result : ℕ → ℕ → JobResult → PostsView → PostsView
 with_result t p ended posts = record posts { pipelines = changed_at t p (λ (ends : PostEnds). record ends { results = posted ended ends.results }) posts.pipelines }
 
--- a queue that was opened for posts: nothing was put into it or taken from it
-pub record IsOpened {T : Type 0} (end : PostEnd T) (head : TakerSeat T) : Type 0 where
+-- a queue that was opened for posts, with so many places: nothing was put into it or taken from it
+pub record IsOpened {T : Type 0} (capacity : ℕ) (end : PostEnd T) (head : TakerSeat T) : Type 0 where
   pub tail_fresh : end.tail ≡ fresh_tail 0 end.queue
   pub head_fresh : head ≡ fresh_head end.queue
-  pub capacity : end.queue.capacity ≡ PLACES
+  pub has_places : end.queue.capacity ≡ capacity
   pub only_sender : end.queue.name.senders ≡ 1
 
-pub record AreOpened (ends : PostEnds) (inbox : InboxEnds) : Type 0 where
-  pub management : IsOpened ends.management inbox.management
-  pub results : IsOpened ends.results inbox.results
+pub record AreOpened (capacity : ℕ) (ends : PostEnds) (inbox : InboxEnds) : Type 0 where
+  pub management : IsOpened capacity ends.management inbox.management
+  pub results : IsOpened capacity ends.results inbox.results
 
 -- how many pipelines each tenant has
 abbrev pub pipeline_counts : Config → List ℕ
@@ -83,6 +83,6 @@ IsInboxFor config inbox = map length inbox.pipelines ≡ pipeline_counts config
 pub record ArePosts (config : Config) (posts : PostsView) (inbox : InboxView) : Type 0 where
   pub tenants : map length posts.pipelines ≡ pipeline_counts config
   pub inbox_for : IsInboxFor config inbox
-  pub opened : Pairwise (Pairwise AreOpened) posts.pipelines inbox.pipelines
+  pub opened : Pairwise (Pairwise (AreOpened places)) posts.pipelines inbox.pipelines
   pub cell : posts.note.cell ≡ inbox.note.cell
   pub knows_none : (posts.note.cause ≡ None) × (inbox.note.cause ≡ None)

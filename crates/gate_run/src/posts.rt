@@ -1,5 +1,5 @@
 //! The queues of management events and results: what is posted from outside, and taken by the pipelines' workers.
-ghost use Rattle.std.specs.Prelude.{◌≡◌, IfErr, IfNone, IfOk, IfSome, OnErr, OnOk, length, map};
+ghost use Rattle.std.specs.Prelude.{◌≡◌, ◌<◌, IfErr, IfNone, IfOk, IfSome, OnErr, OnOk, length, map};
 ghost use Rattle.gate_queue.specs.Seats.{IsHeadOf, IsTailOf, with_taken};
 ghost use Rattle.gate_source.specs.Stops.{IsNoteOf};
 ghost use Rattle.gate_run.specs.Lists.{Pairwise};
@@ -86,11 +86,12 @@ impl<T> PostSeat<T> {
     }
 }
 
-// Both ends of a new queue.
-fn open_pair<T: Drop>(alloc: Global) -> Result<(PostSeat<T>, InboxSeat<T>), Memory>
-    ensures { IfOk result (λ ends. IsOpened ends.0 ends.1) }
+// Both ends of a new queue with so many places.
+fn open_pair<T: Drop>(alloc: Global, places: usize) -> Result<(PostSeat<T>, InboxSeat<T>), Memory>
+    requires { 0 < places }
+    ensures { IfOk result (λ ends. IsOpened places ends.0 ends.1) }
 {
-    let (queue, head, tail) = open_queue(alloc, PLACES)?;
+    let (queue, head, tail) = open_queue(alloc, places)?;
     let queue = Shared::new(alloc, queue)?;
     let other = queue.share()?;
     Ok((PostSeat { queue, tail }, InboxSeat { queue: other, head }))
@@ -154,11 +155,12 @@ impl Model for Inbox {
 }
 
 // Both ends of the queues of one pipeline.
-fn open_pipeline(alloc: Global) -> Result<(PipelinePosts, PipelineInbox), Memory>
-    ensures { IfOk result (λ ends. AreOpened (ends_of ends.0) (inbox_of ends.1)) }
+fn open_pipeline(alloc: Global, places: usize) -> Result<(PipelinePosts, PipelineInbox), Memory>
+    requires { 0 < places }
+    ensures { IfOk result (λ ends. AreOpened places (ends_of ends.0) (inbox_of ends.1)) }
 {
-    let (management, management_inbox) = open_pair(alloc)?;
-    let (results, results_inbox) = open_pair(alloc)?;
+    let (management, management_inbox) = open_pair(alloc, places)?;
+    let (results, results_inbox) = open_pair(alloc, places)?;
     let parker = Parker::new(alloc)?;
     let worker = parker.unparker().clone()?;
     let posts = PipelinePosts {
@@ -177,15 +179,17 @@ fn open_pipeline(alloc: Global) -> Result<(PipelinePosts, PipelineInbox), Memory
 // Both ends of the queues of so many pipelines.
 fn open_tenant(
     alloc: Global,
+    places: usize,
     count: usize,
 ) -> Result<(Vec<PipelinePosts>, Vec<PipelineInbox>), Memory>
+    requires { 0 < places }
     ensures count { IfOk result (λ ends. length ends.0.items ≡ count) }
-    ensures opened { IfOk result (λ ends. Pairwise AreOpened (map ends_of ends.0.items) (map inbox_of ends.1.items)) }
+    ensures opened { IfOk result (λ ends. Pairwise (AreOpened places) (map ends_of ends.0.items) (map inbox_of ends.1.items)) }
 {
     let mut posts = Vec::new(alloc);
     let mut inbox = Vec::new(alloc);
     for _pipeline in 0..count {
-        let (own, other) = open_pipeline(alloc)?;
+        let (own, other) = open_pipeline(alloc, places)?;
         posts.push(own)?;
         inbox.push(other)?;
     }
@@ -195,16 +199,18 @@ fn open_tenant(
 // Both ends of the queues of all pipelines of a configuration.
 fn open_tenants(
     alloc: Global,
+    places: usize,
     config: &Config,
 ) -> Result<(Vec<Vec<PipelinePosts>>, Vec<Vec<PipelineInbox>>), Memory>
+    requires { 0 < places }
     ensures counts { IfOk result (λ ends. map (λ tenant. length (map ends_of tenant.items)) ends.0.items ≡ pipeline_counts config.now) }
-    ensures opened { IfOk result (λ ends. Pairwise (Pairwise AreOpened) (map (λ tenant. map ends_of tenant.items) ends.0.items) (map (λ tenant. map inbox_of tenant.items) ends.1.items)) }
+    ensures opened { IfOk result (λ ends. Pairwise (Pairwise (AreOpened places)) (map (λ tenant. map ends_of tenant.items) ends.0.items) (map (λ tenant. map inbox_of tenant.items) ends.1.items)) }
 {
     let mut posts = Vec::new(alloc);
     let mut inbox = Vec::new(alloc);
     for number in 0..config.tenants().len() {
         let count = config.pipelines(TenantId(number as u32)).len();
-        let (own, other) = open_tenant(alloc, count)?;
+        let (own, other) = open_tenant(alloc, places, count)?;
         posts.push(own)?;
         inbox.push(other)?;
     }
@@ -222,7 +228,7 @@ impl Posts {
     pub fn open(alloc: Global, config: &Config) -> Result<(Posts, Inbox), Memory>
         ensures { IfOk result (λ ends. ArePosts config.now ends.0 ends.1) }
     {
-        let (posts, inbox) = open_tenants(alloc, config)?;
+        let (posts, inbox) = open_tenants(alloc, PLACES, config)?;
         let cell = Shared::new(alloc, StopCell::new(alloc))?;
         let other = cell.share()?;
         let note = cell.get().note();
@@ -312,5 +318,26 @@ impl Posts {
         ensures posts { self.new.pipelines ≡ self.old.pipelines }
     {
         self.cell.get().request(&mut self.note, cause)
+    }
+}
+
+impl Inbox {
+    ghost use Rattle.std.specs.Prelude.{None};
+    ghost use Rattle.gate_run.specs.Ports.{IsInboxFor};
+
+    /// The inbox of a run to which nobody posts, and which nobody asks to stop: its queues have one place in place of 4,096, so it
+    /// takes some kilobytes for a pipeline where `Posts::open` takes 670. `Memory` where there is none for them.
+    pub fn without_posts(alloc: Global, config: &Config) -> Result<Inbox, Memory>
+        ensures for_config { IfOk result (λ inbox. IsInboxFor config.now inbox) }
+        ensures knows_none { IfOk result (λ inbox. inbox.note.cause ≡ None) }
+    {
+        let (_posts, tenants) = open_tenants(alloc, 1, config)?;
+        let cell = Shared::new(alloc, StopCell::new(alloc))?;
+        let note = cell.get().note();
+        Ok(Inbox {
+            tenants,
+            cell,
+            note,
+        })
     }
 }

@@ -91,6 +91,6 @@ fn is_over(meeting: Option<&Meeting>) -> bool {
     }
 }
 
-fn record(alloc: Global, line: &str) -> Result<Record, Memory> {
+pub(crate) fn record(alloc: Global, line: &str) -> Result<Record, Memory> {
     Ok(Record::Line(Sequence::new(line.as_bytes().to_vec(alloc)?)))
 }

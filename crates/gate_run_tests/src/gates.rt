@@ -3,6 +3,7 @@ use gate_items::JobResult;
 use gate_pipeline::Pipeline;
 use gate_record::{PipelineId, TenantId};
 use gate_run::{Gate, Posts};
+use gate_source::StopCause;
 use std::sync::atomic::{AtomicBool, AtomicU32, Ordering};
 use std::sync::{Mutex, Wait};
 use std::thread;
@@ -118,4 +119,50 @@ fn post<R: Wait>(rt: &R, posting: &mut Posting, tenant: TenantId, pipeline: Pipe
     if let Some(ended) = posting.ended.take() {
         let _ = posting.posts.result(rt, tenant, pipeline, ended);
     }
+}
+
+/// Posts that ask for a stop before an action, once so many have begun.
+#[derive(Drop)]
+pub(crate) struct Stopping {
+    pub(crate) posts: Posts,
+    pub(crate) left: u32,
+}
+
+/// A gate that asks for a stop before an action.
+#[derive(Drop)]
+pub(crate) struct Stops {
+    pub(crate) stopping: Mutex<Stopping>,
+}
+
+impl Gate for Stops {
+    fn before<R: Wait>(&self, rt: &R, _tenant: TenantId, _pipeline: PipelineId, _state: &Pipeline) {
+        count_down(&mut self.stopping.lock(rt));
+    }
+
+    fn last<R: Wait>(&self, _rt: &R, _tenant: TenantId, _pipeline: PipelineId, _state: &Pipeline) {}
+}
+
+fn count_down(stopping: &mut Stopping) {
+    if stopping.left > 0 {
+        stopping.left -= 1;
+    } else {
+        let _ = stopping.posts.stop(StopCause::Caller);
+    }
+}
+
+/// A gate that holds each action until as many have begun as are to meet, and then asks for a stop.
+#[derive(Drop)]
+pub(crate) struct Holding<'a> {
+    pub(crate) meeting: &'a Meeting,
+    pub(crate) posts: Mutex<Posts>,
+}
+
+impl<'a> Gate for Holding<'a> {
+    fn before<R: Wait>(&self, rt: &R, _tenant: TenantId, _pipeline: PipelineId, _state: &Pipeline) {
+        self.meeting.come();
+        self.meeting.wait();
+        let _ = self.posts.lock(rt).stop(StopCause::Caller);
+    }
+
+    fn last<R: Wait>(&self, _rt: &R, _tenant: TenantId, _pipeline: PipelineId, _state: &Pipeline) {}
 }

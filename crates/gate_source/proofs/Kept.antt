@@ -8,7 +8,7 @@ use Rattle.std.proofs.lemmas.List.{take_all}
 use Rattle.std.proofs.lemmas.List.Elements.{All-append}
 use Rattle.gate_record.specs.declared.record.Record.{Record}
 use Rattle.gate_record.specs.declared.record.Record.TheVariants.{Line, Oversize}
-use Rattle.gate_record.specs.declared.record.TheConstants.{MAX_LINE}
+use Rattle.gate_record.specs.Limits.{longest_line}
 use Rattle.gate_record.specs.Lines.{ended_records, is_line_feed, record_of_line, unfinished_line}
 use Rattle.gate_source.specs.Splitting.{Feeds, Finishes, HasNoFeed, kept_of, kept_with, record_left, record_with}
 use Rattle.gate_source.proofs.Cuts.{all_unfinished, ended_more, last_unfinished, no_feed, none_recorded, records_are, records_onward, unfinished_more}
@@ -19,9 +19,9 @@ pub above : (n m : ℕ) (b : Bool) → nat_lt n m ≡ b → n < m → b ≡ true
 above n m true e h = refl
 above n m false e h = let high : m ≤ n = ltb-false n m e in absurd (omega (arith, high, h))
 
-pub oversize : (line : List ℕ) → MAX_LINE < length line → record_of_line line ≡ Some Oversize
+pub oversize : (line : List ℕ) → longest_line < length line → record_of_line line ≡ Some Oversize
 oversize [] h = absurd (omega (arith, h))
-oversize (byte ∷ bytes) h = ap (λ b. cond b (Some Oversize) (Some (Line (byte ∷ bytes)))) (above MAX_LINE (length (byte ∷ bytes)) (nat_lt MAX_LINE (length (byte ∷ bytes))) refl h)
+oversize (byte ∷ bytes) h = ap (λ b. cond b (Some Oversize) (Some (Line (byte ∷ bytes)))) (above longest_line (length (byte ∷ bytes)) (nat_lt longest_line (length (byte ∷ bytes))) refl h)
 
 stripped_by : (b : Bool) (line : List ℕ) → length line ≤ length (cond b (take (length line - 1) line) line) + 1
 stripped_by true line = omega (arith, length-take (length line - 1) line)
@@ -31,9 +31,9 @@ stripped_by false line = omega arith
 stripped : (line : List ℕ) → length line ≤ length (strip_carriage_return line) + 1
 stripped line = stripped_by (slice_index line (length line - 1) == 13) line
 
-pub too_long : (line : List ℕ) → nat_lt (MAX_LINE + 1) (length line) ≡ true → Some Oversize ≡ record_of_line (strip_carriage_return line)
+pub too_long : (line : List ℕ) → nat_lt (longest_line + 1) (length line) ≡ true → Some Oversize ≡ record_of_line (strip_carriage_return line)
 too_long line e =
-    let long : MAX_LINE + 1 < length line = ltb-true _ _ e in
+    let long : longest_line + 1 < length line = ltb-true _ _ e in
     sym (oversize (strip_carriage_return line) (omega (arith, long, stripped line)))
 
 -- a line without the CR at its end is its front
@@ -46,37 +46,37 @@ stripped_front line = take_by (slice_index line (length line - 1) == 13) line
 
 -- ---- what is kept
 
-pub longer : (line more : List ℕ) → nat_lt (MAX_LINE + 1) (length line) ≡ true → nat_lt (MAX_LINE + 1) (length (line ++ more)) ≡ true
+pub longer : (line more : List ℕ) → nat_lt (longest_line + 1) (length line) ≡ true → nat_lt (longest_line + 1) (length (line ++ more)) ≡ true
 longer line more e =
-    let long : MAX_LINE + 1 < length line = ltb-true _ _ e in
-    above (MAX_LINE + 1) (length (line ++ more)) _ refl (omega (arith, long, length-append line more))
+    let long : longest_line + 1 < length line = ltb-true _ _ e in
+    above (longest_line + 1) (length (line ++ more)) _ refl (omega (arith, long, length-append line more))
 
-pub none_kept : (line : List ℕ) → nat_lt (MAX_LINE + 1) (length line) ≡ true → None ≡ kept_of line
+pub none_kept : (line : List ℕ) → nat_lt (longest_line + 1) (length line) ≡ true → None ≡ kept_of line
 none_kept line e = ap (λ b. cond b None (Some line)) (sym e)
 
-with_by : (b : Bool) (line more : List ℕ) → nat_lt (MAX_LINE + 1) (length line) ≡ b → kept_with (cond b None (Some line)) more ≡ kept_of (line ++ more)
+with_by : (b : Bool) (line more : List ℕ) → nat_lt (longest_line + 1) (length line) ≡ b → kept_with (cond b None (Some line)) more ≡ kept_of (line ++ more)
 with_by true line more e = none_kept (line ++ more) (longer line more e)
 with_by false line more e = refl
 
 pub keeps_more : (line more : List ℕ) → kept_with (kept_of line) more ≡ kept_of (line ++ more)
-keeps_more line more = with_by (nat_lt (MAX_LINE + 1) (length line)) line more refl
+keeps_more line more = with_by (nat_lt (longest_line + 1) (length line)) line more refl
 
-ends_by : (b : Bool) (line end : List ℕ) → nat_lt (MAX_LINE + 1) (length line) ≡ b → record_with (cond b None (Some line)) end ≡ record_of_line (strip_carriage_return (line ++ end))
+ends_by : (b : Bool) (line end : List ℕ) → nat_lt (longest_line + 1) (length line) ≡ b → record_with (cond b None (Some line)) end ≡ record_of_line (strip_carriage_return (line ++ end))
 ends_by true line end e = too_long (line ++ end) (longer line end e)
 ends_by false line end e = refl
 
 -- the record of a line by what was kept of it
 pub ends_line : (line end : List ℕ) → record_with (kept_of line) end ≡ record_of_line (strip_carriage_return (line ++ end))
-ends_line line end = ends_by (nat_lt (MAX_LINE + 1) (length line)) line end refl
+ends_line line end = ends_by (nat_lt (longest_line + 1) (length line)) line end refl
 
-left_by : (b : Bool) (line : List ℕ) → nat_lt (MAX_LINE + 1) (length line) ≡ b → record_left (cond b None (Some line)) ≡ record_of_line line
+left_by : (b : Bool) (line : List ℕ) → nat_lt (longest_line + 1) (length line) ≡ b → record_left (cond b None (Some line)) ≡ record_of_line line
 left_by true line e =
-    let long : MAX_LINE + 1 < length line = ltb-true _ _ e in
+    let long : longest_line + 1 < length line = ltb-true _ _ e in
     sym (oversize line (omega (arith, long)))
 left_by false line e = refl
 
 pub leaves_line : (line : List ℕ) → record_left (kept_of line) ≡ record_of_line line
-leaves_line line = left_by (nat_lt (MAX_LINE + 1) (length line)) line refl
+leaves_line line = left_by (nat_lt (longest_line + 1) (length line)) line refl
 
 -- ---- the calls
 

@@ -12,7 +12,7 @@ use Rattle.std.specs.Str.Lines.{strip_carriage_return}
 use Rattle.std.proofs.lemmas.List.Elements.{All-append}
 use Rattle.gate_record.specs.declared.record.Record.{Record}
 use Rattle.gate_record.specs.declared.record.Record.TheVariants.{Oversize}
-use Rattle.gate_record.specs.declared.record.TheConstants.{MAX_LINE}
+use Rattle.gate_record.specs.Limits.{longest_line}
 use Rattle.gate_record.specs.Lines.{ended_records, is_line_feed, record_of_line, records_of, unfinished_line}
 use Rattle.gate_source.specs.Splitting.{Feeds, Finishes, HasNoFeed, IsFed, kept_of}
 use Rattle.gate_source.specs.declared.feed.FeedStep.{FeedStep}
@@ -71,9 +71,9 @@ behind_none line clear =
     position_or_len_is is_line_feed line (length line) 10 (omega arith) (λ k low. clear k 10 low) (λ low. absurd (omega (arith, low))) in
     ap (λ n. drop (n + 1) line) at ∙ drop_all (length line + 1) line (omega arith)
 
-module _ (line : List ℕ) (clear : HasNoFeed line) (long : nat_lt (MAX_LINE + 1) (length line) ≡ true) where
+module _ (line : List ℕ) (clear : HasNoFeed line) (long : nat_lt (longest_line + 1) (length line) ≡ true) where
   at_end : (more : List ℕ) → record_of_line (line ++ more) ≡ Some Oversize
-  at_end more = oversize (line ++ more) (let high : MAX_LINE + 1 < length line = ltb-true _ _ long in omega (arith, high, length-append line more))
+  at_end more = oversize (line ++ more) (let high : longest_line + 1 < length line = ltb-true _ _ long in omega (arith, high, length-append line more))
 
   at_feed : (more : List ℕ) → record_of_line (strip_carriage_return (line ++ more)) ≡ Some Oversize
   at_feed more = sym (too_long (line ++ more) (longer line more long))
@@ -91,7 +91,7 @@ module _ (line : List ℕ) (clear : HasNoFeed line) (long : nat_lt (MAX_LINE + 1
 
 -- ---- what is still to come
 
-still_by : (b : Bool) (line rest : List ℕ) → HasNoFeed line → nat_lt (MAX_LINE + 1) (length line) ≡ b → records_of (line ++ rest) ≡ still_of (cond b None (Some line)) rest
+still_by : (b : Bool) (line rest : List ℕ) → HasNoFeed line → nat_lt (longest_line + 1) (length line) ≡ b → records_of (line ++ rest) ≡ still_of (cond b None (Some line)) rest
 still_by true line rest clear long = long_by line clear long (cut rest)
 still_by false line rest clear short = refl
 
@@ -100,7 +100,7 @@ pub still_are : (bytes rest : List ℕ) (kept : Option (List ℕ)) → IsFed byt
 still_are bytes rest kept fed =
     let line = unfinished_line bytes in
     records_behind bytes rest
-    ∙ ap (λ rs. ended_records bytes ++ rs) (still_by (nat_lt (MAX_LINE + 1) (length line)) line rest (no_feed bytes) refl ∙ ap (λ k. still_of k rest) (sym fed))
+    ∙ ap (λ rs. ended_records bytes ++ rs) (still_by (nat_lt (longest_line + 1) (length line)) line rest (no_feed bytes) refl ∙ ap (λ k. still_of k rest) (sym fed))
 
 -- ---- something that was fed
 
@@ -122,13 +122,13 @@ zeros_clear zero = nothing
 zeros_clear (suc n) = one_more 0 (zeros n) refl (zeros_clear n)
 
 -- a line that is too long
-long_fed : (n : ℕ) → MAX_LINE + 1 < n → IsFed (zeros n) None
+long_fed : (n : ℕ) → longest_line + 1 < n → IsFed (zeros n) None
 long_fed n high =
-    none_kept (zeros n) (above (MAX_LINE + 1) (length (zeros n)) _ refl (omega (arith, high, zeros_length n)))
+    none_kept (zeros n) (above (longest_line + 1) (length (zeros n)) _ refl (omega (arith, high, zeros_length n)))
     ∙ ap kept_of (sym (all_unfinished (zeros n) (zeros_clear n)))
 
 was_fed : (kept : Option (List ℕ)) → IsOfLine kept → WasFed kept
-was_fed None of_line = (zeros (MAX_LINE + 2), long_fed (MAX_LINE + 2) (omega arith))
+was_fed None of_line = (zeros (longest_line + 2), long_fed (longest_line + 2) (omega arith))
 was_fed (Some line) of_line = (line, of_line line refl)
 
 of_line_by : (b : Bool) (own line : List ℕ) → HasNoFeed own → cond b None (Some own) ≡ Some line → HasNoFeed line × (own ≡ line)
@@ -139,7 +139,7 @@ of_line_by false own line clear e =
 
 of_line : (kept : Option (List ℕ)) → WasFed kept → IsOfLine kept
 of_line kept (bytes, fed) line is =
-    let (clear, same) = of_line_by (nat_lt (MAX_LINE + 1) (length (unfinished_line bytes))) (unfinished_line bytes) line (no_feed bytes) (sym fed ∙ is) in
+    let (clear, same) = of_line_by (nat_lt (longest_line + 1) (length (unfinished_line bytes))) (unfinished_line bytes) line (no_feed bytes) (sym fed ∙ is) in
     fed ∙ ap kept_of (same ∙ sym (all_unfinished line clear))
 
 -- ---- the steps of a feed

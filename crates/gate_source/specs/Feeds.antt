@@ -22,10 +22,7 @@ Steps (Some lines) Memory after = Unit {0}
 -- one more after a fault
 abbrev pub faults_after : FeedStep → ℕ → ℕ
 faults_after Fault count = count + 1
-faults_after (Got line) count = count
-faults_after Pending count = count
-faults_after Ended count = count
-faults_after Memory count = count
+faults_after other count = count
 
 -- these are the first of the records that were to come
 abbrev pub AreFirst : List Record → Told → Type 0

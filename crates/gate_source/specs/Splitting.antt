@@ -4,13 +4,13 @@ use Rattle.std.specs.Option.{option_to_list}
 use Rattle.std.specs.Str.Lines.{strip_carriage_return}
 use Rattle.gate_record.specs.declared.record.Record.{Record}
 use Rattle.gate_record.specs.declared.record.Record.TheVariants.{Oversize}
-use Rattle.gate_record.specs.declared.record.TheConstants.{MAX_LINE}
+use Rattle.gate_record.specs.Limits.{longest_line}
 use Rattle.gate_record.specs.Lines.{ended_records, is_line_feed, record_of_line, records_of, unfinished_line}
 
 -- What is kept of a line that hasn't ended: its bytes, up to one above the limit (a CR may belong to the line's end), and
 -- nothing of a longer one.
 abbrev pub kept_of : List ℕ → Option (List ℕ)
-kept_of line = if nat_lt (MAX_LINE + 1) (length line) then None else Some line
+kept_of line = if nat_lt (longest_line + 1) (length line) then None else Some line
 
 -- a splitter that keeps this was fed these bytes
 abbrev pub IsFed : List ℕ → Option (List ℕ) → Type 0

@@ -19,13 +19,13 @@ pub struct LineSplit {
 impl Model for LineSplit {
     ghost use Rattle.std.specs.Prelude.{List, ℕ, Option, option_map, ◌+◌, ◌≤◌, vec_len};
     ghost use Rattle.std.specs.Option.{ForSome};
-    ghost use Rattle.gate_record.specs.declared.record.TheConstants.{MAX_LINE};
+    ghost use Rattle.gate_record.specs.Limits.{longest_line};
 
     ghost Value = { Option (List ℕ) };
 
     ghost view = { λ s. option_map (λ line. line.items) s.kept };
 
-    ghost invariant = { λ s. ForSome s.kept (λ line. vec_len line ≤ MAX_LINE + 1) };
+    ghost invariant = { λ s. ForSome s.kept (λ line. vec_len line ≤ longest_line + 1) };
 }
 
 impl LineSplit {
@@ -95,12 +95,12 @@ impl LineSplit {
 ghost use Rattle.std.specs.Prelude.{◌+◌, ◌++◌, ◌<◌, ◌^◌, length, nat_lt};
 ghost use Rattle.std.specs.Str.Lines.{strip_carriage_return};
 ghost use Rattle.gate_record.specs.Lines.{record_of_line};
-ghost use Rattle.gate_record.specs.declared.record.TheConstants.{MAX_LINE};
+ghost use Rattle.gate_record.specs.Limits.{longest_line};
 ghost use Rattle.gate_source.specs.Splitting.{kept_of, record_left};
 
 // Whether a line of so many bytes, and so many more, is too long, even if its last byte is a CR that belongs to its end.
 fn is_too_long(kept: usize, more: usize) -> bool
-    ensures { result ≡ nat_lt (MAX_LINE + 1) (kept + more) }
+    ensures { result ≡ nat_lt (longest_line + 1) (kept + more) }
 {
     kept.saturating_add(more) > MAX_LINE + 1
 }

@@ -12,7 +12,7 @@ use Rattle.gate_source.specs.Splitting.{Finishes, IsFed}
 use Rattle.gate_run.specs.Ports.{PostsView}
 use Rattle.gate_status.specs.declared.fault.SessionEnd.{SessionEnd}
 use Rattle.gate_status.specs.declared.fault.SessionEnd.TheVariants as end
-use Rattle.gate_status.specs.declared.listening.TheConstants.{MAX_SESSION}
+use Rattle.gate_status.specs.Limits.{longest_session}
 use Rattle.gate_status.specs.declared.reply.Reply.{Reply}
 use Rattle.gate_status.specs.declared.reply.Reply.TheVariants as reply
 use Rattle.gate_status.specs.Listened.{Hears}
@@ -28,14 +28,14 @@ pub record SoFar (config : Config) (split : Option (List ℕ)) (room : ℕ) (tol
   pub bytes : List ℕ
   pub read : Consumes told told' bytes
   pub fed : IsFed bytes split
-  pub left : room + length bytes ≡ MAX_SESSION
+  pub left : room + length bytes ≡ longest_session
   pub talks : Talks config (ended_records bytes) None written written' posts posts'
 
 consumes_none : (told : Option (List ℕ)) → Consumes told told []
 consumes_none None = tt {0}
 consumes_none (Some xs) = refl
 
-pub so_far_none : {config : Config} {split : Option (List ℕ)} {room : ℕ} (told written : Option (List ℕ)) (posts : PostsView) → IsFed [] split → room ≡ MAX_SESSION → SoFar config split room told told written written posts posts
+pub so_far_none : {config : Config} {split : Option (List ℕ)} {room : ℕ} (told written : Option (List ℕ)) (posts : PostsView) → IsFed [] split → room ≡ longest_session → SoFar config split room told told written written posts posts
 so_far_none told written posts fed all = record {
   bytes = [];
   read = consumes_none told;

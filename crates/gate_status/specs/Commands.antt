@@ -122,11 +122,9 @@ manage_has_texts (Dequeue key) = key_has_texts key
 manage_has_texts (Reset key) = key_has_texts key
 
 abbrev pub has_texts : Command → Bool
-has_texts command.Status = false
-has_texts command.Stop = false
-has_texts command.Quit = false
 has_texts (command.Manage tenant pipeline manage) = manage_has_texts manage
 has_texts (command.Result tenant pipeline ended) = true
+has_texts other = false
 
 -- memory may be refused where texts are copied
 abbrev pub MayBeRefused : {A : Type 0} → (A → Bool) → Result A CommandFault → Type 0

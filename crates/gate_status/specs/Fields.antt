@@ -9,11 +9,8 @@ use Rattle.gate_status.specs.declared.command.CommandFault.TheVariants.{Empty, U
 
 -- a fault of the line itself
 abbrev pub IsOwn : CommandFault → Type 0
-IsOwn Empty = Unit {0}
-IsOwn Unknown = Unit {0}
-IsOwn Arguments = Unit {0}
-IsOwn Number = Unit {0}
 IsOwn Memory = ⊥
+IsOwn other = Unit {0}
 
 -- what stands behind a field: nothing where the line ends with it, else what stands behind its space
 abbrev pub Rest : Type 0

@@ -41,13 +41,9 @@ reply_text (reply.Refused why) = fault_line why
 
 -- how a session ends with a reply, if it does
 abbrev pub end_of : Reply → Option SessionEnd
-end_of (reply.Shown text) = None
-end_of reply.Posted = None
-end_of reply.Full = None
-end_of reply.NoPipeline = None
 end_of reply.Stopping = Some end.Stop
 end_of reply.Bye = Some end.Quit
-end_of (reply.Refused why) = None
+end_of other = None
 
 -- the reply where nothing was posted
 abbrev pub refusal_of : {T : Type 0} → PostFault T → Reply
@@ -67,12 +63,9 @@ asked_by Oversize = Err fault.Unknown
 
 -- the pipeline to which something is to be posted
 abbrev pub addressed : Result Command CommandFault → Option (ℕ × ℕ)
-addressed (Err why) = None
-addressed (Ok command.Status) = None
-addressed (Ok command.Stop) = None
-addressed (Ok command.Quit) = None
 addressed (Ok (command.Manage tenant pipeline manage)) = Some (tenant.0, pipeline.0)
 addressed (Ok (command.Result tenant pipeline ended)) = Some (tenant.0, pipeline.0)
+addressed other = None
 
 -- it is one of the configuration, and it isn't
 abbrev pub IsThere : Config → Option (ℕ × ℕ) → Type 0
@@ -86,11 +79,8 @@ IsMissing config (Some at) = length (pipelines_of config at.0) ≤ at.1
 -- a command for which memory may be refused: any but `quit`
 abbrev pub MayTakeMemory : Result Command CommandFault → Type 0
 MayTakeMemory (Err why) = ⊥
-MayTakeMemory (Ok command.Status) = Unit {0}
-MayTakeMemory (Ok command.Stop) = Unit {0}
 MayTakeMemory (Ok command.Quit) = ⊥
-MayTakeMemory (Ok (command.Manage tenant pipeline manage)) = Unit {0}
-MayTakeMemory (Ok (command.Result tenant pipeline ended)) = Unit {0}
+MayTakeMemory other = Unit {0}
 
 abbrev pub MayRefuse : Result Command CommandFault → CommandFault → Type 0
 MayRefuse asked fault.Empty = asked ≡ Err fault.Empty
@@ -126,18 +116,10 @@ with_posted (Ok (command.Result tenant pipeline ended)) posts =
 
 -- just where that was answered `ok`
 abbrev pub posted_by : Result Command CommandFault → Reply → List (List PostEnds) → List (List PostEnds)
-posted_by asked (reply.Shown text) posts = posts
 posted_by asked reply.Posted posts = with_posted asked posts
-posted_by asked reply.Full posts = posts
-posted_by asked reply.NoPipeline posts = posts
-posted_by asked reply.Stopping posts = posts
-posted_by asked reply.Bye posts = posts
-posted_by asked (reply.Refused why) posts = posts
+posted_by asked other posts = posts
 
 -- what is known of the cause to stop changes just where the session ends by `stop`: then a cause is known
 abbrev pub NoteAfter : Option SessionEnd → Note → Note → Type 0
-NoteAfter None old new = new ≡ old
-NoteAfter (Some end.End) old new = new ≡ old
-NoteAfter (Some end.Limit) old new = new ≡ old
-NoteAfter (Some end.Quit) old new = new ≡ old
 NoteAfter (Some end.Stop) old new = (cause : StopCause) × Learns old cause new
+NoteAfter other old new = new ≡ old

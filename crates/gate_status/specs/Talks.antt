@@ -8,7 +8,7 @@ use Rattle.gate_config.specs.declared.config.Config.{Config}
 use Rattle.gate_run.specs.Ports.{PostEnds, PostsView}
 use Rattle.gate_status.specs.declared.fault.SessionEnd.{SessionEnd}
 use Rattle.gate_status.specs.declared.fault.SessionEnd.TheVariants as end
-use Rattle.gate_status.specs.declared.listening.TheConstants.{MAX_SESSION}
+use Rattle.gate_status.specs.Limits.{longest_session}
 use Rattle.gate_status.specs.declared.reply.Reply.{Reply}
 use Rattle.gate_status.specs.Replies.{MayReply, NoteAfter, asked_by, end_of, posted_by, reply_text}
 
@@ -59,10 +59,10 @@ AreFirst bytes rest lines = IsPrefixOf lines (ended_records bytes) ⊎ (IsAtEnd 
 -- The lines of the bytes that were read which have answers, by how the session ended: at the reader's end, before so many bytes were
 -- read as a session may have, all of them; at the limit, when just so many were, those that have ended; else the first of them.
 abbrev pub Heard : SessionEnd → List ℕ → Option (List ℕ) → List Record → Type 0
-Heard end.End bytes rest lines = (length bytes < MAX_SESSION) × IsAtEnd rest × (lines ≡ records_of bytes)
+Heard end.End bytes rest lines = (length bytes < longest_session) × IsAtEnd rest × (lines ≡ records_of bytes)
 Heard end.Quit bytes rest lines = AreFirst bytes rest lines
 Heard end.Stop bytes rest lines = AreFirst bytes rest lines
-Heard end.Limit bytes rest lines = (length bytes ≡ MAX_SESSION) × (lines ≡ ended_records bytes)
+Heard end.Limit bytes rest lines = (length bytes ≡ longest_session) × (lines ≡ ended_records bytes)
 
 -- A whole session: what it read, and what it answered to the lines of it.
 pub record Answers (config : Config) (how : SessionEnd) (told told' written written' : Option (List ℕ)) (posts posts' : PostsView) : Type 0 where

@@ -2,7 +2,7 @@
 ghost use Rattle.std.specs.Prelude.{◌≡◌, ◌+◌, ◌<◌, ◌≤◌, ◌-◌, ◌^◌, [], IfErr, IfOk, OnOk, nat_lt, take, vec_len};
 ghost use Rattle.gate_source.specs.Splitting.{Feeds, Finishes, IsFed};
 ghost use Rattle.gate_status.specs.Listened.{Hears, ReadRises};
-ghost use Rattle.gate_status.specs.declared.listening.TheConstants.{MAX_SESSION};
+ghost use Rattle.gate_status.specs.Limits.{longest_session};
 
 use crate::counted::Counted;
 use crate::fault::SessionFault;
@@ -31,7 +31,7 @@ impl Listening {
     /// Nothing was read yet.
     pub(crate) fn new(alloc: Global) -> Result<Listening, Memory>
         ensures fed { IfOk result (λ listening. IsFed [] listening.split) }
-        ensures room { IfOk result (λ listening. listening.room ≡ MAX_SESSION) }
+        ensures room { IfOk result (λ listening. listening.room ≡ longest_session) }
     {
         Ok(Listening {
             alloc,

@@ -1,5 +1,5 @@
 -- What the masks of a batch give.
-use Rattle.std.proofs.Common.{◌≡◌, ◌∙◌, refl, sym, ap, ℕ, zero, suc, ◌+◌, ◌<◌, ◌≤◌, ◌==◌, List, [], ◌∷◌, ◌++◌, Bool, true, false, length, map, take, flat_map, slice_get, get_or, unwrap_or, Option, Some, None, option_map, if◌then◌else◌, arith, zero-add}
+use Rattle.std.proofs.Common.{◌≡◌, ◌∙◌, refl, sym, ap, ℕ, zero, suc, ◌+◌, ◌<◌, ◌≤◌, ◌==◌, List, [], ◌∷◌, ◌++◌, Bool, true, false, length, map, flat_map, slice_get, get_or, unwrap_or, Option, Some, None, option_map, if◌then◌else◌, arith, zero-add}
 use Rattle.std.specs.List.{cons_option, filter_map, range_with_len, zip}
 use Rattle.std.proofs.lemmas.Grind.{flat_map-append}
 use Rattle.gate_record.specs.declared.event.Event.{Event}
@@ -15,7 +15,7 @@ use Rattle.gate_config.specs.Lookups.{pipelines_of}
 use Rattle.gate_config.specs.Selection.{selects_event}
 use Rattle.gate_match.specs.Selecting.{mask_of, masks_of}
 use Rattle.gate_tenant.specs.Batches.{by_masks, conns_in, events_in, given_by, marked_item, row_in, rows_of, word_of}
-use Rattle.gate_tenant.specs.Dispatching.{by_pipeline, chosen_item, for_pipeline, numbers_of}
+use Rattle.gate_tenant.specs.Dispatching.{by_pipeline, chosen_item, for_pipeline}
 use Rattle.gate_tenant.proofs.Getting.{end_mark}
 
 -- connections and events side by side are the rows

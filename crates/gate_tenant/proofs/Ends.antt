@@ -7,7 +7,7 @@ use Rattle.std.specs.List.{list_all, list_any, range_with_len}
 use Rattle.gate_record.specs.declared.transit.TenantItem.{TenantItem}
 use Rattle.gate_record.specs.declared.transit.TenantItem.TheVariants as tenant
 use Rattle.gate_config.specs.declared.config.Config.{Config}
-use Rattle.gate_config.specs.declared.limits.TheConstants.{MAX_CONNECTIONS}
+use Rattle.gate_config.specs.Limits.{most_connections}
 use Rattle.gate_config.specs.Lookups.{connections_of, lists}
 use Rattle.gate_tenant.specs.Dispatching.{all_marked, holds_ends, is_end_of, is_marked, marks_after, no_marks}
 
@@ -63,4 +63,4 @@ ends_are config t items =
     same_for (is_marked config t (marks_after items no_marks)) (λ c. not (lists config t c) || list_any (is_end_of c) items) 0 (length (connections_of config))
     (λ c h. ap (λ b. not (lists config t c) || b)
     (mark_is no_marks items c (omega (arith, h, config.few_connections))
-    ∙ ap (λ b. b || list_any (is_end_of c) items) (no_mark MAX_CONNECTIONS c)))
+    ∙ ap (λ b. b || list_any (is_end_of c) items) (no_mark most_connections c)))

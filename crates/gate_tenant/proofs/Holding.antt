@@ -10,7 +10,7 @@ use Rattle.gate_record.specs.declared.transit.TenantItem.{TenantItem}
 use Rattle.gate_record.specs.declared.transit.PipelineItem.TheVariants as pipeline
 use Rattle.gate_config.specs.declared.config.Config.{Config}
 use Rattle.gate_config.specs.Lookups.{pipelines_of}
-use Rattle.gate_tenant.specs.declared.TheConstants.{MAX_GATHERED}
+use Rattle.gate_tenant.specs.Limits.{most_gathered}
 use Rattle.gate_tenant.specs.Dispatching.{all_marked, by_pipeline, chosen, chosen_item, holds_ends, marks_after, no_marks, with_mark}
 use Rattle.gate_tenant.specs.Histories.{AllWasGiven, EachGetsItsOwn, Happens, History, NothingIsLost, beginning, begins, comes_back, gathers, gives, item_for, items_for, matches, moves}
 use Rattle.gate_tenant.specs.States.{State, has_ended, last_marks, matched, room_of}
@@ -29,10 +29,10 @@ and_true : (b : Bool) → (b && true) ≡ b
 and_true false = refl
 and_true true = refl
 
-room_empty : {A B : Type 0} (gathered : List A) (items : List B) → 0 < (if length items == 0 then MAX_GATHERED - length gathered else 0) → items ≡ []
+room_empty : {A B : Type 0} (gathered : List A) (items : List B) → 0 < (if length items == 0 then most_gathered - length gathered else 0) → items ≡ []
 room_empty gathered [] h = refl
 room_empty gathered (item ∷ items) h =
-    let none : 0 < 0 = subst (λ b. 0 < (if b then MAX_GATHERED - length gathered else 0)) (eqb-suc-zero (length items)) h in
+    let none : 0 < 0 = subst (λ b. 0 < (if b then most_gathered - length gathered else 0)) (eqb-suc-zero (length items)) h in
     absurd (omega (arith, none))
 
 -- the hand is empty, so some end mark is missing

@@ -7,7 +7,7 @@ use Rattle.gate_record.specs.declared.transit.TenantItem.TheVariants as tenant
 use Rattle.gate_record.specs.declared.transit.PipelineItem.{PipelineItem}
 use Rattle.gate_record.specs.declared.transit.PipelineItem.TheVariants as pipeline
 use Rattle.gate_config.specs.declared.config.Config.{Config}
-use Rattle.gate_config.specs.declared.limits.TheConstants.{MAX_CONNECTIONS}
+use Rattle.gate_config.specs.Limits.{most_connections}
 use Rattle.gate_config.specs.Lookups.{connections_of, lists, pipelines_of}
 use Rattle.gate_config.specs.Selection.{selects_event}
 
@@ -18,6 +18,11 @@ pipeline_id p = record { 0 = p }
 abbrev pub chosen_item : Config → ℕ → ℕ → TenantItem → Option PipelineItem
 chosen_item config t p (tenant.Event s) = if selects_event config t p s.stamp.conn.0 s.event then Some (pipeline.Event s) else None
 chosen_item config t p (tenant.End conn) = None
+
+-- the item is an event
+abbrev pub is_event : TenantItem → Bool
+is_event (tenant.Event s) = true
+is_event (tenant.End conn) = false
 
 -- the item is the end mark of connection c
 abbrev pub is_end_of : ℕ → TenantItem → Bool
@@ -51,7 +56,7 @@ end_marks config t = map (λ p. for_pipeline p pipeline.End) (numbers_of config 
 
 -- The marks of connections, by number: whether the connection's end mark was matched.
 abbrev pub no_marks : List Bool
-no_marks = replicate MAX_CONNECTIONS false
+no_marks = replicate most_connections false
 
 abbrev pub with_mark : List Bool → TenantItem → List Bool
 with_mark marks (tenant.Event s) = marks

@@ -1,13 +1,14 @@
 -- The state of a dispatch, and what its calls make of it.
-use Rattle.std.specs.Prelude.{ℕ, ◌-◌, List, [], ◌∷◌, ◌++◌, Bool, not, ◌&&◌, ◌==◌, Option, Some, None, length, flat_map, if◌then◌else◌}
+use Rattle.std.specs.Prelude.{ℕ, ◌-◌, List, [], ◌∷◌, ◌++◌, Bool, not, ◌&&◌, ◌||◌, ◌==◌, Option, Some, None, length, flat_map, if◌then◌else◌}
+use Rattle.std.specs.List.{list_any}
 use Rattle.std.specs.Vec.{vec_capacity}
 use Rattle.gate_record.specs.declared.ids.PipelineId.{PipelineId}
 use Rattle.gate_record.specs.declared.transit.TenantItem.{TenantItem}
 use Rattle.gate_record.specs.declared.transit.PipelineItem.{PipelineItem}
 use Rattle.gate_config.specs.declared.config.Config.{Config}
-use Rattle.gate_tenant.specs.declared.TheConstants.{MAX_GATHERED}
+use Rattle.gate_tenant.specs.Limits.{most_gathered}
 use Rattle.gate_tenant.specs.declared.dispatch.Dispatch.{Dispatch}
-use Rattle.gate_tenant.specs.Dispatching.{all_marked, by_pipeline, end_marks, marks_after, no_marks}
+use Rattle.gate_tenant.specs.Dispatching.{all_marked, by_pipeline, end_marks, is_event, marks_after, no_marks}
 
 -- what is gathered; what was matched and is to be given, each item with its pipeline; the pipeline whose item is out,
 -- while nobody said what became of it; and, by connection number, whether the connection's end mark was matched
@@ -34,7 +35,7 @@ reserved_of dispatch = vec_capacity dispatch.gathered - length dispatch.gathered
 
 -- how many items may be gathered until the next matching
 abbrev pub room_of : State → ℕ
-room_of state = if length state.items == 0 then MAX_GATHERED - length state.gathered else 0
+room_of state = if length state.items == 0 then most_gathered - length state.gathered else 0
 
 -- each end mark was matched, and nothing is left to be given
 abbrev pub has_ended : Config → ℕ → State → Bool
@@ -44,9 +45,17 @@ has_ended config t state = all_marked config t state.marks && (length state.item
 abbrev pub first_state : Config → ℕ → State
 first_state config t = record { gathered = []; items = if all_marked config t no_marks then end_marks config t else []; out = None; marks = no_marks }
 
--- the end marks of all pipelines, if the last connection's end mark is among these items
+-- the last connection's end mark is among these items
+abbrev pub are_last : Config → ℕ → List TenantItem → List Bool → Bool
+are_last config t items marks = all_marked config t (marks_after items marks) && not (all_marked config t marks)
+
+-- then the end marks of all pipelines
 abbrev pub last_marks : Config → ℕ → List TenantItem → List Bool → List (PipelineId × PipelineItem)
-last_marks config t items marks = if all_marked config t (marks_after items marks) && not (all_marked config t marks) then end_marks config t else []
+last_marks config t items marks = if are_last config t items marks then end_marks config t else []
+
+-- what is gathered needs memory to be matched: there is an event among it, or the end marks of the pipelines are due
+abbrev pub needs_memory : Config → ℕ → State → Bool
+needs_memory config t state = list_any is_event state.gathered || are_last config t state.gathered state.marks
 
 -- what is gathered is matched: its events one after another, then the end marks of the pipelines
 abbrev pub matched : Config → ℕ → State → State

@@ -1,5 +1,5 @@
 ghost use Rattle.gate_match.specs.Selecting.{config_of as program_config, tenant_of as program_tenant};
-ghost use Rattle.gate_tenant.specs.declared.TheConstants.{MAX_GATHERED};
+ghost use Rattle.gate_tenant.specs.Limits.{most_gathered};
 ghost use Rattle.std.specs.Prelude.{◌≡◌, ◌≤◌, ◌==◌, ◌∷◌, ◌++◌, ◌<◌, [], true, false, length, is_some, None, not, ◌+◌, IfErr, IfOk, IsOk, OnErr, OnOk};
 
 use crate::MAX_GATHERED;
@@ -28,14 +28,14 @@ pub struct Dispatch<'c> {
     pub(crate) hand: Hand,
     pub(crate) marks: Marks,
     /// Items are gathered while the hand is empty.
-    pub ghost few: { length gathered.items ≤ MAX_GATHERED },
+    pub ghost few: { length gathered.items ≤ most_gathered },
     pub ghost of_config: { program_config program ≡ config.now },
     pub ghost of_tenant: { program_tenant program ≡ tenant.0 },
     pub ghost in_turn: { (length gathered.items == 0) ≡ false → (hand.items.items ≡ []) × (hand.out ≡ None) },
 }
 
 impl<'c> Dispatch<'c> {
-    ghost use Rattle.gate_tenant.specs.States.{config_of, first_state, has_ended, matched, moved_out, put_back, reserved_of, room_of, state_of, tenant_of};
+    ghost use Rattle.gate_tenant.specs.States.{config_of, first_state, has_ended, matched, moved_out, needs_memory, put_back, reserved_of, room_of, state_of, tenant_of};
 
     /// The dispatch of a tenant, with nothing gathered. `Memory` where the end marks of a tenant that lists no connection
     /// find no room.
@@ -108,13 +108,15 @@ impl<'c> Dispatch<'c> {
         !self.gathered.is_empty()
     }
 
-    /// Matches what is gathered: the hand gets what came of it. On `Memory` it stays gathered, and all is as before.
+    /// Matches what is gathered: the hand gets what came of it. `Memory` where an event is matched or the pipelines' end marks
+    /// are due, and what that takes finds no room: then all stays gathered, and is as before.
     pub fn match_batch(&mut self, alloc: Global) -> Result<(), Memory>
         requires gathered { (length (state_of self.old).gathered == 0) ≡ false }
         ensures config { config_of self.new ≡ config_of self.old }
         ensures tenant { tenant_of self.new ≡ tenant_of self.old }
         ensures matches { OnOk result (state_of self.new ≡ matched (config_of self.old) (tenant_of self.old) (state_of self.old)) }
         ensures refused { OnErr result (state_of self.new ≡ state_of self.old) }
+        ensures needs { OnErr result (needs_memory (config_of self.old) (tenant_of self.old) (state_of self.old) ≡ true) }
     {
         let mut items = match_items(
             alloc,

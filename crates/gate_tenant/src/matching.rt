@@ -1,12 +1,13 @@
-ghost use Rattle.std.specs.Prelude.{◌≡◌, ◌≤◌, ◌<◌, ◌==◌, ◌+◌, ◌^◌, ◌++◌, IfOk, OnOk, flat_map, length, map, option_map};
+ghost use Rattle.std.specs.Prelude.{◌≡◌, ◌≤◌, ◌<◌, ◌==◌, ◌+◌, ◌^◌, ◌++◌, IfOk, OnErr, OnOk, flat_map, length, map, option_map, true};
+ghost use Rattle.std.specs.List.{list_any};
 ghost use Rattle.std.specs.Option.{option_to_list};
-ghost use Rattle.gate_config.specs.declared.limits.TheConstants.{MAX_CONNECTIONS};
+ghost use Rattle.gate_config.specs.Limits.{most_connections};
 ghost use Rattle.gate_config.specs.Lookups.{pipelines_of};
 ghost use Rattle.gate_lanes.specs.declared.TheConstants.{MARKED};
 ghost use Rattle.gate_match.specs.Selecting.{config_of, masks_of, tenant_of};
-ghost use Rattle.gate_tenant.specs.declared.TheConstants.{MAX_GATHERED};
+ghost use Rattle.gate_tenant.specs.Limits.{most_gathered};
 ghost use Rattle.gate_tenant.specs.Batches.{by_masks, given_by, marked_item, row_in, rows_of, word_of};
-ghost use Rattle.gate_tenant.specs.Dispatching.{all_marked, by_pipeline, end_marks};
+ghost use Rattle.gate_tenant.specs.Dispatching.{all_marked, by_pipeline, end_marks, is_event};
 
 use crate::batch::Batch;
 use gate_config::Config;
@@ -18,6 +19,7 @@ use std::alloc::Global;
 use std::collections::VecDeque;
 
 // What the pipelines get of gathered items: item by item, and pipeline by pipeline in rising number.
+#[tactic(auto, using(crate::proofs::Eventless::nothing))]
 pub(crate) fn match_items(
     alloc: Global,
     config: &Config,
@@ -25,15 +27,27 @@ pub(crate) fn match_items(
     program: &Program<'_>,
     gathered: &[TenantItem],
 ) -> Result<VecDeque<(PipelineId, PipelineItem)>, Memory>
-    requires few { length gathered.now ≤ MAX_GATHERED }
+    requires few { length gathered.now ≤ most_gathered }
     requires of_config { config_of program.now ≡ config.now }
     requires of_tenant { tenant_of program.now ≡ tenant.0 }
-    ensures { IfOk result (λ items. items.items ≡ flat_map (by_pipeline config.now tenant.0) gathered.now) }
+    ensures matches { IfOk result (λ items. items.items ≡ flat_map (by_pipeline config.now tenant.0) gathered.now) }
+    ensures needs { OnErr result (list_any is_event gathered.now ≡ true) }
 {
+    if !has_event(gathered) {
+        return Ok(VecDeque::new(alloc));
+    }
     let batch = Batch::of(alloc, gathered)?;
     let columns = Columns::build(alloc, batch.events.as_slice())?;
     let masks = program.select(alloc, &columns, batch.conns.as_slice())?;
     push_all(alloc, config, tenant, masks.as_slice(), gathered)
+}
+
+fn has_event(items: &[TenantItem]) -> bool
+    ensures { result ≡ list_any is_event items.now }
+{
+    items
+        .iter()
+        .any(|item| matches!(item, TenantItem::Event(_)))
 }
 
 // The gathered events, each for the pipelines whose masks mark its row.
@@ -138,7 +152,7 @@ pub(crate) fn push_end_marks(
 
 // Whether each connection that the tenant lists has its end mark among these.
 pub(crate) fn all_marked(config: &Config, tenant: TenantId, marks: &[bool]) -> bool
-    requires { length marks.now ≡ MAX_CONNECTIONS }
+    requires { length marks.now ≡ most_connections }
     ensures { result ≡ all_marked config.now tenant.0 marks.now }
 {
     for conn in 0..config.connections().len() {

@@ -1,4 +1,4 @@
-use Rattle.std.proofs.Common.{refl, inl}
+use Rattle.std.proofs.Common.{inr, refl, inl}
 use Rattle.serde_json.specs.View.{view}
 use Rattle.gate_config.proofs.Outcome.{json_of_read, json_of_none, config_read, config_passed, config_fault}
 use Rattle.gate_config.proofs.read.read_config.Goals as goal
@@ -19,5 +19,5 @@ pub returns-in_default : goal.returns-in_default
 returns-in_default c = record {
   read = tt;
   passed = tt;
-  fault = rw (json_of_none c.args.bytes.now (c.in-Err.ensures.err (λ m. c.in_default.not-Memory (c.classify.ensures.memory.1 m)))) (inl (refl, refl));
+  fault = rw (json_of_none c.args.bytes.now (c.in-Err.ensures.err (λ m. c.in_default.not-Memory (c.classify.ensures.memory.1 m)))) (inr (inl (refl, refl)));
 }

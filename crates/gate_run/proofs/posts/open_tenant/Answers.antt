@@ -7,6 +7,6 @@ use Rattle.gate_run.proofs.posts.open_tenant.Goals as goal
 pub loop-pipeline-preserved : goal.loop-pipeline-preserved
 loop-pipeline-preserved c = (
   search rules,
-  seen_more AreOpened ends_of inbox_of c.loop-pipeline.posts.items c.push.new.self.items c.loop-pipeline.inbox.items c.push-in-loop-pipeline.new.self.items c.in_ok-own.own c.in_ok-own.other
+  seen_more (AreOpened c.args.places) ends_of inbox_of c.loop-pipeline.posts.items c.push.new.self.items c.loop-pipeline.inbox.items c.push-in-loop-pipeline.new.self.items c.in_ok-own.own c.in_ok-own.other
       c.loop-pipeline.invariant.1 c.in_ok-own.ensures c.in_ok-push.ensures.items c.in_ok-push-2.ensures.items,
 )

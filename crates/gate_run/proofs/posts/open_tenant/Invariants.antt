@@ -7,4 +7,4 @@ use Rattle.gate_run.proofs.posts.open_tenant.Given as goal
 abbrev pub invariant-loop-pipeline : goal.invariant-loop-pipeline
 invariant-loop-pipeline l =
     (length (vec_items l.posts) ≡ l._pipeline)
-    × Pairwise AreOpened (map ends_of (vec_items l.posts)) (map inbox_of (vec_items l.inbox))
+    × Pairwise (AreOpened l.places) (map ends_of (vec_items l.posts)) (map inbox_of (vec_items l.inbox))

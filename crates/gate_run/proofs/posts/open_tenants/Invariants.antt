@@ -9,4 +9,4 @@ use Rattle.gate_run.proofs.posts.open_tenants.Given as goal
 abbrev pub invariant-loop-number : goal.invariant-loop-number
 invariant-loop-number l =
     (map (λ tenant. length (map ends_of tenant.items)) (vec_items l.posts) ≡ map (λ t. length (pipelines_of l.config t)) (range_with_len 0 l.number))
-    × Pairwise (Pairwise AreOpened) (map (λ tenant. map ends_of tenant.items) (vec_items l.posts)) (map (λ tenant. map inbox_of tenant.items) (vec_items l.inbox))
+    × Pairwise (Pairwise (AreOpened l.places)) (map (λ tenant. map ends_of tenant.items) (vec_items l.posts)) (map (λ tenant. map inbox_of tenant.items) (vec_items l.inbox))

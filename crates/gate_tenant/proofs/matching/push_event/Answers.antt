@@ -1,4 +1,4 @@
-use Rattle.std.proofs.Common.{◌∙◌, ◌++◌, ap, ℕ, map}
+use Rattle.std.proofs.Common.{◌∙◌, ◌++◌, ap, map}
 use Rattle.std.specs.Option.{option_to_list}
 use Rattle.gate_tenant.specs.Batches.{marked_item}
 use Rattle.gate_tenant.proofs.Ranges.{one_more_behind}

@@ -1,6 +1,6 @@
 use Rattle.std.proofs.Common.{arith, ◌≡◌, ◌<◌, ap, length}
 use Rattle.gate_config.specs.Lookups.{tenants_of}
-use Rattle.gate_config.specs.declared.limits.TheConstants.{MAX_TENANTS}
+use Rattle.gate_config.specs.Limits.{most_tenants}
 use Rattle.gate_record.specs.declared.transit.ConnEntry.TheVariants as entry
 use Rattle.gate_forward.specs.Forwarding.{forwarded_entry}
 use Rattle.gate_forward.specs.Hands.{config_of, conn_of}
@@ -11,7 +11,7 @@ pub loop-tenant-preserved : goal.loop-tenant-preserved
 loop-tenant-preserved c =
     let config = config_of c.args.self.now in
     let all : length c.tenants-tenant-end.result.now ≡ length (tenants_of config) = ap length c.tenants-tenant-end.ensures in
-    let few : c.loop-tenant.tenant < MAX_TENANTS = omega (arith, c.loop-tenant-test.true, all, config.few_tenants) in
+    let few : c.loop-tenant.tenant < most_tenants = omega (arith, c.loop-tenant-test.true, all, config.few_tenants) in
     one_more (λ t. forwarded_entry config t (conn_of c.args.self.now) entry.End) c.end_mark_for.result few c.loop-tenant.invariant c.end_mark_for.ensures
 
 pub returns : goal.returns

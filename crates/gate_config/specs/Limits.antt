@@ -1,0 +1,22 @@
+-- The numbers that the standard gives: how much a configuration may have.
+use Rattle.std.specs.Prelude.{ℕ}
+
+-- the tenants of a configuration
+abbrev pub most_tenants : ℕ
+most_tenants = 16
+
+-- the connections of a configuration
+abbrev pub most_connections : ℕ
+most_connections = 16
+
+-- the pipelines of a tenant
+abbrev pub most_pipelines : ℕ
+most_pipelines = 16
+
+-- the rules that a pipeline has for a connection
+abbrev pub most_rules : ℕ
+most_rules = 64
+
+-- the patterns of an attribute of a rule, and the votes that it asks for
+abbrev pub most_entries : ℕ
+most_entries = 32

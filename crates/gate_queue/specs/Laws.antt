@@ -1,0 +1,34 @@
+-- That the two ways to say the rule of a queue agree.
+use Rattle.std.specs.Prelude.{◌≡◌, ◌≤◌, ℕ, List, [], length}
+use mathlib.Core.Option.{some}
+use lib.ListN.{get_elem?}
+use Rattle.gate_queue.specs.declared.tagged.Tagged.{Tagged}
+use Rattle.gate_queue.specs.declared.known.Known.{Known}
+use Rattle.gate_queue.specs.declared.known.Known.TheVariants.{Sender, Taker, Nothing}
+use Rattle.gate_queue.specs.Seats.{Shape}
+use Rattle.gate_queue.specs.Sharing.{Shares}
+use Rattle.gate_queue.specs.States.{Allows, State}
+use Rattle.gate_queue.specs.Tagged.{values_of}
+
+module _ {T : Type 0} where
+  -- what a seat knows is so in this state
+  abbrev pub Knows : State T → Known T → Type 0
+  Knows s (Sender v) = s.put v.sender ≡ v.put
+  Knows s (Taker v) = s.taken ≡ v.taken
+  Knows s Nothing = Unit {0}
+
+  -- the state that the protocol keeps: each sender has put its values of all, and these wait
+  abbrev pub state_in : (items : List (Tagged T)) (views : List (Known T)) → Shares items views → State T
+  state_in items views shares = record { put = λ k. values_of k shares.all; taken = shares.taken; waiting = items }
+
+-- What threads keep among them by the protocol is a state that the rule of the queue allows, as long as no more waits than there
+-- are places, and each seat knows what is so in that state.
+abbrev pub ProtocolKeepsTheRule : Type 0 → Type 0
+ProtocolKeepsTheRule T = (queue : Shape) (items : List (Tagged T)) (views : List (Known T)) (shares : Shares items views) →
+    shares.senders ≡ queue.name.senders → length items ≤ queue.capacity →
+    Allows queue (state_in items views shares) × ((pass : ℕ) (v : Known T) → get_elem? views pass ≡ some v → Knows (state_in items views shares) v)
+
+-- Each state that the rule allows is one that the protocol can keep.
+abbrev pub RuleIsTheProtocols : Type 0 → Type 0
+RuleIsTheProtocols T = (queue : Shape) (s : State T) → Allows queue s →
+    (shares : Shares s.waiting []) × (shares.senders ≡ queue.name.senders) × (shares.taken ≡ s.taken) × ((k : ℕ) → values_of k shares.all ≡ s.put k)
