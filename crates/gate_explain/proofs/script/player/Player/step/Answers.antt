@@ -1,0 +1,5 @@
+-- The step has accepted one record at most.
+use Rattle.gate_explain.proofs.script.player.Player.step.Goals as goal
+
+pub invariant_of-self : goal.invariant_of-self
+invariant_of-self c = record { counts = c.step-answer.ensures.counts c.args.self.now.steps c.args.self.now.counts }

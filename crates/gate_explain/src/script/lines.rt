@@ -1,0 +1,98 @@
+ghost use Rattle.std.specs.Prelude.{◌<◌, length};
+ghost use Rattle.std.specs.Iterator.{at_most};
+
+use gate_record::Memory;
+use std::alloc::Global;
+
+// How many bytes of a line are looked at, and how many letters of it are written.
+const BYTES: usize = 160;
+
+const LETTERS: usize = 40;
+
+/// The lines of a script, skipped ones too: what stands between LFs, without the one CR before an LF. What follows the last LF,
+/// if anything, is a line that keeps its CR.
+#[derive(Drop)]
+pub struct Lines<'s> {
+    rest: &'s [u8],
+}
+
+impl<'s> Lines<'s> {
+    /// The lines of this script.
+    pub fn of(script: &'s [u8]) -> Lines<'s> {
+        Lines { rest: script }
+    }
+}
+
+impl<'s> Iterator for Lines<'s> {
+    type Item = &'s [u8];
+
+    ghost remaining = { λ s. at_most (length s.rest.now) };
+
+    fn next(&mut self) -> Option<&'s [u8]> {
+        if self.rest.is_empty() {
+            return None;
+        }
+        let (line, rest) = first_line(self.rest);
+        self.rest = rest;
+        Some(line)
+    }
+}
+
+// The first line of a text that isn't empty, and what follows it.
+fn first_line(text: &[u8]) -> (&[u8], &[u8])
+    requires { 0 < length text.now }
+    ensures { length result.1.now < length text.now }
+{
+    match text.iter().position(|byte| *byte == b'\n') {
+        None => (text, &[]),
+        Some(end) => (without_return(&text[..end]), &text[end + 1..]),
+    }
+}
+
+// A line without the one carriage return at its end.
+fn without_return(line: &[u8]) -> &[u8] {
+    match line {
+        [front @ .., b'\r'] => front,
+        _ => line,
+    }
+}
+
+/// Whether a line is empty or a comment.
+pub fn is_skipped(line: &[u8]) -> bool {
+    match line {
+        [] => true,
+        [first, ..] => *first == b'#',
+    }
+}
+
+/// Adds the number of a line, and as much of it as there is room for.
+pub fn push_line(out: &mut String, alloc: Global, number: u64, line: &[u8]) -> Result<(), Memory> {
+    let text = shortened(alloc, line)?;
+    let text = text.as_str();
+    write!(out, "{number:>6}  {text:<42}  ")?;
+    Ok(())
+}
+
+/// The front of a line as a text, with a space for each control character.
+pub fn shortened(alloc: Global, line: &[u8]) -> Result<String, Memory> {
+    let text = String::from_utf8_lossy(alloc, line.get(..BYTES).unwrap_or(line))?;
+    let mut short = String::new(alloc);
+    let mut letters = 0usize;
+    for letter in text.as_str().chars() {
+        if letters >= LETTERS {
+            short.push_str("..")?;
+            return Ok(short);
+        }
+        short.push(visible(letter))?;
+        letters = letters.saturating_add(1);
+    }
+    Ok(short)
+}
+
+fn visible(letter: char) -> char {
+    if letter < ' ' || letter == '\u{7f}' {
+        ' '
+    } else {
+        letter
+    }
+}

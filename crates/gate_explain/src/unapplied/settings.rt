@@ -1,0 +1,104 @@
+//! What Zuul reads and this program doesn't: the names of its settings, and what follows from each here.
+use crate::near::is_near;
+use crate::quoted::Quoted;
+use gate_record::Memory;
+use serde_json::Value;
+
+/// A setting of Zuul's that isn't applied.
+#[derive(Clone, Copy)]
+pub struct Setting {
+    pub name: &'static str,
+    /// What follows.
+    pub follows: &'static str,
+}
+
+/// The members of an object that stands somewhere in a configuration.
+#[derive(Clone, Copy)]
+pub struct Known {
+    /// Those that are read.
+    pub read: &'static [&'static str],
+    /// Those that Zuul reads.
+    pub settings: &'static [Setting],
+}
+
+impl Known {
+    /// Adds a line about a member that isn't read, at the place of its object.
+    pub fn push_member(
+        &self,
+        out: &mut String,
+        place: &str,
+        key: &str,
+        value: &Value,
+    ) -> Result<(), Memory> {
+        match self.setting(key) {
+            Some(_) if value.is_null() => Ok(()),
+            Some(follows) => push_line(out, place, key, follows),
+            None => push_unknown(out, place, key, self.nearest(key)),
+        }
+    }
+
+    /// What follows from a setting of Zuul's.
+    pub fn setting(&self, key: &str) -> Option<&'static str> {
+        for setting in self.settings {
+            if setting.name == key {
+                return Some(setting.follows);
+            }
+        }
+        None
+    }
+
+    /// The name that was nearly written.
+    pub fn nearest(&self, key: &str) -> Option<&'static str> {
+        for name in self.read {
+            if is_near(key, *name) {
+                return Some(*name);
+            }
+        }
+        for setting in self.settings {
+            if is_near(key, setting.name) {
+                return Some(setting.name);
+            }
+        }
+        None
+    }
+}
+
+/// Adds a line about the member of this key, and what follows.
+pub fn push_line(out: &mut String, place: &str, key: &str, follows: &str) -> Result<(), Memory> {
+    let dot = if place.is_empty() { "" } else { "." };
+    writeln!(out, "  {place}{dot}{key}: {follows}")?;
+    Ok(())
+}
+
+/// Adds a line about what stands at this place, and what follows.
+pub fn push_place(out: &mut String, place: &str, follows: &str) -> Result<(), Memory> {
+    writeln!(out, "  {place}: {follows}")?;
+    Ok(())
+}
+
+/// Adds a line about a member that nothing here reads.
+pub fn push_unknown(
+    out: &mut String,
+    place: &str,
+    key: &str,
+    nearest: Option<&str>,
+) -> Result<(), Memory> {
+    let dot = if place.is_empty() { "" } else { "." };
+    write!(
+        out,
+        "  {place}{dot}{key}: no member of this name is known here, so it is ignored"
+    )?;
+    push_nearest(out, nearest)
+}
+
+/// Ends a line, with the name that was nearly written.
+pub fn push_nearest(out: &mut String, nearest: Option<&str>) -> Result<(), Memory> {
+    match nearest {
+        Some(name) => {
+            let name = Quoted(name);
+            writeln!(out, "; did you mean {name}?")?;
+        }
+        None => out.push_str("\n")?,
+    }
+    Ok(())
+}

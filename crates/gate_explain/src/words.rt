@@ -1,0 +1,66 @@
+use crate::fault::Fault;
+use clap::error::ErrorKind;
+use clap::{Arg, ArgAction, ArgMatches, Command, Error};
+use std::alloc::{AllocError, Global};
+use std::io;
+
+/// What the words of the command line ask for.
+#[derive(Debug, Drop)]
+pub struct Task {
+    /// The path of the configuration.
+    pub config: String,
+    /// The path of the script, if there is to be one.
+    pub script: Option<String>,
+}
+
+/// Reads the program's words, its name first. `Usage` for words that are no form that is known, `Memory` where memory
+/// is refused.
+pub fn task_of<'a>(alloc: Global, words: &'a [String]) -> Result<Task, Fault> {
+    let command = command(alloc)?;
+    match command.try_get_matches_from(words) {
+        Ok(matches) => task_in(alloc, &matches),
+        Err(error) => Err(fault_of(&error)),
+    }
+}
+
+// Without clap's own help and version.
+fn command<'a>(alloc: Global) -> Result<Command<'a>, AllocError> {
+    Command::new(alloc, "gate_explain")
+        .disable_help_flag(true)
+        .disable_version_flag(true)
+        .arg(path(alloc, "config").required(true))?
+        .arg(path(alloc, "script"))
+}
+
+fn path<'a>(alloc: Global, name: &'a str) -> Arg<'a> {
+    Arg::new(alloc, name).action(ArgAction::Set)
+}
+
+fn task_in(alloc: Global, matches: &ArgMatches<'_>) -> Result<Task, Fault> {
+    let Some(config) = matches.get_str("config") else {
+        return Err(Fault::Usage);
+    };
+    let script = match matches.get_str("script") {
+        Some(script) => Some(String::from_str(alloc, script)?),
+        None => None,
+    };
+    Ok(Task {
+        config: String::from_str(alloc, config)?,
+        script,
+    })
+}
+
+fn fault_of(error: &Error) -> Fault {
+    match error.kind() {
+        ErrorKind::OutOfMemory => Fault::Memory,
+        _ => Fault::Usage,
+    }
+}
+
+/// The fault where the words themselves can't be read, as one that isn't UTF-8.
+pub fn unread(error: &io::Error) -> Fault {
+    match error.kind() {
+        io::ErrorKind::OutOfMemory => Fault::Memory,
+        _ => Fault::Usage,
+    }
+}
