@@ -1,6 +1,6 @@
-// Refuses memory to the program that this library is preloaded to (bin/refusals): a call of malloc or realloc that stands in the
-// program itself, and not in a library of it, is counted from 1, over all threads. Call REFUSE_CALL is answered NULL, and with
-// REFUSE_ALWAYS each one behind it, too. The file REFUSE_COUNT has two numbers of 64 bits, how many calls there were and how many
+// Refuses memory to the program that this library is preloaded to (bin/refusing.py): a call of malloc or realloc that stands in the
+// program itself, and not in a library of it, is counted from 1, over all threads. Call REFUSE_CALL is answered NULL, with
+// REFUSE_TIMES that many from it on, and with REFUSE_ALWAYS each one behind it, too. The file REFUSE_COUNT has two numbers of 64 bits, how many calls there were and how many
 // of them were refused; it is mapped, so it says that however the program ends.
 #define _GNU_SOURCE
 #include <dlfcn.h>
@@ -20,7 +20,7 @@ struct counts {
 static void *(*real_malloc)(size_t);
 static void *(*real_realloc)(void *, size_t);
 static struct counts unwritten, *counts = &unwritten;
-static uint64_t refused_call, always;
+static uint64_t refused_call, times = 1, always;
 static uintptr_t first, behind;
 
 // The first object is the program: where its code stands.
@@ -39,7 +39,7 @@ static void find_calls(void) {
 }
 
 __attribute__((constructor)) static void begin(void) {
-    const char *call = getenv("REFUSE_CALL"), *more = getenv("REFUSE_ALWAYS"), *path = getenv("REFUSE_COUNT");
+    const char *call = getenv("REFUSE_CALL"), *more = getenv("REFUSE_ALWAYS"), *row = getenv("REFUSE_TIMES"), *path = getenv("REFUSE_COUNT");
     int file = path ? open(path, O_RDWR | O_CREAT, 0600) : -1;
     if (file >= 0 && ftruncate(file, sizeof(struct counts)) == 0) {
         void *map = mmap(NULL, sizeof(struct counts), PROT_READ | PROT_WRITE, MAP_SHARED, file, 0);
@@ -50,6 +50,7 @@ __attribute__((constructor)) static void begin(void) {
         close(file);
     refused_call = call ? strtoull(call, NULL, 10) : 0;
     always = more && *more == '1';
+    times = row ? strtoull(row, NULL, 10) : 1;
     find_calls();
     dl_iterate_phdr(find_program, NULL);
 }
@@ -58,7 +59,7 @@ static int is_refused(void *caller) {
     if ((uintptr_t)caller < first || (uintptr_t)caller >= behind)
         return 0;
     uint64_t call = ++counts->calls;
-    if (!refused_call || (always ? call < refused_call : call != refused_call))
+    if (!refused_call || call < refused_call || (!always && call - refused_call >= times))
         return 0;
     counts->refused++;
     errno = ENOMEM;

@@ -1,0 +1,175 @@
+//! A pipeline's worker: what it takes of its three queues, and takes again where memory was refused.
+ghost use Rattle.std.specs.Prelude.{◌≡◌};
+ghost use Rattle.gate_pipeline.specs.States.{asked, next_of};
+
+use crate::commands::{manage_of, result_of};
+use crate::configurations::{PLAIN, config_of};
+use crate::faults::Elsewhere;
+use crate::log::Log;
+use crate::records::{APPROVED, MADE, UPLOADED, event_of};
+use crate::shown::Shown;
+use gate_config::Config;
+use gate_items::{Action, Outcome};
+use gate_pipeline::{Pipeline, Taken, Which};
+use gate_record::{ConnId, Memory, PipelineId, PipelineItem, Stamp, Stamped, TenantId};
+use std::alloc::{AllocError, Global};
+
+const CALL: &str = "gate_pipeline Pipeline::took";
+
+// What is in the three queues, a line each; a line of a queue that the worker doesn't want yet waits until it has found those before
+// it empty.
+const SCRIPT: [&str; 9] = [
+    "upload",
+    "approve",
+    "make",
+    "reset 0 0 change 0 7",
+    "result 0 0 0 success unit",
+    "result 0 0 1 success unit",
+    "dequeue 0 0 change 0 7",
+    "approve",
+    "end",
+];
+
+// What a worker makes of a taking.
+type Processed = Option<(Option<Stamp>, Action, Outcome)>;
+
+pub(crate) fn run(log: &mut Log, alloc: Global) -> Result<(), Elsewhere> {
+    let config = config_of(log, alloc, PLAIN)?;
+    for pipeline in 0..2 {
+        play(log, alloc, &config, PipelineId(pipeline))?;
+    }
+    Ok(())
+}
+
+fn play(
+    log: &mut Log,
+    alloc: Global,
+    config: &Config,
+    pipeline: PipelineId,
+) -> Result<(), Elsewhere> {
+    let mut worker = Pipeline::new(alloc, config, TenantId(0), pipeline);
+    for line in SCRIPT {
+        turn_to(&mut worker, wanted_for(line))?;
+        play_line(log, alloc, config, &mut worker, line)?;
+    }
+    Ok(())
+}
+
+// The queue of a line.
+fn wanted_for(line: &str) -> Which {
+    match line.split_once(' ') {
+        Some(("result", _)) => Which::Result,
+        Some(_) => Which::Management,
+        None => Which::Trigger,
+    }
+}
+
+// Finds queues empty until the worker wants this one.
+fn turn_to(worker: &mut Pipeline, wanted: Which) -> Result<(), Elsewhere> {
+    for _ in 0..3 {
+        if worker.wants() == wanted {
+            return Ok(());
+        }
+        find_empty(worker)?;
+    }
+    Err(Elsewhere)
+}
+
+fn find_empty(worker: &mut Pipeline) -> Result<(), Elsewhere> {
+    match worker.wants() {
+        Which::Management => worker.found_empty(),
+        Which::Result => worker.found_empty(),
+        Which::Trigger => worker.found_empty(),
+        _ => return Err(Elsewhere),
+    }
+    Ok(())
+}
+
+fn play_line(
+    log: &mut Log,
+    alloc: Global,
+    config: &Config,
+    worker: &mut Pipeline,
+    line: &str,
+) -> Result<(), Elsewhere> {
+    match worker.wants() {
+        Which::Management => { take(log, config, worker, Taken::Manage(manage_of(alloc, line)?)) }
+        Which::Result => take(log, config, worker, Taken::Result(result_of(alloc, line)?)),
+        Which::Trigger => take(log, config, worker, Taken::Trigger(item_of(alloc, line)?)),
+        _ => Err(Elsewhere),
+    }
+}
+
+// The event of a word with its stamp, or the end mark.
+fn item_of(alloc: Global, word: &str) -> Result<PipelineItem, Elsewhere> {
+    match word {
+        "upload" => stamped(alloc, UPLOADED),
+        "approve" => stamped(alloc, APPROVED),
+        "make" => stamped(alloc, MADE),
+        _ => Ok(PipelineItem::End),
+    }
+}
+
+fn stamped(alloc: Global, line: &str) -> Result<PipelineItem, Elsewhere> {
+    let event = event_of(alloc, line)?;
+    let conn = ConnId(0);
+    let stamp = Stamp { conn, number: 3 };
+    Ok(PipelineItem::Event(Stamped { stamp, event }))
+}
+
+// Hands in what the worker wants. Where memory is refused it holds that, and nothing else is seen to change; it wants it again then.
+fn take(
+    log: &mut Log,
+    config: &Config,
+    worker: &mut Pipeline,
+    given: Taken,
+) -> Result<(), Elsewhere>
+    requires asked { next_of worker.old ≡ asked given }
+{
+    log.see_before(worker);
+    match worker.took(config, given) {
+        Ok(processed) => push_processed(log, worker, &processed),
+        Err(Memory) => take_again(log, config, worker),
+    }
+}
+
+fn take_again(log: &mut Log, config: &Config, worker: &mut Pipeline) -> Result<(), Elsewhere> {
+    log.tell_refused(CALL);
+    log.see_after(CALL, worker);
+    match worker.wants() {
+        Which::Held => take_held(log, config, worker),
+        _ => {
+            log.tell_changed(CALL, true);
+            Err(Elsewhere)
+        }
+    }
+}
+
+fn take_held(log: &mut Log, config: &Config, worker: &mut Pipeline) -> Result<(), Elsewhere>
+    requires asked { next_of worker.old ≡ asked Taken.Again }
+{
+    match worker.took(config, Taken::Again) {
+        Ok(processed) => push_processed(log, worker, &processed),
+        Err(Memory) => {
+            log.tell_again(CALL, true);
+            Err(Elsewhere)
+        }
+    }
+}
+
+fn push_processed(
+    log: &mut Log,
+    worker: &Pipeline,
+    processed: &Processed,
+) -> Result<(), Elsewhere> {
+    write!(log.told, "{processed:?} {:?}\n", worker.wants())?;
+    Ok(worker.show(&mut log.told)?)
+}
+
+// What it has processed, and its items; not what it wants, since it may hold something.
+impl Shown for Pipeline {
+    fn show(&self, text: &mut String) -> Result<(), AllocError> {
+        write!(text, "{:?} {}\n", self.done(), self.finished())?;
+        self.state().show(text)
+    }
+}

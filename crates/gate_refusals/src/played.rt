@@ -1,0 +1,135 @@
+//! A world that takes one step after another.
+ghost use Rattle.gate_core.specs.Worlds.{AcceptedAtMost, state_of};
+
+use crate::faults::Elsewhere;
+use crate::log::Log;
+use crate::shown::Shown;
+use gate_config::Config;
+use gate_core::{Answer, RunReport, Step, World, report_text, show_text};
+use gate_record::{Memory, PipelineId, TenantId};
+use std::alloc::{AllocError, Global};
+
+const CALL: &str = "gate_core World::step";
+
+// Beyond so many steps none is taken, so that each record that is offered has a number.
+const MOST: u64 = 1_000_000;
+
+/// A world, and how many steps were tried.
+#[derive(Drop)]
+pub(crate) struct Played<'c> {
+    alloc: Global,
+    config: &'c Config,
+    world: World<'c>,
+    steps: u64,
+    ghost counts: { AcceptedAtMost steps (state_of world) },
+}
+
+impl<'c> Played<'c> {
+    pub(crate) fn new(alloc: Global, config: &'c Config) -> Result<Played<'c>, Memory> {
+        Ok(Played {
+            alloc,
+            config,
+            world: World::new(alloc, config)?,
+            steps: 0,
+        })
+    }
+
+    /// Takes a step, and once more where memory is refused to it; then tells what it answers, and what the world says.
+    pub(crate) fn take(&mut self, log: &mut Log, step: Step) -> Result<(), Elsewhere> {
+        let alloc = self.alloc;
+        let again = log.made("gate_core Step::copy", || step.copy(alloc))?;
+        log.see_before(self);
+        match self.step(step) {
+            Ok(answer) => self.tell(log, &answer),
+            Err(Memory) => self.take_again(log, again),
+        }
+    }
+
+    fn take_again(&mut self, log: &mut Log, step: Step) -> Result<(), Elsewhere> {
+        log.tell_refused(CALL);
+        log.see_after(CALL, self);
+        match self.step(step) {
+            Ok(answer) => self.tell(log, &answer),
+            Err(Memory) => {
+                log.tell_again(CALL, true);
+                Err(Elsewhere)
+            }
+        }
+    }
+
+    fn step(&mut self, step: Step) -> Result<Answer, Memory> {
+        if self.steps >= MOST {
+            return Err(Memory);
+        }
+        let answer = self.world.step(step);
+        self.steps += 1;
+        answer
+    }
+
+    fn tell(&self, log: &mut Log, answer: &Answer) -> Result<(), Elsewhere> {
+        write!(log.told, "{answer:?}\n")?;
+        tell_report(log, self.alloc, self.config, &self.world)?;
+        tell_items(log, self.alloc, &self.world, PipelineId(0))?;
+        tell_items(log, self.alloc, &self.world, PipelineId(1))
+    }
+}
+
+fn tell_report(
+    log: &mut Log,
+    alloc: Global,
+    config: &Config,
+    world: &World<'_>,
+) -> Result<(), Elsewhere> {
+    let report = log.made("gate_core World::report", || world.report())?;
+    tell_text(log, alloc, config, &report)
+}
+
+fn tell_text(
+    log: &mut Log,
+    alloc: Global,
+    config: &Config,
+    report: &RunReport,
+) -> Result<(), Elsewhere> {
+    let text = log.made(
+        "gate_core report_text",
+        || report_text(alloc, config, report),
+    )?;
+    Ok(log.told.push_str(text.as_str())?)
+}
+
+fn tell_items(
+    log: &mut Log,
+    alloc: Global,
+    world: &World<'_>,
+    pipeline: PipelineId,
+) -> Result<(), Elsewhere> {
+    let call = "gate_core show_text";
+    let text = log.made(call, || show_text(alloc, world, TenantId(0), pipeline))?;
+    Ok(log.told.push_str(text.as_str())?)
+}
+
+// What the world says: its report, and the items of both pipelines.
+impl<'c> Shown for Played<'c> {
+    fn show(&self, text: &mut String) -> Result<(), AllocError> {
+        match push_world(text, self.alloc, &self.world) {
+            Ok(()) => Ok(()),
+            Err(Memory) => Err(AllocError),
+        }
+    }
+}
+
+fn push_world(text: &mut String, alloc: Global, world: &World<'_>) -> Result<(), Memory> {
+    write!(text, "{:?}\n", world.report()?)?;
+    push_items(text, alloc, world, PipelineId(0))?;
+    push_items(text, alloc, world, PipelineId(1))
+}
+
+fn push_items(
+    text: &mut String,
+    alloc: Global,
+    world: &World<'_>,
+    pipeline: PipelineId,
+) -> Result<(), Memory> {
+    let items = show_text(alloc, world, TenantId(0), pipeline)?;
+    Ok(text.push_str(items.as_str())?)
+}

@@ -1,0 +1,99 @@
+//! Steps of a world, each kind of them, and what it says.
+use crate::configurations::{PLAIN, config_of};
+use crate::faults::Elsewhere;
+use crate::log::Log;
+use crate::played::Played;
+use gate_config::Config;
+use gate_core::{Scripted, read_script};
+use gate_record::Queue;
+use std::alloc::Global;
+
+// Each kind of step, and steps that find nothing to do.
+const SCRIPT: &str = r#"
+offer 0 {"type":"patchset-created","change":{"project":"demo","branch":"master","number":7},"patchSet":{"number":1}}
+offer 0 {"type":"ref-updated","refUpdate":{"project":"demo","refName":"refs/heads/main","newRev":"2e9c"}}
+offer 1 {"type":"comment-added","change":{"project":"demo","branch":"master","number":8},"patchSet":{"number":2}}
+offer 9 nothing
+take 0
+send 0
+take 0
+send 0
+take 1
+send 1
+send 1
+fetch 0 2
+fetch 0 2
+match 0
+give 0
+give 0
+give 0
+give 0
+give 0
+turn 0 0
+turn 0 0
+turn 0 0
+turn 0 0
+turn 0 0
+turn 0 1
+turn 0 1
+turn 0 1
+turn 0 1
+reset 0 0 change 0 7
+reset 0 0 ref 0 2e9c refs/heads/main demo
+dequeue 0 1 ref 0 2e9c refs/heads/main demo
+result 0 0 3 success unit
+result 0 0 3 success lint
+turn 0 0
+turn 0 0
+turn 0 0
+turn 0 0
+turn 0 0
+turn 0 0
+turn 0 1
+turn 0 1
+close 0
+close 1
+offer 0 late
+take 0
+send 0
+take 1
+send 1
+fetch 0 9
+match 0
+give 0
+give 0
+turn 0 0
+turn 0 0
+turn 0 0
+"#;
+
+pub(crate) fn run(log: &mut Log, alloc: Global) -> Result<(), Elsewhere> {
+    let config = config_of(log, alloc, PLAIN)?;
+    let call = "gate_core read_script";
+    let mut script = log.made(call, || read_script(alloc, SCRIPT.as_bytes()))?;
+    play(log, alloc, &config, &mut script)
+}
+
+fn play(
+    log: &mut Log,
+    alloc: Global,
+    config: &Config,
+    script: &mut Queue<Scripted>,
+) -> Result<(), Elsewhere> {
+    let mut played = log.made("gate_core World::new", || Played::new(alloc, config))?;
+    for _ in 0..script.len() {
+        play_next(log, &mut played, script)?;
+    }
+    Ok(())
+}
+
+fn play_next(
+    log: &mut Log,
+    played: &mut Played<'_>,
+    script: &mut Queue<Scripted>,
+) -> Result<(), Elsewhere> {
+    match script.pop() {
+        Some(Scripted::Step(step)) => played.take(log, step),
+        _ => Ok(()),
+    }
+}
