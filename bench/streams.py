@@ -1,0 +1,110 @@
+"""The streams, the configuration and the sessions of the port that `bench/load` and `bench/soak` have, with the plain filter that says
+what each pipeline is to process."""
+import json
+import os
+import socket
+import time
+from pathlib import Path
+
+ROOT = Path(__file__).resolve().parent.parent
+PROGRAM = str(Path(os.environ.get("GATE") or ROOT / "crates/gate_main/out/gate_main").resolve())
+SIZE = 2048
+SECONDS = 120
+
+CONNECTIONS = [f"gerrit{number:02}" for number in range(16)]
+TENANTS = {"north": "ab", "east": "bc", "south": "cd", "west": "da"}   # the projects of each; nobody lists `e`
+PIPELINES = {
+    "check": ("independent", ["build"], {"event": "patchset-created"}),
+    "gate": ("dependent", ["build"], {"event": "comment-added", "branch": "master"}),
+    "post": ("independent", [], {"event": "change-merged"}),
+    "stable": ("independent", ["build"], {"event": ["patchset-created", "comment-added"], "branch": "stable/"}),
+}
+
+
+def fields(connection, number):
+    """The type, project and branch of a record."""
+    turn = connection + number
+    kind = ("patchset-created", "comment-added", "patchset-created", "change-merged")[turn % 4]
+    return kind, "abcde"[turn % 5], "stable/1" if turn % 3 == 0 else "master"
+
+
+def is_wanted(pipeline, kind, branch):
+    """The plain filter: whether the rule of a pipeline selects such a record."""
+    return {
+        "check": kind == "patchset-created",
+        "gate": kind == "comment-added" and branch == "master",
+        "post": kind == "change-merged",
+        "stable": kind in ("patchset-created", "comment-added") and branch == "stable/1",
+    }[pipeline]
+
+
+def wanted(tenant, pipeline, records):
+    """The numbers of the records that a pipeline is to process, connection by connection."""
+    numbers = []
+    for connection in range(len(CONNECTIONS)):
+        some = []
+        for number in range(records):
+            kind, project, branch = fields(connection, number)
+            if project in TENANTS[tenant] and is_wanted(pipeline, kind, branch):
+                some.append(number)
+        numbers.append(some)
+    return numbers
+
+
+def config():
+    source = {name: {"untrusted-projects": []} for name in CONNECTIONS}
+    items = []
+    for pipeline, (manager, _, rule) in PIPELINES.items():
+        items.append({"pipeline": {"name": pipeline, "manager": manager, "trigger": {name: [rule] for name in CONNECTIONS}}})
+    for project in "abcd":
+        items.append({"project": {"name": project, **{name: {"jobs": jobs} for name, (_, jobs, _) in PIPELINES.items()}}})
+    tenants = []
+    for tenant, projects in TENANTS.items():
+        tenants.append({"name": tenant, "source": {name: {"untrusted-projects": list(projects)} for name in source}})
+    return {"tenants": tenants, "config": {tenant: items for tenant in TENANTS}}
+
+
+def record(connection, number):
+    kind, project, branch = fields(connection, number)
+    change = f'"change":{{"project":"{project}","branch":"{branch}","number":{number}}},"patchSet":{{"number":1}}'
+    people = '"uploader":{"username":"ada"},"author":{"username":"ada"},"submitter":{"username":"zuul"}'
+    return f'{{"type":"{kind}",{change},{people},"eventCreatedOn":1676467816,"comment":"'.ljust(SIZE - 3, "x") + '"}\n'
+
+
+def connect(port, until):
+    """A connection to a status port: a TCP port's number, or the path of a Unix socket. It is tried until then."""
+    while True:
+        try:
+            if isinstance(port, int):
+                return socket.create_connection(("127.0.0.1", port), timeout=SECONDS)
+            peer = socket.socket(socket.AF_UNIX)
+            peer.settimeout(SECONDS)
+            peer.connect(str(port))
+            return peer
+        except OSError:
+            if time.monotonic() > until:
+                raise
+            time.sleep(0.01)
+
+
+def session(port, until, *lines):
+    """A session that sends all of these, and the lines of its replies."""
+    with connect(port, until) as peer, peer.makefile("rb") as replies:
+        peer.sendall(b"".join(line + b"\n" for line in lines))
+        return replies.read().decode().splitlines()
+
+
+def counts(line):
+    """How many records, items and reports a line of `status` counts."""
+    return [int(word) for word in line.split()[4:9:2]]
+
+
+def posts(status, chance):
+    """A result of some build set for each pipeline that has any."""
+    lines = []
+    for place, line in enumerate(status):
+        _, items, reports = counts(line)
+        if items + reports:
+            how = "failure" if chance.randrange(7) == 0 else "success"
+            lines.append(f"result {place // len(PIPELINES)} {place % len(PIPELINES)} {chance.randrange(items + reports)} {how} build\n")
+    return lines
