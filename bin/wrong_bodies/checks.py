@@ -91,9 +91,10 @@ def end(pid):
         os.kill(pid, signal.SIGKILL)
 
 
-def check(crate, texts, kept):
+def check(crate, texts, kept, until=None):
     """Checks a copy of the crate with these texts, over what kept holds if it is given. Once each function's verdict is
-    printed and one isn't proved the check is ended: lines to start proofs with, which follow, take half as long again."""
+    printed and one isn't proved the check is ended: lines to start proofs with, which follow, take half as long again. Where it
+    isn't done by then, it is ended, too, and there is nothing to return."""
     with tempfile.TemporaryDirectory(prefix="wrong-bodies-") as room:
         for part in filter(lambda it: os.path.isdir(f"{crate.folder}/{it}"), rtlib.PARTS):
             shutil.copytree(f"{crate.folder}/{part}", f"{room}/{part}")
@@ -109,6 +110,9 @@ def check(crate, texts, kept):
                 time.sleep(0.2)
                 has_verdicts = "stage lines " in (rtlib.text_of(f"{room}/stages") or "")
                 is_cut = has_verdicts and bool(UNPROVED.search(rtlib.text_of(f"{room}/said")))
+                if until is not None and time.monotonic() > until:
+                    end(ran.pid)
+                    return None
             if is_cut:
                 end(ran.pid)
         return Said(rtlib.text_of(f"{room}/said"), is_cut)

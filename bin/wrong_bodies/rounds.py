@@ -16,6 +16,8 @@ printing = threading.Lock()
 # Checks go side by side, whichever crate they are of: one a processor, each with one job. With more, or over nothing that was
 # kept, copies of rattle try failing proofs first, and then it tries them again.
 slots = Slots(rt.processors())
+# How many seconds before the time is up the last check of wrong bodies may begin.
+LAST = 480
 # The fewest and the most wrong bodies of a round, where there are as many: a third of a round of twelve goes into reading the
 # libraries, and rounds go side by side.
 FEWEST, MOST = 6, 24
@@ -37,7 +39,7 @@ class Judging:
     def __init__(self, crate, is_anew=False, until=None):
         self.crate, self.name, self.sources, self.kept = crate, crate.name, Sources(crate), Kept(crate, is_anew)
         self.lines = crate.count(b"\n")
-        # When the last check of wrong bodies may begin, by the monotonic clock, and how many were put off then.
+        # When all checks of wrong bodies have to be done, by the monotonic clock, and how many of them were put off for that.
         self.until, self.put_off = until, 0
         # The crate's functions, by their names in a check.
         self.named = []
@@ -58,7 +60,8 @@ class Judging:
         return self.lines * (20 + sum(it.name not in self.verdicts for it in self.sources.bodies))
 
     def is_late(self):
-        return self.until is not None and time.monotonic() > self.until
+        """Whether it is too late to begin a check of wrong bodies."""
+        return self.until is not None and time.monotonic() > self.until - LAST
 
     def note(self, text):
         """Tells on standard error how the work goes."""
@@ -96,7 +99,10 @@ class Judging:
         controls = self.sources.controls
         if not controls or not all(it.is_inside for it in controls):
             return self.tell("control", "FAILED", "there is no control-NAME.edit that changes the inside of one function")
-        said = self.check([])
+        said = self.check([], in_time=True)
+        if said is None:
+            self.put_off += len(self.sources.bodies)
+            return
         if not said.is_proved:
             return self.tell("control", "FAILED", "the crate itself isn't proved")
         self.named = [*said.functions]
@@ -111,7 +117,7 @@ class Judging:
                 waiting += later
         for _ in self.pool.map(self.judge_alone, alone):
             pass
-        if not self.check([]).is_proved:
+        if self.verdicts and not self.check([]).is_proved:
             return self.tell("control", "FAILED", "the crate itself isn't proved over what was kept, so the rounds show nothing")
         if self.is_controlled is not False:
             judged = [(it, *self.verdicts[it.name]) for it in self.sources.bodies if it.name in self.verdicts]
@@ -141,9 +147,11 @@ class Judging:
         bodies = [*self.sources.controls, *batch]
         said = self.check(bodies, in_time=True)
         if said is None:
+            self.put_off += len(batch)
             return []
         why_not = self.why_not(bodies, said)
         if why_not and not self.holds_control():
+            self.put_off += len(batch) if self.is_controlled is None else 0
             return []
         if why_not and len(batch) == 1:
             alone += batch
@@ -155,32 +163,35 @@ class Judging:
         return [it for it in batch if self.is_for_later(it, said, alone)]
 
     def holds_control(self):
-        """Whether the crate is proved with its control, as it is to be; it is tried once a round shows nothing."""
+        """Whether the crate is proved with its control, as it is to be; it is tried once a round shows nothing. Where there is
+        no time for that it stays unknown."""
         with self.asking:
             if self.is_controlled is None:
-                self.is_controlled = self.check(self.sources.controls).is_proved
-                if not self.is_controlled:
+                said = self.check(self.sources.controls, in_time=True)
+                self.is_controlled = said and said.is_proved
+                if self.is_controlled is False:
                     why = "the crate isn't proved with it, so no round shows anything"
                     self.tell(self.sources.controls[0].name, "FAILED", why)
             return self.is_controlled
 
     def check(self, bodies, over_kept=True, in_time=False):
         """Checks the crate with these bodies, over a copy of what the check of the crate itself kept, so that none of them
-        leaves anything behind. That check is the first one. One that has to begin in time is put off where it is too late then."""
+        leaves anything behind. That check is the first one. Where it has to be done in time there may be nothing to return: it
+        isn't begun late, and ended when the time is up."""
         texts = {file: data.decode() for file, data in self.sources.edited(bodies).items()}
         for it in bodies:
             texts.update(it.proofs)
         kept = f"{self.room}/kept"
         with slots.one(self.urgency()), tempfile.TemporaryDirectory(dir=self.room) as copy:
             if in_time and self.is_late():
-                self.put_off += sum(it not in self.sources.controls for it in bodies)
                 return None
             start = time.monotonic()
             if bodies and over_kept:
                 kept = shutil.copytree(kept, f"{copy}/kept")
-            said = check(self.crate, texts, kept if over_kept else None)
+            said = check(self.crate, texts, kept if over_kept else None, self.until if in_time else None)
             took = time.monotonic() - start
-        self.note(f"{took:.0f} s for {', '.join(it.name for it in bodies) or 'the crate itself'}")
+        how = "s for" if said else "s, and not to its end, for"
+        self.note(f"{took:.0f} {how} {', '.join(it.name for it in bodies) or 'the crate itself'}")
         return said
 
     def symbol(self, function):
@@ -257,19 +268,21 @@ class Judging:
         self.tell(body.name, "weak", f"{name}: {about} (`{goal}`)")
 
     def judge_alone(self, body):
-        said = self.check([body], in_time=True)
-        if said is None:
-            return
-        while said.is_judged and not said.is_proved and body.tries < 8 and self.drop_stale(body, said):
+        said = self.check_alone(body)
+        while said and said.is_judged and not said.is_proved and body.tries < 8 and self.drop_stale(body, said):
             body.tries += 1
-            said = self.check([body])
+            said = self.check_alone(body)
+        from_nothing = said and said.is_proved and self.check_alone(body, over_kept=False)
+        if said is None or from_nothing is None:
+            self.put_off += 1
+            return
         fell = self.fell(body, said)
         words = next((it.words for it in fell.values() if not it.falls_through_callees()), None)
         if any(map(body.failed, fell.values())):
             self.tell_refused(body, fell)
         elif not said.is_judged:
             self.tell(body.name, "FAILED", f"the prover can't read the edited text: {said.first_error()}")
-        elif said.is_proved and self.check([body], over_kept=False).is_proved:
+        elif said.is_proved and from_nothing.is_proved:
             self.tell(body.name, "FAILED", "the crate is still proved with it")
         elif said.is_proved:
             self.tell(body.name, "FAILED", "the crate is proved with it over what was kept, and not from nothing")
@@ -279,3 +292,6 @@ class Judging:
             self.tell(body.name, "FAILED", f"no goal of its own failed: {said.first_error()}")
         else:
             self.tell(body.name, "weak", words[:200])
+
+    def check_alone(self, body, over_kept=True):
+        return self.check([body], over_kept, in_time=True)
