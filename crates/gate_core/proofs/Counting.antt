@@ -1,6 +1,7 @@
 -- A step accepts at most one record more.
 use Rattle.std.proofs.Common.{◌≡◌, ◌∙◌, refl, sym, ap, subst, ℕ, ◌+◌, ◌≤◌, List, [], ◌∷◌, ◌++◌, Bool, true, false, length, Option, Some, None, Result, Ok, Err, arith, slice_set, if◌then◌else◌}
 use Rattle.std.specs.Prelude.{nat_lt, slice_get}
+use Rattle.gate_record.specs.declared.ids.PipelineId.{PipelineId}
 use Rattle.gate_record.specs.declared.ids.TenantId.{TenantId}
 use Rattle.gate_record.specs.declared.memory.Memory.{Memory}
 use Rattle.gate_record.specs.declared.record.Record.{Record}
@@ -13,8 +14,9 @@ use Rattle.gate_core.specs.declared.answer.Answer.TheVariants.{Accepted, Closed,
 use Rattle.gate_core.specs.declared.step.Step.{Step}
 use Rattle.gate_core.specs.declared.step.Step.TheVariants as step
 use Rattle.gate_core.specs.Answers.{Does}
+use Rattle.gate_core.specs.History.{turn_of}
 use Rattle.gate_core.specs.States.{ConnectionState, State, TenantState}
-use Rattle.gate_core.specs.Steps.{close, offer, refused_in, refused_step, send_from, send_of, send_to, step_of, take, take_from, with_connection, with_tenant}
+use Rattle.gate_core.specs.Steps.{close, offer, refused_in, refused_step, refused_turn_of, send_from, send_of, send_to, step_of, take, take_from, with_connection, with_tenant}
 use Rattle.gate_core.specs.Worlds.{AcceptedAtMost}
 use Rattle.gate_core.proofs.Spots.{AfterSet, after_set, another, it}
 use Rattle.gate_core.proofs.Working.{the_same}
@@ -78,9 +80,13 @@ module _ (n : ℕ) (state : State) (few : AcceptedAtMost n state) where
   inside move t None = no_more
   inside move t (Some ten) = no_more
 
-  refused : (t p : ℕ) (o : Option TenantState) → AcceptedAtMost (n + 1) (refused_in t p o state)
-  refused t p None = no_more
-  refused t p (Some ten) = no_more
+  refused_turn : (t p : ℕ) (o : Option TenantState) → AcceptedAtMost (n + 1) (refused_in t p o state)
+  refused_turn t p None = no_more
+  refused_turn t p (Some ten) = no_more
+
+  refused : (at : Option (TenantId × PipelineId)) → AcceptedAtMost (n + 1) (refused_turn_of at state)
+  refused None = no_more
+  refused (Some at) = refused_turn at.0.0 at.1.0 (slice_get state.tenants at.0.0)
 
   step_counts : (config : Config) (s : Step) → AcceptedAtMost (n + 1) (step_of config state s).0
   step_counts config (step.Offer c line) = moves (offer line) (λ k. offers line k k.closed (nat_lt (length k.queue) 4096)) c.0 (slice_get state.connections c.0) refl
@@ -94,20 +100,8 @@ module _ (n : ℕ) (state : State) (few : AcceptedAtMost n state) where
   step_counts config (step.PostResult t p r) = inside _ t.0 (slice_get state.tenants t.0)
   step_counts config (step.Turn t p) = inside _ t.0 (slice_get state.tenants t.0)
 
-  refused_counts : (s : Step) → AcceptedAtMost (n + 1) (refused_step state s)
-  refused_counts (step.Turn t p) = refused t.0 p.0 (slice_get state.tenants t.0)
-  refused_counts (step.Offer c line) = no_more
-  refused_counts (step.Close c) = no_more
-  refused_counts (step.Take c) = no_more
-  refused_counts (step.Send c) = no_more
-  refused_counts (step.Fetch t count) = no_more
-  refused_counts (step.Match t) = no_more
-  refused_counts (step.Give t) = no_more
-  refused_counts (step.PostManage t p m) = no_more
-  refused_counts (step.PostResult t p r) = no_more
-
 -- whatever a step that was done or refused leaves
 pub one_more : (config : Config) (state : State) (s : Step) (next : State) (result : Result Answer Memory) → Does (refused_step state s) (step_of config state s) next result →
     (n : ℕ) → AcceptedAtMost n state → AcceptedAtMost (n + 1) next
 one_more config state s next (Ok answer) does n few = subst (λ (after : State × Answer). AcceptedAtMost (n + 1) after.0) (sym does) (step_counts n state few config s)
-one_more config state s next (Err memory) does n few = subst (AcceptedAtMost (n + 1)) (sym does.0) (refused_counts n state few s)
+one_more config state s next (Err memory) does n few = subst (AcceptedAtMost (n + 1)) (sym does.0) (refused n state few (turn_of s))

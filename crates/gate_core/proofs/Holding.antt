@@ -18,11 +18,11 @@ use Rattle.gate_core.specs.declared.pipeline.Pipeline.{Pipeline}
 use Rattle.gate_core.specs.declared.step.Step.{Step}
 use Rattle.gate_core.specs.declared.step.Step.TheVariants as step
 use Rattle.gate_core.specs.Chains.{Attempt, IsChain, IsNext, answered_history, left_behind}
-use Rattle.gate_core.specs.History.{is_turn, turned_in}
+use Rattle.gate_core.specs.History.{is_turn, turn_of, turned_in}
 use Rattle.gate_core.specs.History.{processed as processed_by, turned as turned_of}
 use Rattle.gate_core.specs.Pipelines.{Found, answer_of, found, found_where, holding, post_manage, post_result, refused, refused_by, turned, turned_by}
 use Rattle.gate_core.specs.States.{ConnectionState, State, TenantState, pipeline_at, with_gathered}
-use Rattle.gate_core.specs.Steps.{close, fetch, fetched, give, give_from, give_to, match_from, match_gathered, offer, on_pipeline, refused_in, refused_step, send_from, send_of, send_to, step_of, take, with_connection, with_pipeline, with_refused, with_tenant}
+use Rattle.gate_core.specs.Steps.{close, fetch, fetched, give, give_from, give_to, match_from, match_gathered, offer, on_pipeline, refused_in, refused_step, refused_turn_of, send_from, send_of, send_to, step_of, take, with_connection, with_pipeline, with_refused, with_tenant}
 use Rattle.gate_core.proofs.Spots.{AfterSet, after_set, another, it}
 use Rattle.gate_core.proofs.Arrivals.{same_as_itself}
 use Rattle.gate_core.proofs.Working.{the_same}
@@ -308,17 +308,9 @@ module _ (config : Config) (state : State) (waits : Held) (w : Worker) (held : w
     turn_stays u q true e = this_stays u q (both_are u.0 t q.0 p (u.0 == t) (q.0 == p) refl refl e)
     turn_stays u q false e = other_stays u.0 q.0 (not_this config state t p u q e) (slice_get state.tenants u.0) refl
 
-    refused_leaves : (s : Step) → worker_at t p (refused_step state s) ≡ worker_at t p state
-    refused_leaves (step.Offer c line) = refl
-    refused_leaves (step.Close c) = refl
-    refused_leaves (step.Take c) = refl
-    refused_leaves (step.Send c) = refl
-    refused_leaves (step.Fetch u n) = refl
-    refused_leaves (step.Match u) = refl
-    refused_leaves (step.Give u) = refl
-    refused_leaves (step.PostManage u q m) = refl
-    refused_leaves (step.PostResult u q r) = refl
-    refused_leaves (step.Turn u q) = turn_stays u q (is_turn t p (step.Turn u q)) refl
+    refused_leaves : (at : Option (TenantId × PipelineId)) → worker_at t p (refused_turn_of at state) ≡ worker_at t p state
+    refused_leaves None = refl
+    refused_leaves (Some (u, q)) = turn_stays u q (is_turn t p (step.Turn u q)) refl
 
 -- a chain of attempts
 module _ (config : Config) (t p : ℕ) (waits : Held) (w : Worker) (held : w.held ≡ Some waits) where
@@ -348,7 +340,7 @@ module _ (config : Config) (t p : ℕ) (waits : Held) (w : Worker) (held : w.hel
       IsNext waits first_one (turned_of t p (answered_history attempts)) (pipeline_at t p (left_behind state attempts))
   held_first state there [] chain = still_held (slice_get state.tenants t) there
   held_first state there ((s, Err memory, next) ∷ attempts) chain =
-      held_first next (ap (worker_at t p) chain.0 ∙ refused_leaves config state waits w held t p there s ∙ there) attempts chain.1
+      held_first next (ap (worker_at t p) chain.0 ∙ refused_leaves config state waits w held t p there (turn_of s) ∙ there) attempts chain.1
   held_first state there ((s, Ok answer, next) ∷ attempts) chain =
       after_answer (pipeline_at t p (left_behind next attempts)) state there s answer next (turned_of t p (answered_history attempts))
       (subst (Goes state t p first_one s) (sym chain.0) (goes config state waits w held t p there s)) (λ still. held_first next still attempts chain.1)

@@ -16,11 +16,10 @@ use Rattle.gate_pipeline.specs.declared.which.Which.TheVariants as which
 use Rattle.gate_pipeline.specs.States.{Processed, held_as, queue_of}
 use Rattle.gate_core.specs.declared.pipeline.Pipeline.{Pipeline}
 use Rattle.gate_core.specs.declared.step.Step.{Step}
-use Rattle.gate_core.specs.declared.step.Step.TheVariants as step
-use Rattle.gate_core.specs.History.{History}
+use Rattle.gate_core.specs.History.{History, turn_of}
 use Rattle.gate_core.specs.Pipelines.{first_ended, first_managed, first_triggered, found_where, holding, refused, refused_by}
 use Rattle.gate_core.specs.States.{State, TenantState}
-use Rattle.gate_core.specs.Steps.{refused_in, refused_step, with_refused}
+use Rattle.gate_core.specs.Steps.{refused_in, refused_step, refused_turn_of, with_refused}
 use Rattle.gate_core.proofs.AllSteps.{set_same}
 use Rattle.gate_core.proofs.Fits.{PipeFits, holds_ended, holds_event, holds_managed}
 use Rattle.gate_core.proofs.Streams.{ConnSame, Holds, PipeSame}
@@ -83,15 +82,10 @@ module _ (config : Config) (h : History) (state : State) (holds : Holds config h
   turn_refused tid pid None at = holds
   turn_refused tid pid (Some ten) at = pipe_refused tid pid ten at (slice_get ten.pipelines pid.0) refl
 
+  refused_turn : (at : Option (TenantId × PipelineId)) → Holds config h (refused_turn_of at state)
+  refused_turn None = holds
+  refused_turn (Some (tid, pid)) = turn_refused tid pid (slice_get state.tenants tid.0) refl
+
 -- what holds, holds where a step is refused memory
 pub refused_holds : (config : Config) (h : History) (state : State) (s : Step) → Holds config h state → Holds config h (refused_step state s)
-refused_holds config h state (step.Turn tid pid) holds = turn_refused config h state holds tid pid (slice_get state.tenants tid.0) refl
-refused_holds config h state (step.Offer d line) holds = holds
-refused_holds config h state (step.Close d) holds = holds
-refused_holds config h state (step.Take d) holds = holds
-refused_holds config h state (step.Send d) holds = holds
-refused_holds config h state (step.Fetch tid n) holds = holds
-refused_holds config h state (step.Match tid) holds = holds
-refused_holds config h state (step.Give tid) holds = holds
-refused_holds config h state (step.PostManage tid pid m) holds = holds
-refused_holds config h state (step.PostResult tid pid r) holds = holds
+refused_holds config h state s holds = refused_turn config h state holds (turn_of s)

@@ -6,7 +6,6 @@ use Rattle.gate_config.specs.declared.config.Config.{Config}
 use Rattle.gate_forward.specs.Histories.{EachTenantGetsItsOwn}
 use Rattle.gate_core.specs.declared.answer.Answer.{Answer}
 use Rattle.gate_core.specs.declared.step.Step.{Step}
-use Rattle.gate_core.specs.declared.step.Step.TheVariants as step
 use Rattle.gate_core.specs.History.{History, accepted, accepted_in}
 use Rattle.gate_core.specs.Promises.{AnswersRightly, Delivers, EveryRunDelivers, Keeps, Processes}
 use Rattle.gate_core.specs.Reports.{report_after, report_of}
@@ -80,16 +79,7 @@ has_number config answers state left rest all s total limit front below runs c c
 
 -- so each step finds the number that it asks for
 pub finds_number : (state : State) (s : Step) → ((c : ℕ) (conn : ConnectionState) → slice_get state.connections c ≡ Some conn → conn.accepted + 1 < 18446744073709551616) → HasNumber state s
-finds_number state (step.Offer c line) numbers = numbers c.0
-finds_number state (step.Close c) numbers = tt
-finds_number state (step.Take c) numbers = tt
-finds_number state (step.Send c) numbers = tt
-finds_number state (step.Fetch t count) numbers = tt
-finds_number state (step.Match t) numbers = tt
-finds_number state (step.Give t) numbers = tt
-finds_number state (step.PostManage t p manage) numbers = tt
-finds_number state (step.PostResult t p ended) numbers = tt
-finds_number state (step.Turn t p) numbers = tt
+finds_number state s numbers c line conn offered at = numbers c conn at
 
 -- ---- where nothing is left, the run is whole
 

@@ -1,23 +1,24 @@
 -- Steps of a world, by what one of its connections or one of its tenants does.
 use Rattle.std.proofs.Common.{◌≡◌, ◌∙◌, sym, ap, subst, ℕ, List, map, Some, None, Result, Ok, Err, slice_set}
-use Rattle.std.specs.Prelude.{slice_get}
+use Rattle.std.specs.Prelude.{option_and_then, slice_get}
 use Rattle.std.proofs.lemmas.List.{map-set}
-use Rattle.gate_record.specs.declared.ids.PipelineId.{PipelineId}
-use Rattle.gate_record.specs.declared.ids.TenantId.{TenantId}
 use Rattle.gate_record.specs.declared.memory.Memory.{Memory}
 use Rattle.gate_config.specs.declared.config.Config.{Config}
 use Rattle.gate_core.specs.declared.answer.Answer.{Answer}
 use Rattle.gate_core.specs.declared.answer.Answer.TheVariants.{Idle}
 use Rattle.gate_core.specs.declared.connection.Connection.{Connection}
 use Rattle.gate_core.specs.declared.tenant.Tenant.{Tenant}
-use Rattle.gate_core.specs.declared.step.Step.TheVariants as step
+use Rattle.gate_core.specs.declared.pipeline.Pipeline.{Pipeline}
+use Rattle.gate_core.specs.declared.pipeline.PipelineStep.{PipelineStep}
+use Rattle.gate_core.specs.declared.pipeline.PipelineStep.TheVariants.{PostManage, PostResult, Turn}
 use Rattle.gate_core.specs.Answers.{Does, Changes}
 use Rattle.gate_core.specs.Sends.{Sends, state}
-use Rattle.gate_core.specs.States.{ConnectionState, TenantState}
-use Rattle.gate_core.specs.Pipelines.{turned}
-use Rattle.gate_core.specs.Steps.{on_connection, on_pipeline, on_tenant, refused_in, refused_step, refused_turn, send, send_of, with_connection, with_tenant}
+use Rattle.gate_core.specs.States.{ConnectionState, State, TenantState, pipeline_at}
+use Rattle.gate_core.specs.Pipelines.{pipeline_step, post_manage, post_result, refused_step, turned}
+use Rattle.gate_core.specs.Steps.{on_connection, on_pipeline, on_tenant, refused_at, refused_in, refused_turn, send, send_of, with_connection, with_tenant}
 use Rattle.gate_core.specs.Views.{AreConnections, AreTenants, IsConnection, IsTenant, config_of_connection, config_of_tenant, connection_view, number_of_connection, number_of_tenant, tenant_view}
 use Rattle.gate_core.proofs.Elements.{each_set, seen, seen_same, unseen}
+use Rattle.gate_core.proofs.Tenants.{posts, turns}
 
 -- a fact at the configuration and the number that a worker has is one at the world's
 pub known : (P : Config → ℕ → Type 0) (config config' : Config) (n n' : ℕ) → (config ≡ config') × (n ≡ n') → P config n → P config' n'
@@ -72,20 +73,36 @@ module _ (move : TenantState → TenantState × Answer) (t : ℕ) (conns : List 
   tenant_idles gone = sym (ap (λ o. with_tenant move t o (state conns (map tenant_view tenants))) (unseen tenant_view tenants t gone))
 
 -- a turn of one of its pipelines, which may leave something held
-pub tenant_turns : (config : Config) (t : TenantId) (p : PipelineId) (conns : List ConnectionState) (tenants : List Tenant) (old new : Tenant) (result : Result Answer Memory) → slice_get tenants t.0 ≡ Some old →
-    Does (refused_turn p.0 (tenant_view old)) (on_pipeline (turned config) p.0 (tenant_view old)) (tenant_view new) result →
-    Does (refused_step (state conns (map tenant_view tenants)) (step.Turn t p)) (on_tenant (on_pipeline (turned config) p.0) t.0 (state conns (map tenant_view tenants))) (state conns (map tenant_view (slice_set tenants t.0 new))) result
-tenant_turns config t p conns tenants old new (Ok answer) at does = tenant_does (on_pipeline (turned config) p.0) t.0 conns tenants old new (Ok answer) at does
-tenant_turns config t p conns tenants old new (Err memory) at does = (
-  ap (state conns) (map-set tenant_view tenants t.0 new ∙ ap (slice_set (map tenant_view tenants) t.0) does.0)
-      ∙ sym (ap (λ o. refused_in t.0 p.0 o (state conns (map tenant_view tenants))) (seen tenant_view tenants t.0 old at)),
-  subst Changes (sym (tenant_answers (on_pipeline (turned config) p.0) t.0 conns tenants old at)) does.1,
+turn_does : (config : Config) (t p : ℕ) (conns : List ConnectionState) (tenants : List Tenant) (old new : Tenant) (result : Result Answer Memory) → slice_get tenants t ≡ Some old →
+    Does (refused_turn p (tenant_view old)) (on_pipeline (turned config) p (tenant_view old)) (tenant_view new) result →
+    Does (refused_at Turn t p (state conns (map tenant_view tenants))) (on_tenant (on_pipeline (turned config) p) t (state conns (map tenant_view tenants))) (state conns (map tenant_view (slice_set tenants t new))) result
+turn_does config t p conns tenants old new (Ok answer) at does = tenant_does (on_pipeline (turned config) p) t conns tenants old new (Ok answer) at does
+turn_does config t p conns tenants old new (Err memory) at does = (
+  ap (state conns) (map-set tenant_view tenants t new ∙ ap (slice_set (map tenant_view tenants) t) does.0)
+      ∙ sym (ap (λ o. refused_in t p o (state conns (map tenant_view tenants))) (seen tenant_view tenants t old at)),
+  subst Changes (sym (tenant_answers (on_pipeline (turned config) p) t conns tenants old at)) does.1,
 )
 
--- a turn in a tenant that isn't there
-pub refused_idles : (t : TenantId) (p : PipelineId) (conns : List ConnectionState) (tenants : List Tenant) → slice_get tenants t.0 ≡ None →
-    state conns (map tenant_view tenants) ≡ refused_step (state conns (map tenant_view tenants)) (step.Turn t p)
-refused_idles t p conns tenants gone = sym (ap (λ o. refused_in t.0 p.0 o (state conns (map tenant_view tenants))) (unseen tenant_view tenants t.0 gone))
+module _ (config : Config) (t p : ℕ) (conns : List ConnectionState) (tenants : List Tenant) where
+  abbrev before : State
+  before = state conns (map tenant_view tenants)
+
+  -- a post to the pipeline that is looked up, or a turn of it
+  pub pipeline_does : (s : PipelineStep) (old new : Tenant) (pipe pipe' : Pipeline) (result : Result Answer Memory) → slice_get tenants t ≡ Some old → slice_get old.pipelines.items p ≡ Some pipe →
+      tenant_view new ≡ record (tenant_view old) { pipelines = slice_set old.pipelines.items p pipe' } → Does (refused_step s pipe) (pipeline_step config s pipe) pipe' result →
+      Does (refused_at s t p before) (on_tenant (on_pipeline (pipeline_step config s) p) t before) (state conns (map tenant_view (slice_set tenants t new))) result
+  pipeline_does (PostManage m) old new pipe pipe' result at whose same does =
+      tenant_does (on_pipeline (post_manage m) p) t conns tenants old new result at
+      (subst (λ ten. Does (tenant_view old) (on_pipeline (post_manage m) p (tenant_view old)) ten result) (sym same) (posts (post_manage m) p (tenant_view old) pipe pipe' result whose does))
+  pipeline_does (PostResult r) old new pipe pipe' result at whose same does =
+      tenant_does (on_pipeline (post_result r) p) t conns tenants old new result at
+      (subst (λ ten. Does (tenant_view old) (on_pipeline (post_result r) p (tenant_view old)) ten result) (sym same) (posts (post_result r) p (tenant_view old) pipe pipe' result whose does))
+  pipeline_does Turn old new pipe pipe' result at whose same does =
+      turn_does config t p conns tenants old new result at
+      (subst (λ ten. Does (refused_turn p (tenant_view old)) (on_pipeline (turned config) p (tenant_view old)) ten result) (sym same) (turns config p (tenant_view old) pipe pipe' result whose does))
+
+  pub pipeline_is : (old : Tenant) → slice_get tenants t ≡ Some old → pipeline_at t p before ≡ slice_get old.pipelines.items p
+  pipeline_is old at = ap (option_and_then (λ (ten : TenantState). slice_get ten.pipelines p)) (seen tenant_view tenants t old at)
 
 -- sending from the connection that is looked up
 pub sending_does : (c : ℕ) (conns : List Connection) (tenants tenants' : List TenantState) (old new : Connection) (result : Result Answer Memory) → slice_get conns c ≡ Some old →

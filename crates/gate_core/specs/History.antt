@@ -2,7 +2,9 @@
 -- pipelines, and what they have processed.
 use Rattle.std.specs.Prelude.{ℕ, ◌-◌, ◌==◌, ◌&&◌, ◌||◌, List, Bool, true, false, map, Option, Some, None, option_and_then, count_by, slice_get, if◌then◌else◌}
 use Rattle.std.specs.List.{filter_map, list_any, enumerate_from}
+use Rattle.gate_record.specs.declared.ids.PipelineId.{PipelineId}
 use Rattle.gate_record.specs.declared.ids.Stamp.{Stamp}
+use Rattle.gate_record.specs.declared.ids.TenantId.{TenantId}
 use Rattle.gate_record.specs.declared.reading.Reading.{Reading}
 use Rattle.gate_record.specs.declared.reading.Reading.TheVariants as reading
 use Rattle.gate_record.specs.declared.record.Record.{Record}
@@ -57,9 +59,17 @@ abbrev pub is_take : ℕ → Step → Bool
 is_take c (Take d) = d.0 == c
 is_take c other = false
 
+-- the tenant and the pipeline of which the step is a turn
+abbrev pub turn_of : Step → Option (TenantId × PipelineId)
+turn_of (Turn t p) = Some (t, p)
+turn_of other = None
+
+abbrev pub is_at : ℕ → ℕ → Option (TenantId × PipelineId) → Bool
+is_at t p None = false
+is_at t p (Some (u, q)) = (u.0 == t) && (q.0 == p)
+
 abbrev pub is_turn : ℕ → ℕ → Step → Bool
-is_turn t p (Turn u q) = (u.0 == t) && (q.0 == p)
-is_turn t p other = false
+is_turn t p s = is_at t p (turn_of s)
 
 -- the management event, and the result, that the step posts to pipeline p of tenant t
 abbrev pub posted_manage : ℕ → ℕ → Step → Option Manage

@@ -1,14 +1,18 @@
 -- Which steps need memory, by what they find.
-use Rattle.std.specs.Prelude.{ℕ, List, [], ◌∷◌, Option, Some, None, slice_get}
+use Rattle.std.specs.Prelude.{List, [], ◌∷◌, Option, Some, None, slice_get}
 use Rattle.gate_record.specs.Lines.{IsLine}
 use Rattle.gate_record.specs.declared.transit.ConnEntry.{ConnEntry}
 use Rattle.gate_record.specs.declared.transit.ConnEntry.TheVariants as entry
 use Rattle.gate_pipeline.specs.States.{MayBeRefused, to_process}
+use Rattle.gate_core.specs.declared.connection.ConnectionStep.{ConnectionStep}
+use Rattle.gate_core.specs.declared.connection.ConnectionStep.TheVariants as of_connection
 use Rattle.gate_core.specs.declared.pipeline.Pipeline.{Pipeline}
+use Rattle.gate_core.specs.declared.pipeline.PipelineStep.{PipelineStep}
+use Rattle.gate_core.specs.declared.pipeline.PipelineStep.TheVariants as of_pipeline
 use Rattle.gate_core.specs.declared.step.Step.{Step}
 use Rattle.gate_core.specs.declared.step.Step.TheVariants as step
 use Rattle.gate_core.specs.Pipelines.{Found, Nothing, Emptiness, Something, found}
-use Rattle.gate_core.specs.States.{ConnectionState, State, TenantState}
+use Rattle.gate_core.specs.States.{ConnectionState, State, pipeline_at}
 
 -- it is there, and this is true of it
 abbrev pub IsThere : {X : Type 0} → (X → Type 0) → Option X → Type 0
@@ -33,11 +37,16 @@ NeedsFor (Something given left) pipe = MayBeRefused pipe.worker.items.manager (t
 abbrev pub TurnNeeds : Pipeline → Type 0
 TurnNeeds pipe = NeedsFor (found pipe) pipe
 
-abbrev pub TenantTurnNeeds : ℕ → TenantState → Type 0
-TenantTurnNeeds p tenant = IsThere TurnNeeds (slice_get tenant.pipelines p)
-
 -- a taking needs memory for a record, and a turn for what it processes; other steps wherever they change something
+abbrev pub ConnectionNeeds : ConnectionStep → ConnectionState → Type 0
+ConnectionNeeds of_connection.Take conn = TakeNeeds conn
+ConnectionNeeds other conn = Unit {0}
+
+abbrev pub PipelineNeeds : PipelineStep → Pipeline → Type 0
+PipelineNeeds of_pipeline.Turn pipe = TurnNeeds pipe
+PipelineNeeds other pipe = Unit {0}
+
 abbrev pub StepNeeds : State → Step → Type 0
 StepNeeds state (step.Take c) = IsThere TakeNeeds (slice_get state.connections c.0)
-StepNeeds state (step.Turn t p) = IsThere (TenantTurnNeeds p.0) (slice_get state.tenants t.0)
+StepNeeds state (step.Turn t p) = IsThere TurnNeeds (pipeline_at t.0 p.0 state)
 StepNeeds state other = Unit {0}

@@ -1,5 +1,5 @@
 -- Posts to a pipeline, and its turns.
-use Rattle.std.specs.Prelude.{ℕ, List, [], ◌∷◌, ◌++◌, length, nat_lt, Option, Some, None, if◌then◌else◌}
+use Rattle.std.specs.Prelude.{ℕ, List, [], ◌∷◌, ◌++◌, Option, Some, None, if◌then◌else◌}
 use Rattle.gate_record.specs.declared.transit.PipelineItem.{PipelineItem}
 use Rattle.gate_config.specs.declared.config.Config.{Config}
 use Rattle.gate_items.specs.declared.action.JobResult.{JobResult}
@@ -13,7 +13,9 @@ use Rattle.gate_pipeline.specs.States.{Processed, first_state, found_empty, held
 use Rattle.gate_core.specs.declared.answer.Answer.{Answer}
 use Rattle.gate_core.specs.declared.answer.Answer.TheVariants.{Full, Idle, Moved, Passed, Turned}
 use Rattle.gate_core.specs.declared.pipeline.Pipeline.{Pipeline}
-use Rattle.gate_core.specs.Limits.{places}
+use Rattle.gate_core.specs.declared.pipeline.PipelineStep.{PipelineStep}
+use Rattle.gate_core.specs.declared.pipeline.PipelineStep.TheVariants.{PostManage, PostResult, Turn}
+use Rattle.gate_core.specs.Limits.{has_place}
 
 -- pipeline p of tenant t before anything came
 abbrev pub fresh_pipeline : Config → ℕ → ℕ → Pipeline
@@ -22,10 +24,10 @@ fresh_pipeline config t p = record { management = []; results = []; triggers = [
 -- ---- posts
 
 abbrev pub post_manage : Manage → Pipeline → Pipeline × Answer
-post_manage manage pipe = if nat_lt (length pipe.management) places then (record pipe { management = pipe.management ++ manage ∷ [] }, Moved) else (pipe, Full)
+post_manage manage pipe = if has_place pipe.management then (record pipe { management = pipe.management ++ manage ∷ [] }, Moved) else (pipe, Full)
 
 abbrev pub post_result : JobResult → Pipeline → Pipeline × Answer
-post_result ended pipe = if nat_lt (length pipe.results) places then (record pipe { results = pipe.results ++ ended ∷ [] }, Moved) else (pipe, Full)
+post_result ended pipe = if has_place pipe.results then (record pipe { results = pipe.results ++ ended ∷ [] }, Moved) else (pipe, Full)
 
 -- ---- turns
 
@@ -96,3 +98,15 @@ refused_by (Something given left) pipe = holding (to_process pipe.worker.held gi
 
 abbrev pub refused : Pipeline → Pipeline
 refused pipe = refused_by (found pipe) pipe
+
+-- ---- a post or a turn
+
+abbrev pub pipeline_step : Config → PipelineStep → Pipeline → Pipeline × Answer
+pipeline_step config (PostManage manage) = post_manage manage
+pipeline_step config (PostResult ended) = post_result ended
+pipeline_step config Turn = turned config
+
+-- what it leaves that is refused memory
+abbrev pub refused_step : PipelineStep → Pipeline → Pipeline
+refused_step Turn pipe = refused pipe
+refused_step other pipe = pipe

@@ -1,6 +1,6 @@
 -- The state after a step, and what the step answers: the core as a machine over plain lists, with any number of
 -- connections, tenants and pipelines.
-use Rattle.std.specs.Prelude.{ℕ, ◌+◌, ◌==◌, List, [], ◌∷◌, ◌++◌, true, false, nat_lt, min, length, map, Option, Some, None, slice_get, slice_set, if◌then◌else◌}
+use Rattle.std.specs.Prelude.{ℕ, ◌+◌, ◌==◌, List, [], ◌∷◌, ◌++◌, true, false, min, length, map, Option, Some, None, slice_get, slice_set, if◌then◌else◌}
 use Rattle.std.specs.List.{range_with_len}
 use Rattle.gate_record.specs.declared.ids.PipelineId.{PipelineId}
 use Rattle.gate_record.specs.declared.ids.TenantId.{TenantId}
@@ -15,10 +15,17 @@ use Rattle.gate_forward.specs.Forwarding.{sends}
 use Rattle.gate_tenant.specs.States.{first_state, has_ended, matched, room_of}
 use Rattle.gate_core.specs.declared.answer.Answer.{Answer}
 use Rattle.gate_core.specs.declared.answer.Answer.TheVariants.{Accepted, Closed, Full, Moved, Idle}
+use Rattle.gate_core.specs.declared.connection.ConnectionStep.{ConnectionStep}
+use Rattle.gate_core.specs.declared.connection.ConnectionStep.TheVariants.{Offer, Close, Take}
 use Rattle.gate_core.specs.declared.pipeline.Pipeline.{Pipeline}
+use Rattle.gate_core.specs.declared.pipeline.PipelineStep.{PipelineStep}
+use Rattle.gate_core.specs.declared.pipeline.PipelineStep.TheVariants.{Turn}
 use Rattle.gate_core.specs.declared.step.Step.{Step}
 use Rattle.gate_core.specs.declared.step.Step.TheVariants as step
-use Rattle.gate_core.specs.Limits.{places}
+use Rattle.gate_core.specs.declared.tenant.TenantStep.{TenantStep}
+use Rattle.gate_core.specs.declared.tenant.TenantStep.TheVariants.{Fetch, Match, Give}
+use Rattle.gate_core.specs.History.{turn_of}
+use Rattle.gate_core.specs.Limits.{has_place}
 use Rattle.gate_core.specs.Pipelines.{fresh_pipeline, post_manage, post_result, refused, turned}
 use Rattle.gate_core.specs.States.{ConnectionState, TenantState, State, with_gathered}
 
@@ -41,14 +48,14 @@ first config = record {
 abbrev pub offer : Record → ConnectionState → ConnectionState × Answer
 offer line conn =
     if conn.closed then (conn, Closed)
-    else (if nat_lt (length conn.queue) places
+    else (if has_place conn.queue
     then (record conn { accepted = conn.accepted + 1; queue = conn.queue ++ entry.Numbered conn.accepted line ∷ [] }, Accepted conn.accepted)
     else (conn, Full))
 
 abbrev pub close : ConnectionState → ConnectionState × Answer
 close conn =
     if conn.closed then (conn, Closed)
-    else (if nat_lt (length conn.queue) places then (record conn { closed = true; queue = conn.queue ++ entry.End ∷ [] }, Moved) else (conn, Full))
+    else (if has_place conn.queue then (record conn { closed = true; queue = conn.queue ++ entry.End ∷ [] }, Moved) else (conn, Full))
 
 -- with these in the forwarder's hand, and these in the queue
 abbrev pub take_from : Config → ℕ → List (TenantId × TenantItem) → List ConnEntry → ConnectionState → ConnectionState × Answer
@@ -58,6 +65,11 @@ take_from config c [] (entry ∷ queue) conn = (record conn { queue = queue; han
 
 abbrev pub take : Config → ℕ → ConnectionState → ConnectionState × Answer
 take config c conn = take_from config c conn.hand conn.queue conn
+
+abbrev pub connection_step : Config → ℕ → ConnectionStep → ConnectionState → ConnectionState × Answer
+connection_step config c (Offer line) = offer line
+connection_step config c Close = close
+connection_step config c Take = take config c
 
 -- ---- steps of a tenant
 
@@ -97,6 +109,11 @@ give_from (first ∷ hand) tenant = give_to first.0 first.1 hand (slice_get tena
 
 abbrev pub give : TenantState → TenantState × Answer
 give tenant = give_from tenant.dispatch.items tenant
+
+abbrev pub tenant_step : Config → ℕ → TenantStep → TenantState → TenantState × Answer
+tenant_step config t (Fetch count) = fetch config t count
+tenant_step config t Match = match_gathered config t
+tenant_step config t Give = give
 
 -- a post to this pipeline, the one of number p, or a turn of it
 abbrev pub with_pipeline : (Pipeline → Pipeline × Answer) → ℕ → Option Pipeline → TenantState → TenantState × Answer
@@ -167,9 +184,16 @@ abbrev pub refused_in : ℕ → ℕ → Option TenantState → State → State
 refused_in t p None state = state
 refused_in t p (Some tenant) state = record state { tenants = slice_set state.tenants t (refused_turn p tenant) }
 
+abbrev pub refused_at : PipelineStep → ℕ → ℕ → State → State
+refused_at Turn t p state = refused_in t p (slice_get state.tenants t) state
+refused_at other t p state = state
+
+abbrev pub refused_turn_of : Option (TenantId × PipelineId) → State → State
+refused_turn_of None state = state
+refused_turn_of (Some at) state = refused_in at.0.0 at.1.0 (slice_get state.tenants at.0.0) state
+
 abbrev pub refused_step : State → Step → State
-refused_step state (step.Turn t p) = refused_in t.0 p.0 (slice_get state.tenants t.0) state
-refused_step state other = state
+refused_step state s = refused_turn_of (turn_of s) state
 
 -- steps one after another, each with its answer
 abbrev pub run_from : Config → State → List Step → List (Step × Answer)

@@ -1,10 +1,12 @@
 -- What contracts see of a connection and of a tenant at work.
-use Rattle.std.specs.Prelude.{◌≡◌, ℕ, List, Some, slice_get}
+use Rattle.std.specs.Prelude.{◌≡◌, ◌<◌, ◌+◌, ◌^◌, ℕ, List, Some, slice_get}
 use Rattle.gate_config.specs.declared.config.Config.{Config}
 use Rattle.gate_forward.specs.Hands.{hand_of, config_of, conn_of}
 use Rattle.gate_tenant.specs.States.{state_of, tenant_of}
 use Rattle.gate_tenant.specs.States as dispatch
 use Rattle.gate_core.specs.declared.connection.Connection.{Connection}
+use Rattle.gate_core.specs.declared.connection.ConnectionStep.{ConnectionStep}
+use Rattle.gate_core.specs.declared.connection.ConnectionStep.TheVariants.{Offer}
 use Rattle.gate_core.specs.declared.tenant.Tenant.{Tenant}
 use Rattle.gate_core.specs.States.{ConnectionState, TenantState}
 
@@ -16,6 +18,11 @@ EachAt {X} has xs = (i : ℕ) (x : X) → slice_get xs i ≡ Some x → has i x
 
 abbrev pub connection_view : Connection → ConnectionState
 connection_view conn = record { accepted = conn.accepted; closed = conn.closed; queue = conn.queue.items; hand = (hand_of conn.forward).items }
+
+-- it has a number left for a record that it is offered
+abbrev pub HasNumberLeft : ConnectionStep → ConnectionState → Type 0
+HasNumberLeft (Offer line) conn = conn.accepted + 1 < 2 ^ 64
+HasNumberLeft other conn = Unit {0}
 
 -- the configuration that its forwarder forwards by
 abbrev pub config_of_connection : Connection → Config

@@ -1,9 +1,10 @@
 -- What clauses see of a world.
 use Rattle.std.specs.Prelude.{◌≡◌, ◌<◌, ◌≤◌, ◌+◌, ◌^◌, ℕ, map, Some, slice_get}
 use Rattle.gate_config.specs.declared.config.Config.{Config}
+use Rattle.gate_record.specs.declared.record.Record.{Record}
 use Rattle.gate_core.specs.declared.step.Step.{Step}
-use Rattle.gate_core.specs.declared.step.Step.TheVariants as step
 use Rattle.gate_core.specs.declared.world.World.{World}
+use Rattle.gate_core.specs.History.{offered_to}
 use Rattle.gate_core.specs.States.{ConnectionState, State}
 use Rattle.gate_core.specs.Views.{EachAt, connection_view, tenant_view}
 
@@ -19,7 +20,6 @@ state_of world = record { connections = map connection_view world.connections.it
 abbrev pub AcceptedAtMost : ℕ → State → Type 0
 AcceptedAtMost n state = EachAt (λ c (conn : ConnectionState). conn.accepted ≤ n) state.connections
 
--- the connection that is offered a record, if it is there, has a number left for it; a step of another kind needs none
+-- a connection to which the step offers a record, if it is there, has a number left for it
 abbrev pub HasNumber : State → Step → Type 0
-HasNumber state (step.Offer c line) = (conn : ConnectionState) → slice_get state.connections c.0 ≡ Some conn → conn.accepted + 1 < 2 ^ 64
-HasNumber state other = Unit {0}
+HasNumber state s = (c : ℕ) (line : Record) (conn : ConnectionState) → offered_to c s ≡ Some line → slice_get state.connections c ≡ Some conn → conn.accepted + 1 < 2 ^ 64

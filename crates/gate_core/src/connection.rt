@@ -10,6 +10,17 @@ use gate_record::{ConnEntry, ConnId, Memory, Record};
 use std::alloc::Global;
 use std::collections::VecDeque;
 
+/// What the reader or the forwarder of a connection does by itself.
+#[derive(Drop)]
+pub enum ConnectionStep {
+    /// The reader offers a record.
+    Offer(Record),
+    /// The reader puts the end mark.
+    Close,
+    /// The forwarder takes the next entry.
+    Take,
+}
+
 /// A connection at work: its queue, and its forwarder with what that has still to send.
 #[derive(Drop)]
 pub struct Connection<'c> {
@@ -28,9 +39,9 @@ pub struct Connection<'c> {
 impl<'c> Connection<'c> {
     ghost use Rattle.std.specs.Prelude.{OnErr};
     ghost use Rattle.gate_core.specs.Answers.{Does};
-    ghost use Rattle.gate_core.specs.Needs.{TakeNeeds};
-    ghost use Rattle.gate_core.specs.Steps.{new_connection, offer, close, take};
-    ghost use Rattle.gate_core.specs.Views.{connection_view, config_of_connection, number_of_connection};
+    ghost use Rattle.gate_core.specs.Needs.{ConnectionNeeds, TakeNeeds};
+    ghost use Rattle.gate_core.specs.Steps.{new_connection, connection_step, offer, close, take};
+    ghost use Rattle.gate_core.specs.Views.{HasNumberLeft, connection_view, config_of_connection, number_of_connection};
 
     /// The connection of this number before any record came. It takes no memory.
     pub fn new(alloc: Global, config: &'c Config, conn: ConnId) -> Connection<'c>
@@ -46,9 +57,24 @@ impl<'c> Connection<'c> {
         }
     }
 
-    /// Accepts a record with the next number: `Closed` behind the end mark, `Full` where 4,096 entries wait. Where memory
-    /// is refused, all is as before, as in each step.
-    pub fn offer(&mut self, line: Record) -> Result<Answer, Memory>
+    /// Takes one step.
+    pub fn step(&mut self, alloc: Global, step: ConnectionStep) -> Result<Answer, Memory>
+        requires { HasNumberLeft step (connection_view self.old) }
+        ensures config { config_of_connection self.new ≡ config_of_connection self.old }
+        ensures number { number_of_connection self.new ≡ number_of_connection self.old }
+        ensures does { Does (connection_view self.old) (connection_step (config_of_connection self.old) (number_of_connection self.old) step (connection_view self.old)) (connection_view self.new) result }
+        ensures needs { OnErr result (ConnectionNeeds step (connection_view self.old)) }
+    {
+        match step {
+            ConnectionStep::Offer(line) => self.offer(line),
+            ConnectionStep::Close => self.close(),
+            ConnectionStep::Take => self.take(alloc),
+        }
+    }
+
+    // Accepts a record with the next number: `Closed` behind the end mark, `Full` where 4,096 entries wait. Where memory
+    // is refused, all is as before, as in each step.
+    fn offer(&mut self, line: Record) -> Result<Answer, Memory>
         requires { (connection_view self.old).accepted + 1 < 2 ^ 64 }
         ensures config { config_of_connection self.new ≡ config_of_connection self.old }
         ensures number { number_of_connection self.new ≡ number_of_connection self.old }
@@ -66,8 +92,8 @@ impl<'c> Connection<'c> {
         Ok(Answer::Accepted(number))
     }
 
-    /// Puts the end mark, behind all records.
-    pub fn close(&mut self) -> Result<Answer, Memory>
+    // Puts the end mark, behind all records.
+    fn close(&mut self) -> Result<Answer, Memory>
         ensures config { config_of_connection self.new ≡ config_of_connection self.old }
         ensures number { number_of_connection self.new ≡ number_of_connection self.old }
         ensures does { Does (connection_view self.old) (close (connection_view self.old)) (connection_view self.new) result }
@@ -83,8 +109,8 @@ impl<'c> Connection<'c> {
         Ok(Answer::Moved)
     }
 
-    /// Takes the next entry into the forwarder's empty hand, and reads it there, once.
-    pub fn take(&mut self, alloc: Global) -> Result<Answer, Memory>
+    // Takes the next entry into the forwarder's empty hand, and reads it there, once.
+    fn take(&mut self, alloc: Global) -> Result<Answer, Memory>
         ensures config { config_of_connection self.new ≡ config_of_connection self.old }
         ensures number { number_of_connection self.new ≡ number_of_connection self.old }
         ensures does { Does (connection_view self.old) (take (config_of_connection self.old) (number_of_connection self.old) (connection_view self.old)) (connection_view self.new) result }

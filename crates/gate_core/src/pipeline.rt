@@ -10,6 +10,17 @@ use gate_pipeline::{Pipeline as Worker, Taken, Which};
 use gate_record::{Memory, PipelineId, PipelineItem, Queue, TenantId};
 use std::alloc::Global;
 
+/// A post to a pipeline, or a turn of its worker.
+#[derive(Drop)]
+pub enum PipelineStep {
+    /// Somebody posts a management event.
+    PostManage(Manage),
+    /// Somebody posts a result.
+    PostResult(JobResult),
+    /// The worker processes what it holds, or takes one value of its phase's queue, or finds it empty.
+    Turn,
+}
+
 /// A pipeline at work: what waits for it, of management events and of results at most 4,096 each, and its worker.
 #[derive(Drop)]
 pub struct Pipeline {
@@ -26,8 +37,8 @@ pub struct Pipeline {
 impl Pipeline {
     ghost use Rattle.std.specs.Prelude.{OnErr};
     ghost use Rattle.gate_core.specs.Answers.{Does};
-    ghost use Rattle.gate_core.specs.Needs.{TurnNeeds};
-    ghost use Rattle.gate_core.specs.Pipelines.{fresh_pipeline, held_in, post_manage, post_result, refused, took, turned};
+    ghost use Rattle.gate_core.specs.Needs.{PipelineNeeds, TurnNeeds};
+    ghost use Rattle.gate_core.specs.Pipelines.{fresh_pipeline, held_in, pipeline_step, post_manage, post_result, refused, refused_step, took, turned};
 
     /// A pipeline of a tenant before anything came.
     pub fn new(alloc: Global, config: &Config, tenant: TenantId, pipeline: PipelineId) -> Pipeline
@@ -41,8 +52,20 @@ impl Pipeline {
         }
     }
 
-    /// Puts a management event at the back of its queue: `Full` where 4,096 wait there.
-    pub fn post_manage(&mut self, manage: Manage) -> Result<Answer, Memory>
+    /// Takes one step. Where memory is refused all is as before, save that a turn holds what it took.
+    pub fn step(&mut self, config: &Config, step: PipelineStep) -> Result<Answer, Memory>
+        ensures does { Does (refused_step step self.old) (pipeline_step config.now step self.old) self.new result }
+        ensures needs { OnErr result (PipelineNeeds step self.old) }
+    {
+        match step {
+            PipelineStep::PostManage(manage) => self.post_manage(manage),
+            PipelineStep::PostResult(ended) => self.post_result(ended),
+            PipelineStep::Turn => self.turn(config),
+        }
+    }
+
+    // Puts a management event at the back of its queue: `Full` where 4,096 wait there.
+    fn post_manage(&mut self, manage: Manage) -> Result<Answer, Memory>
         ensures { Does self.old (post_manage manage self.old) self.new result }
     {
         if self.management.len() >= PLACES {
@@ -52,8 +75,8 @@ impl Pipeline {
         Ok(Answer::Moved)
     }
 
-    /// Puts a result at the back of its queue: `Full` where 4,096 wait there.
-    pub fn post_result(&mut self, ended: JobResult) -> Result<Answer, Memory>
+    // Puts a result at the back of its queue: `Full` where 4,096 wait there.
+    fn post_result(&mut self, ended: JobResult) -> Result<Answer, Memory>
         ensures { Does self.old (post_result ended self.old) self.new result }
     {
         if self.results.len() >= PLACES {
@@ -63,9 +86,9 @@ impl Pipeline {
         Ok(Answer::Moved)
     }
 
-    /// Processes what is held, or takes one value of the phase's queue, or finds it empty. Where memory is refused, what
-    /// was taken is held.
-    pub fn turn(&mut self, config: &Config) -> Result<Answer, Memory>
+    // Processes what is held, or takes one value of the phase's queue, or finds it empty. Where memory is refused, what
+    // was taken is held.
+    fn turn(&mut self, config: &Config) -> Result<Answer, Memory>
         ensures does { Does (refused self.old) (turned config.now self.old) self.new result }
         ensures needs { OnErr result (TurnNeeds self.old) }
     {

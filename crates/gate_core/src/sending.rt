@@ -27,7 +27,7 @@ pub(crate) fn send<'c>(
             connection.forward.unsent(item);
             Ok(Answer::Idle)
         }
-        Some(worker) => match worker.put(item) {
+        Some(tenant) => match tenant.put(item) {
             Ok(()) => {
                 connection.forward.sent();
                 Ok(Answer::Moved)

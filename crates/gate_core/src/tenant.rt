@@ -4,11 +4,21 @@ ghost use Rattle.gate_tenant.specs.States.{has_ended, reserved_of, room_of, stat
 use crate::answer::Answer;
 use crate::pipeline::Pipeline;
 use gate_config::Config;
-use gate_items::{JobResult, Manage};
 use gate_record::{Memory, PipelineId, TenantId, TenantItem};
 use gate_tenant::Dispatch;
 use std::alloc::{AllocFailed, Global};
 use std::collections::VecDeque;
+
+/// What the worker of a tenant does by itself.
+#[derive(Drop)]
+pub enum TenantStep {
+    /// It gathers so many items of the queue.
+    Fetch(u32),
+    /// It matches what it gathered.
+    Match,
+    /// It gives the next matched item to its pipeline.
+    Give,
+}
 
 /// A tenant at work: its queue, the dispatch of its worker, and its pipelines by number.
 #[derive(Drop)]
@@ -24,12 +34,9 @@ pub struct Tenant<'c> {
 }
 
 impl<'c> Tenant<'c> {
-    ghost use Rattle.std.specs.Prelude.{OnErr};
     ghost use Rattle.gate_core.specs.Answers.{Does};
-    ghost use Rattle.gate_core.specs.Needs.{TenantTurnNeeds};
-    ghost use Rattle.gate_core.specs.Steps.{new_tenant, fetch, match_gathered, give, on_pipeline, refused_turn};
+    ghost use Rattle.gate_core.specs.Steps.{new_tenant, tenant_step, fetch, match_gathered, give};
     ghost use Rattle.gate_core.specs.States.{with_gathered};
-    ghost use Rattle.gate_core.specs.Pipelines.{post_manage, post_result, turned};
     ghost use Rattle.gate_core.specs.Views.{tenant_view, config_of_tenant, number_of_tenant};
 
     /// The tenant of this number before anything came. `Memory` where its pipelines, or the end marks of a tenant that
@@ -57,9 +64,22 @@ impl<'c> Tenant<'c> {
         self.queue.push_back(item)
     }
 
-    /// Gathers the next items of the queue: as many as are asked for and wait, and as the dispatch has room for, where it
+    /// Takes one step.
+    pub fn step(&mut self, alloc: Global, step: TenantStep) -> Result<Answer, Memory>
+        ensures config { config_of_tenant self.new ≡ config_of_tenant self.old }
+        ensures number { number_of_tenant self.new ≡ number_of_tenant self.old }
+        ensures does { Does (tenant_view self.old) (tenant_step (config_of_tenant self.old) (number_of_tenant self.old) step (tenant_view self.old)) (tenant_view self.new) result }
+    {
+        match step {
+            TenantStep::Fetch(count) => self.fetch(count),
+            TenantStep::Match => self.match_gathered(alloc),
+            TenantStep::Give => self.give(),
+        }
+    }
+
+    // Gathers the next items of the queue: as many as are asked for and wait, and as the dispatch has room for, where it
     /// goes on. Where memory is refused, all is as before, as in each step.
-    pub fn fetch(&mut self, count: u32) -> Result<Answer, Memory>
+    fn fetch(&mut self, count: u32) -> Result<Answer, Memory>
         ensures config { config_of_tenant self.new ≡ config_of_tenant self.old }
         ensures number { number_of_tenant self.new ≡ number_of_tenant self.old }
         ensures does { Does (tenant_view self.old) (fetch (config_of_tenant self.old) (number_of_tenant self.old) count (tenant_view self.old)) (tenant_view self.new) result }
@@ -100,7 +120,7 @@ impl<'c> Tenant<'c> {
     }
 
     /// Matches what is gathered against the rules of the pipelines.
-    pub fn match_gathered(&mut self, alloc: Global) -> Result<Answer, Memory>
+    fn match_gathered(&mut self, alloc: Global) -> Result<Answer, Memory>
         ensures config { config_of_tenant self.new ≡ config_of_tenant self.old }
         ensures number { number_of_tenant self.new ≡ number_of_tenant self.old }
         ensures does { Does (tenant_view self.old) (match_gathered (config_of_tenant self.old) (number_of_tenant self.old) (tenant_view self.old)) (tenant_view self.new) result }
@@ -113,7 +133,7 @@ impl<'c> Tenant<'c> {
     }
 
     /// Gives the next matched item to its pipeline.
-    pub fn give(&mut self) -> Result<Answer, Memory>
+    fn give(&mut self) -> Result<Answer, Memory>
         ensures config { config_of_tenant self.new ≡ config_of_tenant self.old }
         ensures number { number_of_tenant self.new ≡ number_of_tenant self.old }
         ensures does { Does (tenant_view self.old) (give (tenant_view self.old)) (tenant_view self.new) result }
@@ -126,7 +146,7 @@ impl<'c> Tenant<'c> {
                 self.dispatch.ungiven(item);
                 Ok(Answer::Idle)
             }
-            Some(worker) => match worker.triggers.push(item) {
+            Some(pipeline) => match pipeline.triggers.push(item) {
                 Ok(()) => {
                     self.dispatch.given();
                     Ok(Answer::Moved)
@@ -136,43 +156,6 @@ impl<'c> Tenant<'c> {
                     Err(Memory)
                 }
             },
-        }
-    }
-
-    /// Posts a management event to a pipeline, `Idle` where the tenant hasn't got it.
-    pub fn post_manage(&mut self, pipeline: PipelineId, manage: Manage) -> Result<Answer, Memory>
-        ensures config { config_of_tenant self.new ≡ config_of_tenant self.old }
-        ensures number { number_of_tenant self.new ≡ number_of_tenant self.old }
-        ensures does { Does (tenant_view self.old) (on_pipeline (post_manage manage) pipeline.0 (tenant_view self.old)) (tenant_view self.new) result }
-    {
-        match self.pipelines.get_mut(pipeline.0 as usize) {
-            None => Ok(Answer::Idle),
-            Some(worker) => worker.post_manage(manage),
-        }
-    }
-
-    /// Posts a result to a pipeline, `Idle` where the tenant hasn't got it.
-    pub fn post_result(&mut self, pipeline: PipelineId, ended: JobResult) -> Result<Answer, Memory>
-        ensures config { config_of_tenant self.new ≡ config_of_tenant self.old }
-        ensures number { number_of_tenant self.new ≡ number_of_tenant self.old }
-        ensures does { Does (tenant_view self.old) (on_pipeline (post_result ended) pipeline.0 (tenant_view self.old)) (tenant_view self.new) result }
-    {
-        match self.pipelines.get_mut(pipeline.0 as usize) {
-            None => Ok(Answer::Idle),
-            Some(worker) => worker.post_result(ended),
-        }
-    }
-
-    /// A turn of a pipeline, `Idle` where the tenant hasn't got it.
-    pub fn turn(&mut self, config: &Config, pipeline: PipelineId) -> Result<Answer, Memory>
-        ensures config { config_of_tenant self.new ≡ config_of_tenant self.old }
-        ensures number { number_of_tenant self.new ≡ number_of_tenant self.old }
-        ensures does { Does (refused_turn pipeline.0 (tenant_view self.old)) (on_pipeline (turned config.now) pipeline.0 (tenant_view self.old)) (tenant_view self.new) result }
-        ensures needs { OnErr result (TenantTurnNeeds pipeline.0 (tenant_view self.old)) }
-    {
-        match self.pipelines.get_mut(pipeline.0 as usize) {
-            None => Ok(Answer::Idle),
-            Some(worker) => worker.turn(config),
         }
     }
 }

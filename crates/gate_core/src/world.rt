@@ -1,17 +1,18 @@
-ghost use Rattle.std.specs.Prelude.{◌≡◌, ◌+◌, ℕ, IfOk, OnErr, option_map};
+ghost use Rattle.std.specs.Prelude.{◌≡◌, ◌+◌, ℕ, IfOk, OnErr, Some, option_map, slice_get};
 ghost use Rattle.gate_core.specs.Views.{AreConnections, AreTenants};
 
 use crate::answer::Answer;
-use crate::connection::Connection;
+use crate::connection::{Connection, ConnectionStep};
 use crate::making::{new_connections, new_tenants};
+use crate::pipeline::PipelineStep;
 use crate::report::RunReport;
 use crate::reporting::{report_connections, report_tenants};
 use crate::sending::send;
 use crate::step::Step;
-use crate::tenant::Tenant;
+use crate::tenant::{Tenant, TenantStep};
 use gate_config::Config;
-use gate_items::{Items, JobResult, Manage};
-use gate_record::{ConnId, Memory, PipelineId, Record, TenantId};
+use gate_items::Items;
+use gate_record::{ConnId, Memory, PipelineId, TenantId};
 use std::alloc::Global;
 
 /// The core at one moment: a configuration, and its connections and tenants at work.
@@ -29,11 +30,12 @@ pub struct World<'c> {
 
 impl<'c> World<'c> {
     ghost use Rattle.gate_core.specs.Answers.{Does};
-    ghost use Rattle.gate_core.specs.Needs.{StepNeeds};
+    ghost use Rattle.gate_core.specs.Needs.{ConnectionNeeds, IsThere, PipelineNeeds, StepNeeds};
     ghost use Rattle.gate_core.specs.Reports.{report_of};
-    ghost use Rattle.gate_core.specs.Pipelines.{post_manage, post_result, turned};
-    ghost use Rattle.gate_core.specs.States.{items_at};
-    ghost use Rattle.gate_core.specs.Steps.{close, fetch, first, give, match_gathered, offer, on_connection, on_pipeline, on_tenant, refused_step, send, step_of, take};
+    ghost use Rattle.gate_core.specs.Pipelines.{pipeline_step};
+    ghost use Rattle.gate_core.specs.States.{ConnectionState, items_at, pipeline_at};
+    ghost use Rattle.gate_core.specs.Steps.{connection_step, first, on_connection, on_pipeline, on_tenant, refused_at, refused_step, send, step_of, tenant_step};
+    ghost use Rattle.gate_core.specs.Views.{HasNumberLeft};
     ghost use Rattle.gate_core.specs.Worlds.{AcceptedAtMost, HasNumber, config_of, state_of};
 
     /// The world in which nothing was offered yet. `Memory` where its connections and tenants find no room.
@@ -67,18 +69,22 @@ impl<'c> World<'c> {
         ensures counts { (most : ℕ) → AcceptedAtMost most (state_of self.old) → AcceptedAtMost (most + 1) (state_of self.new) }
     {
         match step {
-            Step::Offer(conn, line) => self.offer(conn, line),
-            Step::Close(conn) => self.close(conn),
-            Step::Take(conn) => self.take(conn),
+            Step::Offer(conn, line) => self.connection_step(conn, ConnectionStep::Offer(line)),
+            Step::Close(conn) => self.connection_step(conn, ConnectionStep::Close),
+            Step::Take(conn) => self.connection_step(conn, ConnectionStep::Take),
             Step::Send(conn) => self.send(conn),
-            Step::Fetch(tenant, count) => self.fetch(tenant, count),
-            Step::Match(tenant) => self.match_gathered(tenant),
-            Step::Give(tenant) => self.give(tenant),
+            Step::Fetch(tenant, count) => self.tenant_step(tenant, TenantStep::Fetch(count)),
+            Step::Match(tenant) => self.tenant_step(tenant, TenantStep::Match),
+            Step::Give(tenant) => self.tenant_step(tenant, TenantStep::Give),
             Step::PostManage(tenant, pipeline, manage) => {
-                self.post_manage(tenant, pipeline, manage)
+                self.pipeline_step(tenant, pipeline, PipelineStep::PostManage(manage))
             }
-            Step::PostResult(tenant, pipeline, ended) => self.post_result(tenant, pipeline, ended),
-            Step::Turn(tenant, pipeline) => self.turn(tenant, pipeline),
+            Step::PostResult(tenant, pipeline, ended) => {
+                self.pipeline_step(tenant, pipeline, PipelineStep::PostResult(ended))
+            }
+            Step::Turn(tenant, pipeline) => {
+                self.pipeline_step(tenant, pipeline, PipelineStep::Turn)
+            }
         }
     }
 
@@ -101,34 +107,15 @@ impl<'c> World<'c> {
         Some(pipeline.worker.state())
     }
 
-    fn offer(&mut self, conn: ConnId, line: Record) -> Result<Answer, Memory>
-        requires { HasNumber (state_of self.old) (Step.Offer conn line) }
+    // What a connection does by itself: `Idle` where there is none of that number.
+    fn connection_step(&mut self, conn: ConnId, step: ConnectionStep) -> Result<Answer, Memory>
+        requires { (connection : ConnectionState) → slice_get (state_of self.old).connections conn.0 ≡ Some connection → HasNumberLeft step connection }
         ensures config { config_of self.new ≡ config_of self.old }
-        ensures moves { Does (state_of self.old) (on_connection (offer line) conn.0 (state_of self.old)) (state_of self.new) result }
+        ensures moves { Does (state_of self.old) (on_connection (connection_step (config_of self.old) conn.0 step) conn.0 (state_of self.old)) (state_of self.new) result }
+        ensures needs { OnErr result (IsThere (ConnectionNeeds step) (slice_get (state_of self.old).connections conn.0)) }
     {
         match self.connections.get_mut(conn.0 as usize) {
-            Some(connection) => connection.offer(line),
-            None => Ok(Answer::Idle),
-        }
-    }
-
-    fn close(&mut self, conn: ConnId) -> Result<Answer, Memory>
-        ensures config { config_of self.new ≡ config_of self.old }
-        ensures moves { Does (state_of self.old) (on_connection close conn.0 (state_of self.old)) (state_of self.new) result }
-    {
-        match self.connections.get_mut(conn.0 as usize) {
-            Some(connection) => connection.close(),
-            None => Ok(Answer::Idle),
-        }
-    }
-
-    fn take(&mut self, conn: ConnId) -> Result<Answer, Memory>
-        ensures config { config_of self.new ≡ config_of self.old }
-        ensures moves { Does (state_of self.old) (on_connection (take (config_of self.old) conn.0) conn.0 (state_of self.old)) (state_of self.new) result }
-        ensures needs { OnErr result (StepNeeds (state_of self.old) (Step.Take conn)) }
-    {
-        match self.connections.get_mut(conn.0 as usize) {
-            Some(connection) => connection.take(self.alloc),
+            Some(connection) => connection.step(self.alloc, step),
             None => Ok(Answer::Idle),
         }
     }
@@ -143,73 +130,33 @@ impl<'c> World<'c> {
         }
     }
 
-    fn fetch(&mut self, tenant: TenantId, count: u32) -> Result<Answer, Memory>
+    // What a tenant's worker does by itself: `Idle` where there is no tenant of that number.
+    fn tenant_step(&mut self, tenant: TenantId, step: TenantStep) -> Result<Answer, Memory>
         ensures config { config_of self.new ≡ config_of self.old }
-        ensures moves { Does (state_of self.old) (on_tenant (fetch (config_of self.old) tenant.0 count) tenant.0 (state_of self.old)) (state_of self.new) result }
+        ensures moves { Does (state_of self.old) (on_tenant (tenant_step (config_of self.old) tenant.0 step) tenant.0 (state_of self.old)) (state_of self.new) result }
     {
         match self.tenants.get_mut(tenant.0 as usize) {
-            Some(worker) => worker.fetch(count),
+            Some(tenant) => tenant.step(self.alloc, step),
             None => Ok(Answer::Idle),
         }
     }
 
-    fn match_gathered(&mut self, tenant: TenantId) -> Result<Answer, Memory>
-        ensures config { config_of self.new ≡ config_of self.old }
-        ensures moves { Does (state_of self.old) (on_tenant (match_gathered (config_of self.old) tenant.0) tenant.0 (state_of self.old)) (state_of self.new) result }
-    {
-        match self.tenants.get_mut(tenant.0 as usize) {
-            Some(worker) => worker.match_gathered(self.alloc),
-            None => Ok(Answer::Idle),
-        }
-    }
-
-    fn give(&mut self, tenant: TenantId) -> Result<Answer, Memory>
-        ensures config { config_of self.new ≡ config_of self.old }
-        ensures moves { Does (state_of self.old) (on_tenant give tenant.0 (state_of self.old)) (state_of self.new) result }
-    {
-        match self.tenants.get_mut(tenant.0 as usize) {
-            Some(worker) => worker.give(),
-            None => Ok(Answer::Idle),
-        }
-    }
-
-    fn post_manage(
+    // A post to a pipeline, or a turn of it: `Idle` where it isn't there.
+    fn pipeline_step(
         &mut self,
         tenant: TenantId,
         pipeline: PipelineId,
-        manage: Manage,
+        step: PipelineStep,
     ) -> Result<Answer, Memory>
         ensures config { config_of self.new ≡ config_of self.old }
-        ensures moves { Does (state_of self.old) (on_tenant (on_pipeline (post_manage manage) pipeline.0) tenant.0 (state_of self.old)) (state_of self.new) result }
+        ensures moves { Does (refused_at step tenant.0 pipeline.0 (state_of self.old)) (on_tenant (on_pipeline (pipeline_step (config_of self.old) step) pipeline.0) tenant.0 (state_of self.old)) (state_of self.new) result }
+        ensures needs { OnErr result (IsThere (PipelineNeeds step) (pipeline_at tenant.0 pipeline.0 (state_of self.old))) }
     {
         match self.tenants.get_mut(tenant.0 as usize) {
-            Some(worker) => worker.post_manage(pipeline, manage),
-            None => Ok(Answer::Idle),
-        }
-    }
-
-    fn post_result(
-        &mut self,
-        tenant: TenantId,
-        pipeline: PipelineId,
-        ended: JobResult,
-    ) -> Result<Answer, Memory>
-        ensures config { config_of self.new ≡ config_of self.old }
-        ensures moves { Does (state_of self.old) (on_tenant (on_pipeline (post_result ended) pipeline.0) tenant.0 (state_of self.old)) (state_of self.new) result }
-    {
-        match self.tenants.get_mut(tenant.0 as usize) {
-            Some(worker) => worker.post_result(pipeline, ended),
-            None => Ok(Answer::Idle),
-        }
-    }
-
-    fn turn(&mut self, tenant: TenantId, pipeline: PipelineId) -> Result<Answer, Memory>
-        ensures config { config_of self.new ≡ config_of self.old }
-        ensures moves { Does (refused_step (state_of self.old) (Step.Turn tenant pipeline)) (on_tenant (on_pipeline (turned (config_of self.old)) pipeline.0) tenant.0 (state_of self.old)) (state_of self.new) result }
-        ensures needs { OnErr result (StepNeeds (state_of self.old) (Step.Turn tenant pipeline)) }
-    {
-        match self.tenants.get_mut(tenant.0 as usize) {
-            Some(worker) => worker.turn(self.config, pipeline),
+            Some(tenant) => match tenant.pipelines.get_mut(pipeline.0 as usize) {
+                Some(pipeline) => pipeline.step(self.config, step),
+                None => Ok(Answer::Idle),
+            },
             None => Ok(Answer::Idle),
         }
     }

@@ -35,9 +35,9 @@ pub returns-in-Ok-clause-tenants : goal.returns-in-Ok-clause-tenants
 returns-in-Ok-clause-tenants c config all =
     let tenants = c.args.tenants.now.items in
     let item = c.in-Some-get_mut.ensures.item in
-    let at = lent tenants c.in-Some.tenant.0 c.in-Some-get_mut.worker.now item.3.0 item.1 in
-    let was = all c.in-Some.tenant.0 c.in-Some-get_mut.worker.now at in
-    each_set (IsTenant config) tenants c.in-Some.tenant.0 c.in-Some-get_mut.worker.now c.put.new.self at all (c.in-Ok.ensures.config ∙ was.0, c.in-Ok.ensures.number ∙ was.1)
+    let at = lent tenants c.in-Some.tenant.0 c.in-Some-get_mut.tenant.now item.3.0 item.1 in
+    let was = all c.in-Some.tenant.0 c.in-Some-get_mut.tenant.now at in
+    each_set (IsTenant config) tenants c.in-Some.tenant.0 c.in-Some-get_mut.tenant.now c.put.new.self at all (c.in-Ok.ensures.config ∙ was.0, c.in-Ok.ensures.number ∙ was.1)
 
 pub returns-in-Ok-clause-does : goal.returns-in-Ok-clause-does
 returns-in-Ok-clause-does c =
@@ -47,7 +47,7 @@ returns-in-Ok-clause-does c =
     let new = hand_of c.next.new.self in
     let first : TenantId × TenantItem = (c.in-Some.tenant, c.in-Some.item) in
     let out = is_out old new first c.in-Some.ensures.moves in
-    let worker = c.in-Some-get_mut.worker.now in
+    let worker = c.in-Some-get_mut.tenant.now in
     let item = c.in-Some-get_mut.ensures.item in
     let at = lent tenants first.0.0 worker item.3.0 item.1 in
     sends_item conn _ (map tenant_view tenants) _ first new.items out.items (tenant_view worker) (seen tenant_view tenants first.0.0 worker at)
@@ -58,9 +58,9 @@ pub returns-in-Err-clause-tenants : goal.returns-in-Err-clause-tenants
 returns-in-Err-clause-tenants c config all =
     let tenants = c.args.tenants.now.items in
     let item = c.in-Some-get_mut.ensures.item in
-    let at = lent tenants c.in-Some.tenant.0 c.in-Some-get_mut.worker.now item.3.0 item.1 in
-    let was = all c.in-Some.tenant.0 c.in-Some-get_mut.worker.now at in
-    each_set (IsTenant config) tenants c.in-Some.tenant.0 c.in-Some-get_mut.worker.now c.put.new.self at all (c.in-Err.ensures.config ∙ was.0, c.in-Err.ensures.number ∙ was.1)
+    let at = lent tenants c.in-Some.tenant.0 c.in-Some-get_mut.tenant.now item.3.0 item.1 in
+    let was = all c.in-Some.tenant.0 c.in-Some-get_mut.tenant.now at in
+    each_set (IsTenant config) tenants c.in-Some.tenant.0 c.in-Some-get_mut.tenant.now c.put.new.self at all (c.in-Err.ensures.config ∙ was.0, c.in-Err.ensures.number ∙ was.1)
 
 pub returns-in-Err-clause-does : goal.returns-in-Err-clause-does
 returns-in-Err-clause-does c =
@@ -70,7 +70,7 @@ returns-in-Err-clause-does c =
     let new = hand_of c.next.new.self in
     let first : TenantId × TenantItem = (c.in-Some.tenant, c.in-Some.item) in
     let out = is_out old new first c.in-Some.ensures.moves in
-    let worker = c.in-Some-get_mut.worker.now in
+    let worker = c.in-Some-get_mut.tenant.now in
     let item = c.in-Some-get_mut.ensures.item in
     let at = lent tenants first.0.0 worker item.3.0 item.1 in
     let refused = c.in-Err.ensures.refused in

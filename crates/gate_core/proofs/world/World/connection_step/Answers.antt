@@ -1,0 +1,49 @@
+use Rattle.std.proofs.Common.{map, subst, sym, OnErr, ℕ, Option}
+use Rattle.std.proofs.lemmas.Option.{slice_get_past}
+use Rattle.gate_config.specs.declared.config.Config.{Config}
+use Rattle.gate_core.specs.Answers.{Does}
+use Rattle.gate_core.specs.Needs.{ConnectionNeeds, IsThere}
+use Rattle.gate_core.specs.States.{ConnectionState}
+use Rattle.gate_core.specs.Steps.{connection_step}
+use Rattle.gate_core.specs.Views.{connection_view, tenant_view}
+use Rattle.gate_core.proofs.Elements.{lent, seen}
+use Rattle.gate_core.proofs.Wholes.{connection_does, connection_idles, known, still_connections}
+use Rattle.gate_core.proofs.world.World.connection_step.Goals as goal
+
+pub step-requires : goal.step-requires
+step-requires c =
+    let conns = c.args.self.now.connections.items in
+    let old = c.in-Some.connection.now in
+    let item = c.in-Some.ensures.item in
+    let at = lent conns c.args.conn.0 old item.3.0 item.1 in
+    c.requires (connection_view old) (seen connection_view conns c.args.conn.0 old at)
+
+pub invariant_of-self-clause-connections_by_number : goal.invariant_of-self-clause-connections_by_number
+invariant_of-self-clause-connections_by_number c =
+    let conns = c.args.self.now.connections.items in
+    let old = c.in-Some.connection.now in
+    let item = c.in-Some.ensures.item in
+    let at = lent conns c.args.conn.0 old item.3.0 item.1 in
+    still_connections c.args.self.now.config.now conns c.args.conn.0 old c.step.new.self at c.args.self.now.connections_by_number c.step.ensures.config c.step.ensures.number
+
+pub returns-in-Some-clause-moves : goal.returns-in-Some-clause-moves
+returns-in-Some-clause-moves c =
+    let conns = c.args.self.now.connections.items in
+    let old = c.in-Some.connection.now in
+    let item = c.in-Some.ensures.item in
+    let at = lent conns c.args.conn.0 old item.3.0 item.1 in
+    connection_does (connection_step c.args.self.now.config.now c.args.conn.0 c.args.step) c.args.conn.0 conns (map tenant_view c.args.self.now.tenants.items) old c.step.new.self c.step.result at
+    (known (λ (config : Config) (n : ℕ). Does (connection_view old) (connection_step config n c.args.step (connection_view old)) (connection_view c.step.new.self) c.step.result) _ _ _ _ (c.args.self.now.connections_by_number c.args.conn.0 old at) c.step.ensures.does)
+
+pub returns-in-Some-clause-needs : goal.returns-in-Some-clause-needs
+returns-in-Some-clause-needs c =
+    let conns = c.args.self.now.connections.items in
+    let old = c.in-Some.connection.now in
+    let item = c.in-Some.ensures.item in
+    let at = lent conns c.args.conn.0 old item.3.0 item.1 in
+    subst (λ (o : Option ConnectionState). OnErr c.step.result (IsThere (ConnectionNeeds c.args.step) o)) (sym (seen connection_view conns c.args.conn.0 old at)) c.step.ensures.needs
+
+pub returns-in-None-clause-moves : goal.returns-in-None-clause-moves
+returns-in-None-clause-moves c =
+    let conns = c.args.self.now.connections.items in
+    connection_idles (connection_step c.args.self.now.config.now c.args.conn.0 c.args.step) c.args.conn.0 conns (map tenant_view c.args.self.now.tenants.items) (slice_get_past conns c.args.conn.0 c.in-None.ensures.item.3)
