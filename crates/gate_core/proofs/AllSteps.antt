@@ -36,7 +36,7 @@ use Rattle.gate_core.specs.declared.step.Step.{Step}
 use Rattle.gate_core.specs.declared.step.Step.TheVariants as step
 use Rattle.gate_pipeline.specs.Histories.{triggering}
 use Rattle.gate_core.specs.History.{History, finished, manage_posts, result_posts}
-use Rattle.gate_core.specs.History.{turned as turned_of}
+use Rattle.gate_core.specs.History.{processed_by}
 use Rattle.gate_core.specs.Pipelines.{answer_of, first_ended, first_managed, first_triggered, found_where, passed_on, post_manage, post_result, took, turned, turned_by}
 use Rattle.gate_core.specs.States.{ConnectionState, TenantState, State, with_gathered}
 use Rattle.gate_core.specs.Steps.{close, fetch, fetched, give, give_from, give_to, match_from, match_gathered, offer, send_from, on_pipeline, send_of, send_to, step_of, take, take_from, with_connection, with_pipeline, with_tenant}
@@ -234,7 +234,7 @@ module _ (config : Config) (h : History) (state : State) (holds : Holds config h
 
     -- an action is processed
     processes : (next : Pipeline) (stamp : Option Stamp) (a : Action) (o : Outcome) →
-        PipeFits config tid.0 pid.0 given next (turned_of tid.0 pid.0 h ++ (stamp, a, o) ∷ []) (finished tid.0 pid.0 h) (manage_posts tid.0 pid.0 h) (result_posts tid.0 pid.0 h) →
+        PipeFits config tid.0 pid.0 given next (processed_by tid.0 pid.0 h ++ (stamp, a, o) ∷ []) (finished tid.0 pid.0 h) (manage_posts tid.0 pid.0 h) (result_posts tid.0 pid.0 h) →
         PipeGoes (step.Turn tid pid) tid pid ten (next, Turned stamp a o)
     processes next stamp a o fits =
         turn_moves next (Turned stamp a o) (turn_fits config h tid pid (Turned stamp a o) given next (fits_same refl (sym (or_false (finished tid.0 pid.0 h))) refl refl fits))
@@ -263,7 +263,7 @@ module _ (config : Config) (h : History) (state : State) (holds : Holds config h
     triggered_goes (item.End ∷ rest) e free =
         turn_moves (took config (taken.Trigger item.End) (record pipe { triggers = rest })).0 Moved
         (turn_fits config h tid pid Moved given (took config (taken.Trigger item.End) (record pipe { triggers = rest })).0
-        (fits_same (sym (append-nil (turned_of tid.0 pid.0 h))) (sym (or_true (finished tid.0 pid.0 h))) refl refl (fits_end old rest e free)))
+        (fits_same (sym (append-nil (processed_by tid.0 pid.0 h))) (sym (or_true (finished tid.0 pid.0 h))) refl refl (fits_end old rest e free)))
 
     -- what is held is processed
     abbrev freed : Option Held → Pipeline × Answer

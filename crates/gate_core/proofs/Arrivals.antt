@@ -19,7 +19,7 @@ use Rattle.gate_config.specs.declared.config.Config.{Config}
 use Rattle.gate_config.specs.Lookups.{lists, rules_of}
 use Rattle.gate_config.specs.Selection.{is_listed, selects, selects_reading}
 use Rattle.gate_forward.specs.Forwarding.{conn_id, stamped, forwarded, forwarded_entry, forwarded_reading}
-use Rattle.gate_tenant.specs.Dispatching.{chosen, chosen_item, holds_ends}
+use Rattle.gate_tenant.specs.Dispatching.{chosen, chosen_item, all_marked_in}
 use Rattle.gate_core.specs.History.{number_from, number_where, wanted}
 use Rattle.gate_record.specs.Entries.{entries_of, numbered}
 use Rattle.gate_core.specs.Ways.{WantedArrive, arrives, number_of_item}
@@ -44,8 +44,8 @@ module _ (config : Config) (t p c : ℕ) where
   -- end marks have no numbers
   pub by_items : (items : List TenantItem) → filter_map (number_of_item c) (chosen config t p items) ≡ filter_map brought items
   by_items items =
-      filter_map-append (number_of_item c) (filter_map (chosen_item config t p) items) (if holds_ends config t items then pipeline.End ∷ [] else [])
-      ∙ ap (λ rest. filter_map (number_of_item c) (filter_map (chosen_item config t p) items) ++ rest) (no_marks (holds_ends config t items))
+      filter_map-append (number_of_item c) (filter_map (chosen_item config t p) items) (if all_marked_in config t items then pipeline.End ∷ [] else [])
+      ∙ ap (λ rest. filter_map (number_of_item c) (filter_map (chosen_item config t p) items) ++ rest) (no_marks (all_marked_in config t items))
       ∙ append-nil (filter_map (number_of_item c) (filter_map (chosen_item config t p) items))
       ∙ filter_map-filter_map (number_of_item c) (chosen_item config t p) items
 

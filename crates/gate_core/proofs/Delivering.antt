@@ -21,7 +21,7 @@ use Rattle.gate_config.specs.Lookups.{connections_of, has_project, lists, projec
 use Rattle.gate_config.specs.Selection.{is_listed, selects_event}
 use Rattle.gate_config.specs.declared.project_set.ProjectSet.{ProjectSet}
 use Rattle.gate_forward.specs.Forwarding.{forwarded, forwarded_entry, forwarded_reading, stamped, conn_id}
-use Rattle.gate_tenant.specs.Dispatching.{chosen, chosen_item, holds_ends, is_end_of, is_from}
+use Rattle.gate_tenant.specs.Dispatching.{chosen, chosen_item, all_marked_in, is_end_of, is_from}
 use Rattle.gate_core.specs.History.{wanted}
 use Rattle.gate_record.specs.Prefixes.{IsPrefixOf}
 use Rattle.gate_record.specs.Entries.{entries_of, numbered}
@@ -216,8 +216,8 @@ module _ (config : Config) (t p c : ℕ) (records : List Record) (closed : Bool)
   none_wanted none = nil_left (numbers taken) behind (sym whole_way ∙ none) ∙ sym none
 
   module _ (fin : list_any is_end taken ≡ true) where
-    ends : (holds_ends config t way.matched ≡ true) × (way.untaken ≡ [])
-    ends = last_of_all is_end pipeline.End (filter_map (chosen_item config t p) way.matched) (holds_ends config t way.matched) taken way.untaken
+    ends : (all_marked_in config t way.matched ≡ true) × (way.untaken ≡ [])
+    ends = last_of_all is_end pipeline.End (filter_map (chosen_item config t p) way.matched) (all_marked_in config t way.matched) taken way.untaken
         (items_no_end config t p way.matched) (sym way.chooses) fin
 
     abbrev has_mark : ℕ → Bool

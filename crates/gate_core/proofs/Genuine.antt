@@ -13,7 +13,7 @@ use Rattle.gate_forward.specs.Forwarding.{forwarded}
 use Rattle.gate_items.specs.declared.action.Action.{Action}
 use Rattle.gate_pipeline.specs.Histories.{asking}
 use Rattle.gate_pipeline.specs.Triggers.{trigger_of}
-use Rattle.gate_core.specs.History.{History, accepted, asked_by, asked_of, closed}
+use Rattle.gate_core.specs.History.{History, accepted_records, asked_by, asked_of, closed}
 use Rattle.gate_core.specs.Ways.{IsReadFrom}
 use Rattle.gate_core.proofs.Readings.{AllOf, ItemIs, TriggerIs, all_picked, forwarded_are}
 use Rattle.gate_core.proofs.Streams.{put_by}
@@ -21,11 +21,11 @@ use Rattle.gate_core.proofs.Working.{the_same}
 
 -- the record of the stamp was accepted, and reads as the event
 abbrev pub IsGenuine : History → Stamped → Type 0
-IsGenuine h s = IsReadFrom (accepted s.stamp.conn.0 h) s
+IsGenuine h s = IsReadFrom (accepted_records s.stamp.conn.0 h) s
 
 -- what is forwarded of all that was put
 pub genuine_forwarded : (config : Config) (t : ℕ) (h : History) (c : ℕ) → AllOf (ItemIs (IsGenuine h)) (forwarded config t c (put_by c h))
-genuine_forwarded config t h c = forwarded_are (IsGenuine h) config t c (accepted c h) (λ s same is. subst (λ d. IsReadFrom (accepted d h) s) (sym same) is) (closed c h)
+genuine_forwarded config t h c = forwarded_are (IsGenuine h) config t c (accepted_records c h) (λ s same is. subst (λ d. IsReadFrom (accepted_records d h) s) (sym same) is) (closed c h)
 
 -- ---- what they ask for
 

@@ -23,7 +23,7 @@ use Rattle.gate_forward.specs.Forwarding.{conn_id, for_tenant, forwarded, forwar
 use Rattle.gate_forward.specs.Histories.{EachTenantGetsItsOwn, items_to}
 use Rattle.gate_core.specs.declared.answer.Answer.TheVariants.{Accepted, Moved}
 use Rattle.gate_core.specs.declared.step.Step.TheVariants as step
-use Rattle.gate_core.specs.History.{History, accepted, closed, is_put, is_taking}
+use Rattle.gate_core.specs.History.{History, accepted_records, closed, is_put, is_taking}
 use Rattle.gate_core.specs.States.{ConnectionState, State}
 use Rattle.gate_tenant.specs.Dispatching.{conn_of_item}
 use Rattle.gate_record.specs.Entries.{entries_of, numbered}
@@ -101,18 +101,18 @@ module _ (config : Config) (h : History) (state : State) (d : ConnId) (line : Re
   abbrev k1 : ConnectionState
   k1 = record k { accepted = k.accepted + 1; queue = k.queue ++ entry.Numbered k.accepted line ∷ [] }
 
-  accepts_it : accepted d.0 h1 ≡ accepted d.0 h ++ line ∷ []
-  accepts_it = accepted_push d.0 h (step.Offer d line, Accepted k.accepted) ∙ ap (λ b. accepted d.0 h ++ option_to_list (cond b (Some line) None)) (same_as_itself d.0)
+  accepts_it : accepted_records d.0 h1 ≡ accepted_records d.0 h ++ line ∷ []
+  accepts_it = accepted_push d.0 h (step.Offer d line, Accepted k.accepted) ∙ ap (λ b. accepted_records d.0 h ++ option_to_list (cond b (Some line) None)) (same_as_itself d.0)
 
   stays : closed d.0 h1 ≡ closed d.0 h
   stays = closed_push d.0 h (step.Offer d line, Accepted k.accepted) ∙ or_false (closed d.0 h)
 
-  put_one_more : closed d.0 h ≡ false → k.accepted ≡ length (accepted d.0 h) → put_by d.0 h1 ≡ put_by d.0 h ++ entry.Numbered k.accepted line ∷ []
+  put_one_more : closed d.0 h ≡ false → k.accepted ≡ length (accepted_records d.0 h) → put_by d.0 h1 ≡ put_by d.0 h ++ entry.Numbered k.accepted line ∷ []
   put_one_more shut count =
-      let before = entries_of (accepted d.0 h) in
+      let before = entries_of (accepted_records d.0 h) in
       (λ i. entries_of (accepts_it i) ++ mark ((stays ∙ shut) i))
-      ∙ append-nil (entries_of (accepted d.0 h ++ line ∷ []))
-      ∙ entries_more (accepted d.0 h) line
+      ∙ append-nil (entries_of (accepted_records d.0 h ++ line ∷ []))
+      ∙ entries_more (accepted_records d.0 h) line
       ∙ ap (λ n. before ++ entry.Numbered n line ∷ []) (sym count)
       ∙ sym (ap (λ b. (before ++ mark b) ++ entry.Numbered k.accepted line ∷ []) shut ∙ ap (λ xs. xs ++ entry.Numbered k.accepted line ∷ []) (append-nil before))
 
@@ -127,7 +127,7 @@ module _ (config : Config) (h : History) (state : State) (d : ConnId) (line : Re
       (λ c differ. conn_untouched c h (step.Offer d line) (Accepted k.accepted) (differs d.0 c differ) refl refl)
       (λ t p. pipe_untouched t p h (step.Offer d line) (Accepted k.accepted) refl refl refl)
       (record {
-        count = ap (λ n. n + 1) old.count ∙ sym (ap length accepts_it ∙ length-append (accepted d.0 h) (line ∷ []));
+        count = ap (λ n. n + 1) old.count ∙ sym (ap length accepts_it ∙ length-append (accepted_records d.0 h) (line ∷ []));
         closing = old.closing ∙ sym stays;
         waits = let was = old.waits in omega (arith, was, puts, takes, long);
         within = omega (arith, room, long);
@@ -145,15 +145,15 @@ module _ (config : Config) (h : History) (state : State) (d : ConnId) (k : Conne
   abbrev k2 : ConnectionState
   k2 = record k { closed = true; queue = k.queue ++ entry.End ∷ [] }
 
-  accepts_none : accepted d.0 h2 ≡ accepted d.0 h
-  accepts_none = accepted_push d.0 h (step.Close d, Moved) ∙ append-nil (accepted d.0 h)
+  accepts_none : accepted_records d.0 h2 ≡ accepted_records d.0 h
+  accepts_none = accepted_push d.0 h (step.Close d, Moved) ∙ append-nil (accepted_records d.0 h)
 
   shuts : closed d.0 h ≡ false → closed d.0 h2 ≡ true
   shuts shut = closed_push d.0 h (step.Close d, Moved) ∙ (λ i. shut i || ((same_as_itself d.0 i && true) || false))
 
   put_the_mark : closed d.0 h ≡ false → put_by d.0 h2 ≡ put_by d.0 h ++ entry.End ∷ []
   put_the_mark shut =
-      let before = entries_of (accepted d.0 h) in
+      let before = entries_of (accepted_records d.0 h) in
       (λ i. entries_of (accepts_none i) ++ mark (shuts shut i))
       ∙ sym (ap (λ b. (before ++ mark b) ++ entry.End ∷ []) shut ∙ ap (λ xs. xs ++ entry.End ∷ []) (append-nil before))
 
@@ -212,8 +212,8 @@ module _ (config : Config) (h : History) (state : State) (d : ConnId) (k : Conne
   abbrev k3 : ConnectionState
   k3 = record k { queue = queue; hand = sends config d.0 e }
 
-  taken_accepts : accepted d.0 h3 ≡ accepted d.0 h
-  taken_accepts = accepted_push d.0 h (step.Take d, Moved) ∙ append-nil (accepted d.0 h)
+  taken_accepts : accepted_records d.0 h3 ≡ accepted_records d.0 h
+  taken_accepts = accepted_push d.0 h (step.Take d, Moved) ∙ append-nil (accepted_records d.0 h)
 
   taken_closes : closed d.0 h3 ≡ closed d.0 h
   taken_closes = closed_push d.0 h (step.Take d, Moved) ∙ or_false (closed d.0 h)

@@ -18,8 +18,8 @@ use Rattle.gate_core.specs.declared.pipeline.Pipeline.{Pipeline}
 use Rattle.gate_core.specs.declared.step.Step.{Step}
 use Rattle.gate_core.specs.declared.step.Step.TheVariants as step
 use Rattle.gate_core.specs.Chains.{Attempt, IsChain, IsNext, answered_history, left_behind}
-use Rattle.gate_core.specs.History.{is_turn, turn_of, turned_in}
-use Rattle.gate_core.specs.History.{processed as processed_by, turned as turned_of}
+use Rattle.gate_core.specs.History.{is_turn, turn_of, processed_in}
+use Rattle.gate_core.specs.History.{processed_of, processed_by}
 use Rattle.gate_core.specs.Pipelines.{Found, answer_of, found, found_where, holding, post_manage, post_result, refused, refused_by, turned, turned_by}
 use Rattle.gate_core.specs.States.{ConnectionState, State, TenantState, pipeline_at, with_gathered}
 use Rattle.gate_core.specs.Steps.{close, fetch, fetched, give, give_from, give_to, match_from, match_gathered, offer, on_pipeline, refused_in, refused_step, refused_turn_of, send_from, send_of, send_to, step_of, take, with_connection, with_pipeline, with_refused, with_tenant}
@@ -184,11 +184,11 @@ refused_stays pipe waits e = ap (λ (f : Found). (refused_by f pipe).worker) (fo
 
 -- it is answered: nothing is processed and it stays, or what it holds is processed
 data Turns (config : Config) (pipe : Pipeline) (waits : Held) (next : Pipeline × Answer) : Type 0 where
-  stays : next.0.worker ≡ pipe.worker → processed_by next.1 ≡ None → Turns config pipe waits next
-  processes : processed_by next.1 ≡ Some (processed config waits (held_as None pipe.worker)).1 → Turns config pipe waits next
+  stays : next.0.worker ≡ pipe.worker → processed_of next.1 ≡ None → Turns config pipe waits next
+  processes : processed_of next.1 ≡ Some (processed config waits (held_as None pipe.worker)).1 → Turns config pipe waits next
 
-turns_again : (config : Config) (pipe : Pipeline) (waits : Held) (o : Option Held) → o ≡ Some waits → processed_by (answer_of (with_processed config o pipe.worker).1) ≡ Some (processed config waits (held_as None pipe.worker)).1
-turns_again config pipe waits o e = ap (λ (x : Option Held). processed_by (answer_of (with_processed config x pipe.worker).1)) e
+turns_again : (config : Config) (pipe : Pipeline) (waits : Held) (o : Option Held) → o ≡ Some waits → processed_of (answer_of (with_processed config o pipe.worker).1) ≡ Some (processed config waits (held_as None pipe.worker)).1
+turns_again config pipe waits o e = ap (λ (x : Option Held). processed_of (answer_of (with_processed config x pipe.worker).1)) e
 
 turns_by : (config : Config) (fin : Bool) (waits : Held) (now : Phase) (pipe : Pipeline) → pipe.worker.held ≡ Some waits → Turns config pipe waits (turned_by config (found_as fin waits now pipe) pipe)
 turns_by config true waits now pipe e = stays refl refl
@@ -202,8 +202,8 @@ turns config pipe waits e =
 
 -- nothing is processed, and the worker stays; or this is processed
 data Goes (state : State) (t p : ℕ) (one : Processed) (s : Step) (next : State × Answer) : Type 0 where
-  stays : worker_at t p next.0 ≡ worker_at t p state → turned_in t p (s, next.1) ≡ None → Goes state t p one s next
-  processes : turned_in t p (s, next.1) ≡ Some one → Goes state t p one s next
+  stays : worker_at t p next.0 ≡ worker_at t p state → processed_in t p (s, next.1) ≡ None → Goes state t p one s next
+  processes : processed_in t p (s, next.1) ≡ Some one → Goes state t p one s next
 
 module _ (config : Config) (state : State) (waits : Held) (w : Worker) (held : w.held ≡ Some waits) where
   abbrev one : Processed
@@ -220,8 +220,8 @@ module _ (config : Config) (state : State) (waits : Held) (w : Worker) (held : w
     this : is_turn u.0 q.0 s ≡ true
     this = λ i. same_as_itself u.0 i && same_as_itself q.0 i
 
-    turned_is : (a : Answer) → turned_in u.0 q.0 (s, a) ≡ processed_by a
-    turned_is a = ap (λ b. if b then processed_by a else None) this
+    turned_is : (a : Answer) → processed_in u.0 q.0 (s, a) ≡ processed_of a
+    turned_is a = ap (λ b. if b then processed_of a else None) this
 
     after_turn : (ten : TenantState) (pipe : Pipeline) → slice_get state.tenants u.0 ≡ Some ten → slice_get ten.pipelines q.0 ≡ Some pipe → pipe.worker ≡ w → (next : Pipeline × Answer) → Turns config pipe waits next →
         GoesBy (record state { tenants = slice_set state.tenants u.0 (record ten { pipelines = slice_set ten.pipelines q.0 next.0 }) }, next.1)
@@ -264,7 +264,7 @@ module _ (config : Config) (state : State) (waits : Held) (w : Worker) (held : w
     both_are i j k l false b e f both = absurd (cc)
 
     other_goes : (s : Step) → is_turn t p s ≡ false → Goes state t p one s (step_of config state s)
-    other_goes s e = stays (step_leaves config state t p s e) (ap (λ b. if b then processed_by (step_of config state s).1 else None) e)
+    other_goes s e = stays (step_leaves config state t p s e) (ap (λ b. if b then processed_of (step_of config state s).1 else None) e)
 
     this_goes : (u : TenantId) (q : PipelineId) → (u.0 ≡ t) × (q.0 ≡ p) → Goes state t p one (step.Turn u q) (step_of config state (step.Turn u q))
     this_goes u q same =
@@ -324,9 +324,9 @@ module _ (config : Config) (t p : ℕ) (waits : Held) (w : Worker) (held : w.hel
   first_is left o rest is = subst (λ (x : Option Processed). IsNext waits first_one (cons_option x rest) left) (sym is) refl
 
   after_answer : (left : Option Pipeline) (state : State) → worker_at t p state ≡ Some w → (s : Step) (answer : Answer) (next : State) (rest : List Processed) → Goes state t p first_one s (next, answer) →
-      (worker_at t p next ≡ Some w → IsNext waits first_one rest left) → IsNext waits first_one (cons_option (turned_in t p (s, answer)) rest) left
-  after_answer left state there s answer next rest (stays same none) further = first_if left (turned_in t p (s, answer)) rest none (further (same ∙ there))
-  after_answer left state there s answer next rest (processes is) further = first_is left (turned_in t p (s, answer)) rest is
+      (worker_at t p next ≡ Some w → IsNext waits first_one rest left) → IsNext waits first_one (cons_option (processed_in t p (s, answer)) rest) left
+  after_answer left state there s answer next rest (stays same none) further = first_if left (processed_in t p (s, answer)) rest none (further (same ∙ there))
+  after_answer left state there s answer next rest (processes is) further = first_is left (processed_in t p (s, answer)) rest is
 
   held_by : (o : Option Pipeline) → option_map (λ (x : Pipeline). x.worker) o ≡ Some w → option_and_then (λ (x : Pipeline). x.worker.held) o ≡ Some waits
   held_by None e = absurd (cc)
@@ -337,12 +337,12 @@ module _ (config : Config) (t p : ℕ) (waits : Held) (w : Worker) (held : w.hel
   still_held (Some ten) e = held_by (slice_get ten.pipelines p) e
 
   held_first : (state : State) → worker_at t p state ≡ Some w → (attempts : List Attempt) → IsChain config state attempts →
-      IsNext waits first_one (turned_of t p (answered_history attempts)) (pipeline_at t p (left_behind state attempts))
+      IsNext waits first_one (processed_by t p (answered_history attempts)) (pipeline_at t p (left_behind state attempts))
   held_first state there [] chain = still_held (slice_get state.tenants t) there
   held_first state there ((s, Err memory, next) ∷ attempts) chain =
       held_first next (ap (worker_at t p) chain.0 ∙ refused_leaves config state waits w held t p there (turn_of s) ∙ there) attempts chain.1
   held_first state there ((s, Ok answer, next) ∷ attempts) chain =
-      after_answer (pipeline_at t p (left_behind next attempts)) state there s answer next (turned_of t p (answered_history attempts))
+      after_answer (pipeline_at t p (left_behind next attempts)) state there s answer next (processed_by t p (answered_history attempts))
       (subst (Goes state t p first_one s) (sym chain.0) (goes config state waits w held t p there s)) (λ still. held_first next still attempts chain.1)
 
 worker_of : (p : ℕ) (o : Option TenantState) (pipe : Pipeline) → option_and_then (λ (ten : TenantState). slice_get ten.pipelines p) o ≡ Some pipe → worker_in p o ≡ Some pipe.worker
@@ -351,5 +351,5 @@ worker_of p (Some ten) pipe e = ap (option_map (λ (x : Pipeline). x.worker)) e
 
 pub next_is_held : (config : Config) (state : State) (attempts : List Attempt) → IsChain config state attempts →
     (t p : ℕ) (pipe : Pipeline) (waits : Held) → pipeline_at t p state ≡ Some pipe → pipe.worker.held ≡ Some waits →
-    IsNext waits (processed config waits (held_as None pipe.worker)).1 (turned_of t p (answered_history attempts)) (pipeline_at t p (left_behind state attempts))
+    IsNext waits (processed config waits (held_as None pipe.worker)).1 (processed_by t p (answered_history attempts)) (pipeline_at t p (left_behind state attempts))
 next_is_held config state attempts chain t p pipe waits at held = held_first config t p waits pipe.worker held state (worker_of p (slice_get state.tenants t) pipe at) attempts chain

@@ -18,7 +18,7 @@ use Rattle.gate_tenant.specs.Histories.{EachGetsItsOwn, NothingIsLost, item_for,
 use Rattle.gate_pipeline.specs.Histories.{stamp_in, stamp_of}
 use Rattle.gate_pipeline.specs.States.{Processed}
 use Rattle.gate_core.specs.declared.pipeline.Pipeline.{Pipeline}
-use Rattle.gate_core.specs.History.{History, accepted, closed, done, finished, number_from, numbers_from, wanted}
+use Rattle.gate_core.specs.History.{History, accepted_records, closed, done, finished, number_from, numbers_from, wanted}
 use Rattle.gate_record.specs.Prefixes.{IsPrefixOf}
 use Rattle.gate_core.specs.Promises.{Delivers}
 use Rattle.gate_core.specs.States.{TenantState, State}
@@ -67,7 +67,7 @@ module _ (own : EachGetsItsOwn) (lossless : NothingIsLost) (config : Config) (h 
   all_taken : there.past.taken ++ ten.queue ≡ there.past.done ++ (there.past.state.gathered ++ ten.queue)
   all_taken = ap (λ xs. xs ++ ten.queue) (sym (lossless config t there.past there.happens)) ∙ append_assoc there.past.done there.past.state.gathered ten.queue
 
-  way : Way config t p c (accepted c h) (closed c h) worked.taken
+  way : Way config t p c (accepted_records c h) (closed c h) worked.taken
   way = record {
     matched = there.past.done;
     unmatched = there.past.state.gathered ++ ten.queue;
@@ -82,50 +82,50 @@ module _ (own : EachGetsItsOwn) (lossless : NothingIsLost) (config : Config) (h 
   processed_numbers : numbers_from c (done t p h) ≡ filter_map (number_of_item c) worked.taken
   processed_numbers = ap (numbers_from c) (sym worked.does ∙ sym worked.stamps) ∙ numbers_taken c worked.taken
 
-  prefix : IsPrefixOf (numbers_from c (done t p h)) (wanted config t p c (accepted c h))
+  prefix : IsPrefixOf (numbers_from c (done t p h)) (wanted config t p c (accepted_records c h))
   prefix =
-      let front = taken_in_order config t p c (accepted c h) (closed c h) worked.taken way in
+      let front = taken_in_order config t p c (accepted_records c h) (closed c h) worked.taken way in
       (front.0, ap (λ xs. xs ++ front.0) processed_numbers ∙ front.1)
 
   module _ (fin : finished t p h ≡ true) where
-    out_of_range : length (connections_of config) ≤ c → accepted c h ≡ []
+    out_of_range : length (connections_of config) ≤ c → accepted_records c h ≡ []
     out_of_range past =
         let count : length state.connections ≡ length (connections_of config) = holds.conn_count in
-        no_records (accepted c h) (ap count_of (sym (slice_get_past state.connections c (omega (arith, past, count)))) ∙ (holds.conns c).count)
+        no_records (accepted_records c h) (ap count_of (sym (slice_get_past state.connections c (omega (arith, past, count)))) ∙ (holds.conns c).count)
 
-    whole_by : (b : Bool) → nat_lt c (length (connections_of config)) ≡ b → numbers_from c (done t p h) ≡ wanted config t p c (accepted c h)
+    whole_by : (b : Bool) → nat_lt c (length (connections_of config)) ≡ b → numbers_from c (done t p h) ≡ wanted config t p c (accepted_records c h)
     whole_by true e =
         processed_numbers
-        ∙ taken_whole config t p c (accepted c h) (closed c h) worked.taken way (worked.marked ∙ worked.finishes ∙ fin) (ltb-true c (length (connections_of config)) e)
+        ∙ taken_whole config t p c (accepted_records c h) (closed c h) worked.taken way (worked.marked ∙ worked.finishes ∙ fin) (ltb-true c (length (connections_of config)) e)
     whole_by false e =
         processed_numbers
-        ∙ none_wanted config t p c (accepted c h) (closed c h) worked.taken way (ap (wanted config t p c) (out_of_range (ltb-false c (length (connections_of config)) e)))
+        ∙ none_wanted config t p c (accepted_records c h) (closed c h) worked.taken way (ap (wanted config t p c) (out_of_range (ltb-false c (length (connections_of config)) e)))
 
-    pub whole : numbers_from c (done t p h) ≡ wanted config t p c (accepted c h)
+    pub whole : numbers_from c (done t p h) ≡ wanted config t p c (accepted_records c h)
     whole = whole_by (nat_lt c (length (connections_of config))) refl
 
 -- ---- every pipeline
 
 module _ (own : EachGetsItsOwn) (lossless : NothingIsLost) (config : Config) (h : History) (state : State) (holds : Holds config h state) (t p c : ℕ) where
-  nobody : is_some (pipe_of p (slice_get state.tenants t)) ≡ false → IsPrefixOf (numbers_from c (done t p h)) (wanted config t p c (accepted c h))
-  nobody none = (wanted config t p c (accepted c h), ap (λ (ts : List Processed). numbers_from c (filter_map stamp_of ts) ++ wanted config t p c (accepted c h)) (holds.others t p none).0)
+  nobody : is_some (pipe_of p (slice_get state.tenants t)) ≡ false → IsPrefixOf (numbers_from c (done t p h)) (wanted config t p c (accepted_records c h))
+  nobody none = (wanted config t p c (accepted_records c h), ap (λ (ts : List Processed). numbers_from c (filter_map stamp_of ts) ++ wanted config t p c (accepted_records c h)) (holds.others t p none).0)
 
-  order_by_pipe : (ten : TenantState) → slice_get state.tenants t ≡ Some ten → (q : Option Pipeline) → slice_get ten.pipelines p ≡ q → IsPrefixOf (numbers_from c (done t p h)) (wanted config t p c (accepted c h))
+  order_by_pipe : (ten : TenantState) → slice_get state.tenants t ≡ Some ten → (q : Option Pipeline) → slice_get ten.pipelines p ≡ q → IsPrefixOf (numbers_from c (done t p h)) (wanted config t p c (accepted_records c h))
   order_by_pipe ten at None e = nobody (ap (λ o. is_some (pipe_of p o)) at ∙ ap is_some e)
   order_by_pipe ten at (Some pipe) e = prefix own lossless config h state holds t p c ten pipe at e
 
-  order_by : (o : Option TenantState) → slice_get state.tenants t ≡ o → IsPrefixOf (numbers_from c (done t p h)) (wanted config t p c (accepted c h))
+  order_by : (o : Option TenantState) → slice_get state.tenants t ≡ o → IsPrefixOf (numbers_from c (done t p h)) (wanted config t p c (accepted_records c h))
   order_by None e = nobody (ap (λ o. is_some (pipe_of p o)) e)
   order_by (Some ten) e = order_by_pipe ten e (slice_get ten.pipelines p) refl
 
-  unfinished : is_some (pipe_of p (slice_get state.tenants t)) ≡ false → finished t p h ≡ true → numbers_from c (done t p h) ≡ wanted config t p c (accepted c h)
+  unfinished : is_some (pipe_of p (slice_get state.tenants t)) ≡ false → finished t p h ≡ true → numbers_from c (done t p h) ≡ wanted config t p c (accepted_records c h)
   unfinished none fin = let not_finished : finished t p h ≡ false = (holds.others t p none).1 in absurd (cc)
 
-  whole_by_pipe : (ten : TenantState) → slice_get state.tenants t ≡ Some ten → (q : Option Pipeline) → slice_get ten.pipelines p ≡ q → finished t p h ≡ true → numbers_from c (done t p h) ≡ wanted config t p c (accepted c h)
+  whole_by_pipe : (ten : TenantState) → slice_get state.tenants t ≡ Some ten → (q : Option Pipeline) → slice_get ten.pipelines p ≡ q → finished t p h ≡ true → numbers_from c (done t p h) ≡ wanted config t p c (accepted_records c h)
   whole_by_pipe ten at None e fin = unfinished (ap (λ o. is_some (pipe_of p o)) at ∙ ap is_some e) fin
   whole_by_pipe ten at (Some pipe) e fin = whole own lossless config h state holds t p c ten pipe at e fin
 
-  whole_by_tenant : (o : Option TenantState) → slice_get state.tenants t ≡ o → finished t p h ≡ true → numbers_from c (done t p h) ≡ wanted config t p c (accepted c h)
+  whole_by_tenant : (o : Option TenantState) → slice_get state.tenants t ≡ o → finished t p h ≡ true → numbers_from c (done t p h) ≡ wanted config t p c (accepted_records c h)
   whole_by_tenant None e fin = unfinished (ap (λ o. is_some (pipe_of p o)) e) fin
   whole_by_tenant (Some ten) e fin = whole_by_pipe ten e (slice_get ten.pipelines p) refl fin
 

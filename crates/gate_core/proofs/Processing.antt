@@ -21,7 +21,7 @@ use Rattle.gate_pipeline.specs.Histories.{action_of, asking, managing, outcome_o
 use Rattle.gate_pipeline.specs.States.{Processed, manager_of}
 use Rattle.gate_tenant.specs.Histories.{EachGetsItsOwn, NothingIsLost, items_for}
 use Rattle.gate_core.specs.declared.pipeline.Pipeline.{Pipeline}
-use Rattle.gate_core.specs.History.{History, actions, asked_by, done, manage_posts, managed, outcomes, result_posts, resulted, stamp_with, triggered}
+use Rattle.gate_core.specs.History.{History, actions, asked_by, done, manage_posts, processed_management, outcomes, result_posts, processed_results, stamp_with, processed_triggers}
 use Rattle.gate_core.specs.Late.{LateIsDiscarded, actions_in}
 use Rattle.gate_record.specs.Prefixes.{IsPrefixOf}
 use Rattle.gate_core.specs.Promises.{Keeps, Processes, no_items}
@@ -85,7 +85,7 @@ module _ (own : EachGetsItsOwn) (lossless : NothingIsLost) (config : Config) (h 
       all_front (TriggerIs (IsGenuine h)) worked.taken (waiting_items pipe ++ items_for p there.past.state.items)
       (subst (AllOf (TriggerIs (IsGenuine h))) (sym (all_chosen own lossless config h state holds t p 0 ten pipe at seat)) (chosen_are (IsGenuine h) config t p there.past.done all_matched))
 
-  pub asked_there : (i : ℕ) (stamp : Option Stamp) (a : Action) → slice_get (triggered t p h) i ≡ Some (stamp, a) → asked_by config t p h stamp ≡ Some a
+  pub asked_there : (i : ℕ) (stamp : Option Stamp) (a : Action) → slice_get (processed_triggers t p h) i ≡ Some (stamp, a) → asked_by config t p h stamp ≡ Some a
   asked_there i stamp a e =
       all_at (IsAsked config t p h) (filter_map (asking config t p) worked.taken) i (stamp, a) (asked_are config t p h worked.taken all_triggers)
       (ap (λ (xs : List (Option Stamp × Action)). slice_get xs i) (sym worked.asks) ∙ e)
@@ -95,17 +95,17 @@ module _ (own : EachGetsItsOwn) (lossless : NothingIsLost) (config : Config) (h 
   asking_stamps (pipeline.Event s ∷ items) = ap (λ (stamps : List Stamp). s.stamp ∷ stamps) (asking_stamps items)
   asking_stamps (pipeline.End ∷ items) = asking_stamps items
 
-  pub stamps_there : filter_map stamp_with (triggered t p h) ≡ done t p h
+  pub stamps_there : filter_map stamp_with (processed_triggers t p h) ≡ done t p h
   stamps_there = ap (filter_map stamp_with) worked.asks ∙ asking_stamps worked.taken ∙ worked.stamps ∙ worked.does
 
 -- ---- every pipeline
 
 -- what is asked of a pipeline's history, in any case
 pub record Asked (config : Config) (h : History) (t p : ℕ) : Type 0 where
-  pub triggers : (i : ℕ) (stamp : Option Stamp) (a : Action) → slice_get (triggered t p h) i ≡ Some (stamp, a) → asked_by config t p h stamp ≡ Some a
-  pub stamps : filter_map stamp_with (triggered t p h) ≡ done t p h
-  pub management : IsPrefixOf (managed t p h) (manage_posts t p h)
-  pub results : IsPrefixOf (resulted t p h) (result_posts t p h)
+  pub triggers : (i : ℕ) (stamp : Option Stamp) (a : Action) → slice_get (processed_triggers t p h) i ≡ Some (stamp, a) → asked_by config t p h stamp ≡ Some a
+  pub stamps : filter_map stamp_with (processed_triggers t p h) ≡ done t p h
+  pub management : IsPrefixOf (processed_management t p h) (manage_posts t p h)
+  pub results : IsPrefixOf (processed_results t p h) (result_posts t p h)
   pub outcome : outcomes t p h ≡ run (no_items config t p) (actions t p h)
 
 module _ (own : EachGetsItsOwn) (lossless : NothingIsLost) (config : Config) (h : History) (state : State) (holds : Holds config h state) (t p : ℕ) where

@@ -7,14 +7,14 @@ use Rattle.std.proofs.lemmas.List.Sums.{sum_by-append}
 use Rattle.gate_core.specs.declared.answer.Answer.{Answer}
 use Rattle.gate_core.specs.declared.answer.Answer.TheVariants.{Closed, Full, Idle, Passed}
 use Rattle.gate_core.specs.declared.step.Step.{Step}
-use Rattle.gate_core.specs.History.{History, accepted, accepted_in, finished, closed, manage_posted_in, manage_posts, posted_manage, posted_result, result_posted_in, result_posts, turned, turned_in, is_put, is_taking, is_turn, is_close, is_take, is_offer, is_moved, is_accepted, offered_to, processed}
+use Rattle.gate_core.specs.History.{History, accepted_records, accepted_in, finished, closed, manage_posted_in, manage_posts, posted_manage, posted_result, result_posted_in, result_posts, processed_by, processed_in, is_put, is_taking, is_turn, is_close, is_take, is_offer, is_moved, is_accepted, offered_to, processed_of}
 use Rattle.gate_core.proofs.Maps.{filter_map_push}
 
-pub accepted_push : (c : ℕ) (h : History) (e : Step × Answer) → accepted c (h ++ e ∷ []) ≡ accepted c h ++ option_to_list (accepted_in c e)
+pub accepted_push : (c : ℕ) (h : History) (e : Step × Answer) → accepted_records c (h ++ e ∷ []) ≡ accepted_records c h ++ option_to_list (accepted_in c e)
 accepted_push c h e = filter_map_push (accepted_in c) h e
 
-pub turned_push : (t p : ℕ) (h : History) (e : Step × Answer) → turned t p (h ++ e ∷ []) ≡ turned t p h ++ option_to_list (turned_in t p e)
-turned_push t p h e = filter_map_push (turned_in t p) h e
+pub turned_push : (t p : ℕ) (h : History) (e : Step × Answer) → processed_by t p (h ++ e ∷ []) ≡ processed_by t p h ++ option_to_list (processed_in t p e)
+turned_push t p h e = filter_map_push (processed_in t p) h e
 
 pub managed_push : (t p : ℕ) (h : History) (e : Step × Answer) → manage_posts t p (h ++ e ∷ []) ≡ manage_posts t p h ++ option_to_list (manage_posted_in t p e)
 managed_push t p h e = filter_map_push (manage_posted_in t p) h e
@@ -34,8 +34,8 @@ count_push test h e = sum_by-append (λ (x : Step × Answer). cond (test x) 1 0)
 -- ---- a step that changes nothing of what was accepted, posted, processed, finished or closed
 
 pub record Same (h h' : History) : Type 0 where
-  pub accepts : (c : ℕ) → accepted c h' ≡ accepted c h
-  pub turns : (t p : ℕ) → turned t p h' ≡ turned t p h
+  pub accepts : (c : ℕ) → accepted_records c h' ≡ accepted_records c h
+  pub turns : (t p : ℕ) → processed_by t p h' ≡ processed_by t p h
   pub manages : (t p : ℕ) → manage_posts t p h' ≡ manage_posts t p h
   pub ends : (t p : ℕ) → result_posts t p h' ≡ result_posts t p h
   pub finishes : (t p : ℕ) → finished t p h' ≡ finished t p h
@@ -57,12 +57,12 @@ pub cond_none : {A : Type 0} (b : Bool) → ◌≡◌ {A = Option A} (cond b Non
 cond_none true = refl
 cond_none false = refl
 
-pub same_after : (h : History) (e : Step × Answer) → ((c : ℕ) → accepted_in c e ≡ None) → ((t p : ℕ) → turned_in t p e ≡ None) →
+pub same_after : (h : History) (e : Step × Answer) → ((c : ℕ) → accepted_in c e ≡ None) → ((t p : ℕ) → processed_in t p e ≡ None) →
     ((t p : ℕ) → manage_posted_in t p e ≡ None) → ((t p : ℕ) → result_posted_in t p e ≡ None) →
     ((t p : ℕ) → (is_turn t p e.0 && is_moved e.1) ≡ false) → ((c : ℕ) → (is_close c e.0 && is_moved e.1) ≡ false) → Same h (h ++ e ∷ [])
 same_after h e a d m r f k = record {
-  accepts = λ c. accepted_push c h e ∙ ap (λ o. accepted c h ++ option_to_list o) (a c) ∙ append-nil _;
-  turns = λ t p. turned_push t p h e ∙ ap (λ o. turned t p h ++ option_to_list o) (d t p) ∙ append-nil _;
+  accepts = λ c. accepted_push c h e ∙ ap (λ o. accepted_records c h ++ option_to_list o) (a c) ∙ append-nil _;
+  turns = λ t p. turned_push t p h e ∙ ap (λ o. processed_by t p h ++ option_to_list o) (d t p) ∙ append-nil _;
   manages = λ t p. managed_push t p h e ∙ ap (λ o. manage_posts t p h ++ option_to_list o) (m t p) ∙ append-nil _;
   ends = λ t p. ended_push t p h e ∙ ap (λ o. result_posts t p h ++ option_to_list o) (r t p) ∙ append-nil _;
   finishes = λ t p. finished_push t p h e ∙ ap (λ b. finished t p h || (b || false)) (f t p) ∙ or_false _;
@@ -73,7 +73,7 @@ same_after h e a d m r f k = record {
 pub record IsQuiet (answer : Answer) : Type 0 where
   pub not_accepted : is_accepted answer ≡ false
   pub not_moved : is_moved answer ≡ false
-  pub not_processed : processed answer ≡ None
+  pub not_processed : processed_of answer ≡ None
 
 pub same_quiet : (h : History) (step : Step) (answer : Answer) → IsQuiet answer → Same h (h ++ (step, answer) ∷ [])
 same_quiet h step answer q = same_after h (step, answer)

@@ -21,7 +21,7 @@ use Rattle.gate_config.specs.declared.config.Config.{Config}
 use Rattle.gate_config.specs.Lookups.{lists}
 use Rattle.gate_config.specs.Selection.{is_listed, selects_event}
 use Rattle.gate_forward.specs.Forwarding.{conn_id, forwarded, forwarded_entry, forwarded_reading, stamped}
-use Rattle.gate_tenant.specs.Dispatching.{chosen, chosen_item, conn_of_item, holds_ends, is_from}
+use Rattle.gate_tenant.specs.Dispatching.{chosen, chosen_item, conn_of_item, all_marked_in, is_from}
 use Rattle.gate_core.specs.Ways.{IsReadFrom, Way, mark}
 use Rattle.gate_core.proofs.Arrivals.{same_as_itself}
 use Rattle.gate_core.proofs.Working.{the_same}
@@ -132,8 +132,8 @@ module _ (P : Stamped → Type 0) where
   -- what a pipeline is to get of them
   pub chosen_are : (config : Config) (t p : ℕ) (items : List TenantItem) → AllOf (ItemIs P) items → AllOf (TriggerIs P) (chosen config t p items)
   chosen_are config t p items all =
-      all_both (TriggerIs P) (filter_map (chosen_item config t p) items) (cond (holds_ends config t items) (pipeline.End ∷ []) [])
-      (all_picked (ItemIs P) (TriggerIs P) (chosen_item config t p) (chosen_is config t p) items all) (marked_if (holds_ends config t items))
+      all_both (TriggerIs P) (filter_map (chosen_item config t p) items) (cond (all_marked_in config t items) (pipeline.End ∷ []) [])
+      (all_picked (ItemIs P) (TriggerIs P) (chosen_item config t p) (chosen_is config t p) items all) (marked_if (all_marked_in config t items))
 
 -- ---- one way
 

@@ -6,7 +6,7 @@ use Rattle.gate_config.specs.declared.config.Config.{Config}
 use Rattle.gate_forward.specs.Histories.{EachTenantGetsItsOwn}
 use Rattle.gate_core.specs.declared.answer.Answer.{Answer}
 use Rattle.gate_core.specs.declared.step.Step.{Step}
-use Rattle.gate_core.specs.History.{History, accepted, accepted_in}
+use Rattle.gate_core.specs.History.{History, accepted_records, accepted_in}
 use Rattle.gate_core.specs.Promises.{AnswersRightly, Delivers, EveryRunDelivers, Keeps, Processes}
 use Rattle.gate_core.specs.Reports.{report_after, report_of}
 use Rattle.gate_core.specs.States.{ConnectionState, State}
@@ -71,8 +71,8 @@ few_picked f (x ∷ xs) = few_of (f x) (filter_map f xs) (length xs) (few_picked
 pub has_number : (config : Config) (answers : List Answer) (state : State) (left rest all : List Step) (s : Step) (total limit : ℕ) → left ≡ s ∷ rest → total < limit → Runs config answers state left all total →
     (c : ℕ) (conn : ConnectionState) → slice_get state.connections c ≡ Some conn → conn.accepted + 1 < limit
 has_number config answers state left rest all s total limit front below runs c conn at =
-    let count : conn.accepted ≡ length (accepted c runs.past) = ap count_of (sym at) ∙ (runs.holds.conns c).count in
-    let picked : length (accepted c runs.past) ≤ length runs.past = few_picked (accepted_in c) runs.past in
+    let count : conn.accepted ≡ length (accepted_records c runs.past) = ap count_of (sym at) ∙ (runs.holds.conns c).count in
+    let picked : length (accepted_records c runs.past) ≤ length runs.past = few_picked (accepted_in c) runs.past in
     let more : length left ≡ suc (length rest) = ap length front in
     let few : length runs.past + length left ≤ total = runs.few in
     omega (arith, count, picked, more, few, below)

@@ -12,7 +12,7 @@ use Rattle.gate_forward.specs.Forwarding.{forwarded}
 use Rattle.gate_forward.specs.Histories.{items_to}
 use Rattle.gate_core.specs.declared.answer.Answer.TheVariants.{Moved}
 use Rattle.gate_core.specs.declared.step.Step.TheVariants as step
-use Rattle.gate_core.specs.History.{History, finished, turned}
+use Rattle.gate_core.specs.History.{History, finished, processed_by}
 use Rattle.gate_core.specs.States.{ConnectionState, TenantState, State}
 use Rattle.gate_tenant.specs.Dispatching.{conn_of_item, is_from}
 use Rattle.gate_core.proofs.Arrivals.{same_as_itself}
@@ -132,11 +132,11 @@ module _ (config : Config) (h : History) (state : State) (d : ConnId) (k : Conne
         ways = λ c. kept_elsewhere t c differ (after_set state.connections d.0 c k k' at) (old.past.taken ++ found.queue) (old.ways c);
       }
 
-  none_goes : (t p : ℕ) → AfterSet state.tenants first.0.0 ten' t → is_some (pipe_of p (slice_get (slice_set state.tenants first.0.0 ten') t)) ≡ false → Holds config h state → (turned t p h' ≡ []) × (finished t p h' ≡ false)
+  none_goes : (t p : ℕ) → AfterSet state.tenants first.0.0 ten' t → is_some (pipe_of p (slice_get (slice_set state.tenants first.0.0 ten') t)) ≡ false → Holds config h state → (processed_by t p h' ≡ []) × (finished t p h' ≡ false)
   none_goes t p (it e g) none holds =
       let gone : is_some (slice_get ten.pipelines p) ≡ false = subst (λ o. is_some (pipe_of p o) ≡ false) g none in
       let old = holds.others first.0.0 p (subst (λ o. is_some (pipe_of p o) ≡ false) (sym whose) gone) in
-      subst (λ n. (turned n p h' ≡ []) × (finished n p h' ≡ false)) e ((pipes_stay first.0.0 p).turns ∙ old.0, (pipes_stay first.0.0 p).finishes ∙ old.1)
+      subst (λ n. (processed_by n p h' ≡ []) × (finished n p h' ≡ false)) e ((pipes_stay first.0.0 p).turns ∙ old.0, (pipes_stay first.0.0 p).finishes ∙ old.1)
   none_goes t p (another differ g) none holds =
       let old = holds.others t p (subst (λ o. is_some (pipe_of p o) ≡ false) g none) in
       ((pipes_stay t p).turns ∙ old.0, (pipes_stay t p).finishes ∙ old.1)

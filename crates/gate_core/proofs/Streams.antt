@@ -19,7 +19,7 @@ use Rattle.gate_core.specs.declared.pipeline.Pipeline.{Pipeline}
 use Rattle.gate_core.specs.declared.answer.Answer.{Answer}
 use Rattle.gate_core.specs.declared.step.Step.{Step}
 use Rattle.gate_core.specs.declared.step.Step.TheVariants as step
-use Rattle.gate_core.specs.History.{History, accepted, finished, closed, manage_posts, posted_manage, posted_result, result_posts, turned, is_put, is_taking, is_turn, is_close, is_take, is_offer, is_moved, is_accepted, offered_to, processed}
+use Rattle.gate_core.specs.History.{History, accepted_records, finished, closed, manage_posts, posted_manage, posted_result, result_posts, processed_by, is_put, is_taking, is_turn, is_close, is_take, is_offer, is_moved, is_accepted, offered_to, processed_of}
 use Rattle.gate_core.specs.States.{ConnectionState, TenantState, State}
 use Rattle.gate_tenant.specs.Dispatching.{conn_of_item, is_from}
 use Rattle.gate_record.specs.Entries.{entries_of}
@@ -51,7 +51,7 @@ AreOf c [] = Unit {0}
 AreOf c (item ∷ items) = (conn_of_item item.1 ≡ c) × AreOf c items
 
 pub record ConnHolds (config : Config) (h : History) (c : ℕ) (o : Option ConnectionState) : Type 0 where
-  pub count : count_of o ≡ length (accepted c h)
+  pub count : count_of o ≡ length (accepted_records c h)
   pub closing : closed_of o ≡ closed c h
   pub waits : length (queue_of o) + count_by (is_taking c) h ≡ count_by (is_put c) h
   pub within : length (queue_of o) ≤ 4096
@@ -60,7 +60,7 @@ pub record ConnHolds (config : Config) (h : History) (c : ℕ) (o : Option Conne
 
 -- all that was put into a connection's queue
 abbrev pub put_by : ℕ → History → List ConnEntry
-put_by c h = entries_of (accepted c h) ++ mark (closed c h)
+put_by c h = entries_of (accepted_records c h) ++ mark (closed c h)
 
 -- ---- tenants
 
@@ -73,7 +73,7 @@ pipe_at t p state = pipe_of p (slice_get state.tenants t)
 
 -- what holds of a pipeline after this history
 abbrev pub PipeHolds : Config → History → ℕ → ℕ → List (PipelineId × PipelineItem) → Pipeline → Type 0
-PipeHolds config h t p given pipe = PipeFits config t p given pipe (turned t p h) (finished t p h) (manage_posts t p h) (result_posts t p h)
+PipeHolds config h t p given pipe = PipeFits config t p given pipe (processed_by t p h) (finished t p h) (manage_posts t p h) (result_posts t p h)
 
 -- what a tenant took of a connection, and what is on its way to it, is what is forwarded of all that was put
 pub record TenantHolds (config : Config) (h : History) (conns : List ConnectionState) (t : ℕ) (ten : TenantState) : Type 0 where
@@ -93,18 +93,18 @@ pub record Holds (config : Config) (h : History) (state : State) : Type 0 where
   pub conns : (c : ℕ) → ConnHolds config h c (slice_get state.connections c)
   pub tenants : (t : ℕ) (ten : TenantState) → slice_get state.tenants t ≡ Some ten → TenantHolds config h state.connections t ten
   -- nothing is processed out of range
-  pub others : (t p : ℕ) → is_some (pipe_at t p state) ≡ false → (turned t p h ≡ []) × (finished t p h ≡ false)
+  pub others : (t p : ℕ) → is_some (pipe_at t p state) ≡ false → (processed_by t p h ≡ []) × (finished t p h ≡ false)
 
 -- ---- what a step says of another connection or pipeline than its own
 
 pub record ConnSame (c : ℕ) (h h' : History) : Type 0 where
-  pub accepts : accepted c h' ≡ accepted c h
+  pub accepts : accepted_records c h' ≡ accepted_records c h
   pub closes : closed c h' ≡ closed c h
   pub puts : count_by (is_put c) h' ≡ count_by (is_put c) h
   pub takes : count_by (is_taking c) h' ≡ count_by (is_taking c) h
 
 pub record PipeSame (t p : ℕ) (h h' : History) : Type 0 where
-  pub turns : turned t p h' ≡ turned t p h
+  pub turns : processed_by t p h' ≡ processed_by t p h
   pub finishes : finished t p h' ≡ finished t p h
   pub manages : manage_posts t p h' ≡ manage_posts t p h
   pub ends : result_posts t p h' ≡ result_posts t p h
@@ -123,7 +123,7 @@ no_offer c (step.Turn t p) e = refl
 
 pub conn_untouched : (c : ℕ) (h : History) (s : Step) (a : Answer) → is_offer c s ≡ false → is_close c s ≡ false → is_take c s ≡ false → ConnSame c h (h ++ (s, a) ∷ [])
 conn_untouched c h s a o k g = record {
-  accepts = accepted_push c h (s, a) ∙ ap (λ x. accepted c h ++ option_to_list (cond (is_accepted a) x None)) (no_offer c s o) ∙ ap (λ x. accepted c h ++ option_to_list x) (cond_none (is_accepted a)) ∙ append-nil (accepted c h);
+  accepts = accepted_push c h (s, a) ∙ ap (λ x. accepted_records c h ++ option_to_list (cond (is_accepted a) x None)) (no_offer c s o) ∙ ap (λ x. accepted_records c h ++ option_to_list x) (cond_none (is_accepted a)) ∙ append-nil (accepted_records c h);
   closes = closed_push c h (s, a) ∙ ap (λ b. closed c h || ((b && is_moved a) || false)) k ∙ or_false (closed c h);
   puts = count_push (is_put c) h (s, a) ∙ ap (λ b. count_by (is_put c) h + (0 + cond ((b && is_accepted a) || (is_close c s && is_moved a)) 1 0)) o
       ∙ ap (λ b. count_by (is_put c) h + (0 + cond (b && is_moved a) 1 0)) k ∙ add-zero (count_by (is_put c) h);
@@ -132,7 +132,7 @@ conn_untouched c h s a o k g = record {
 
 pub pipe_untouched : (t p : ℕ) (h : History) (s : Step) (a : Answer) → is_turn t p s ≡ false → posted_manage t p s ≡ None → posted_result t p s ≡ None → PipeSame t p h (h ++ (s, a) ∷ [])
 pipe_untouched t p h s a e m r = record {
-  turns = turned_push t p h (s, a) ∙ ap (λ b. turned t p h ++ option_to_list (cond b (processed a) None)) e ∙ append-nil (turned t p h);
+  turns = turned_push t p h (s, a) ∙ ap (λ b. processed_by t p h ++ option_to_list (cond b (processed_of a) None)) e ∙ append-nil (processed_by t p h);
   finishes = finished_push t p h (s, a) ∙ ap (λ b. finished t p h || ((b && is_moved a) || false)) e ∙ or_false (finished t p h);
   manages = managed_push t p h (s, a) ∙ ap (λ o. manage_posts t p h ++ option_to_list (cond (is_moved a) o None)) m ∙ ap (λ o. manage_posts t p h ++ option_to_list o) (cond_none (is_moved a)) ∙ append-nil (manage_posts t p h);
   ends = ended_push t p h (s, a) ∙ ap (λ o. result_posts t p h ++ option_to_list (cond (is_moved a) o None)) r ∙ ap (λ o. result_posts t p h ++ option_to_list o) (cond_none (is_moved a)) ∙ append-nil (result_posts t p h);

@@ -14,7 +14,7 @@ use Rattle.gate_core.specs.declared.answer.Answer.{Answer}
 use Rattle.gate_core.specs.declared.answer.Answer.TheVariants.{Moved}
 use Rattle.gate_core.specs.declared.pipeline.Pipeline.{Pipeline}
 use Rattle.gate_core.specs.declared.step.Step.TheVariants as step
-use Rattle.gate_core.specs.History.{History, finished, is_moved, manage_posts, processed, result_posts, turned}
+use Rattle.gate_core.specs.History.{History, finished, is_moved, manage_posts, processed_of, result_posts, processed_by}
 use Rattle.gate_core.specs.States.{TenantState, State}
 use Rattle.gate_core.proofs.Arrivals.{same_as_itself}
 use Rattle.gate_core.proofs.Fits.{PipeFits, fits_same}
@@ -52,7 +52,7 @@ module _ (config : Config) (h later : History) (state : State) (tid : TenantId) 
   pipe_goes given p found (another differ g) there new holds = pipe_same config h later tid.0 p given found (pipes_stay p differ) (holds p found (sym g ∙ there))
 
   none_goes : (p : ℕ) → AfterSet ten.pipelines pid.0 pipe' p → is_some (slice_get (slice_set ten.pipelines pid.0 pipe') p) ≡ false →
-      ((q : ℕ) → is_some (slice_get ten.pipelines q) ≡ false → (turned tid.0 q h ≡ []) × (finished tid.0 q h ≡ false)) → (turned tid.0 p later ≡ []) × (finished tid.0 p later ≡ false)
+      ((q : ℕ) → is_some (slice_get ten.pipelines q) ≡ false → (processed_by tid.0 q h ≡ []) × (finished tid.0 q h ≡ false)) → (processed_by tid.0 p later ≡ []) × (finished tid.0 p later ≡ false)
   none_goes p (it e g) none before = absurd (cc)
   none_goes p (another differ g) none before =
       let old = before p (subst (λ o. is_some o ≡ false) g none) in
@@ -84,30 +84,30 @@ module _ (config : Config) (h : History) (tid : TenantId) (pid : PipelineId) (a 
   p = pid.0
 
   -- a turn
-  pub turn_fits : PipeFits config t p given pipe (turned t p h ++ option_to_list (processed a)) (finished t p h || is_moved a) (manage_posts t p h) (result_posts t p h) → PipeHolds config (h ++ (step.Turn tid pid, a) ∷ []) t p given pipe
+  pub turn_fits : PipeFits config t p given pipe (processed_by t p h ++ option_to_list (processed_of a)) (finished t p h || is_moved a) (manage_posts t p h) (result_posts t p h) → PipeHolds config (h ++ (step.Turn tid pid, a) ∷ []) t p given pipe
   turn_fits fits =
       fits_same
-      (sym (turned_push t p h (step.Turn tid pid, a) ∙ ap (λ b. turned t p h ++ option_to_list (cond b (processed a) None)) (this_one tid pid)))
+      (sym (turned_push t p h (step.Turn tid pid, a) ∙ ap (λ b. processed_by t p h ++ option_to_list (cond b (processed_of a) None)) (this_one tid pid)))
       (sym (finished_push t p h (step.Turn tid pid, a) ∙ ap (λ b. finished t p h || ((b && is_moved a) || false)) (this_one tid pid) ∙ ap (λ b. finished t p h || b) (or_false (is_moved a))))
       (sym (managed_push t p h (step.Turn tid pid, a) ∙ ap (λ (o : Option Manage). manage_posts t p h ++ option_to_list o) (cond_none (is_moved a)) ∙ append-nil (manage_posts t p h)))
       (sym (ended_push t p h (step.Turn tid pid, a) ∙ ap (λ (o : Option JobResult). result_posts t p h ++ option_to_list o) (cond_none (is_moved a)) ∙ append-nil (result_posts t p h)))
       fits
 
   -- a management event that was put
-  pub manage_fits : (m : Manage) → PipeFits config t p given pipe (turned t p h) (finished t p h) (manage_posts t p h ++ m ∷ []) (result_posts t p h) → PipeHolds config (h ++ (step.PostManage tid pid m, Moved) ∷ []) t p given pipe
+  pub manage_fits : (m : Manage) → PipeFits config t p given pipe (processed_by t p h) (finished t p h) (manage_posts t p h ++ m ∷ []) (result_posts t p h) → PipeHolds config (h ++ (step.PostManage tid pid m, Moved) ∷ []) t p given pipe
   manage_fits m fits =
       fits_same
-      (sym (turned_push t p h (step.PostManage tid pid m, Moved) ∙ append-nil (turned t p h)))
+      (sym (turned_push t p h (step.PostManage tid pid m, Moved) ∙ append-nil (processed_by t p h)))
       (sym (finished_push t p h (step.PostManage tid pid m, Moved) ∙ or_false (finished t p h)))
       (sym (managed_push t p h (step.PostManage tid pid m, Moved) ∙ ap (λ b. manage_posts t p h ++ option_to_list (cond b (Some m) None)) (this_one tid pid)))
       (sym (ended_push t p h (step.PostManage tid pid m, Moved) ∙ append-nil (result_posts t p h)))
       fits
 
   -- a result that was put
-  pub result_fits : (r : JobResult) → PipeFits config t p given pipe (turned t p h) (finished t p h) (manage_posts t p h) (result_posts t p h ++ r ∷ []) → PipeHolds config (h ++ (step.PostResult tid pid r, Moved) ∷ []) t p given pipe
+  pub result_fits : (r : JobResult) → PipeFits config t p given pipe (processed_by t p h) (finished t p h) (manage_posts t p h) (result_posts t p h ++ r ∷ []) → PipeHolds config (h ++ (step.PostResult tid pid r, Moved) ∷ []) t p given pipe
   result_fits r fits =
       fits_same
-      (sym (turned_push t p h (step.PostResult tid pid r, Moved) ∙ append-nil (turned t p h)))
+      (sym (turned_push t p h (step.PostResult tid pid r, Moved) ∙ append-nil (processed_by t p h)))
       (sym (finished_push t p h (step.PostResult tid pid r, Moved) ∙ or_false (finished t p h)))
       (sym (managed_push t p h (step.PostResult tid pid r, Moved) ∙ append-nil (manage_posts t p h)))
       (sym (ended_push t p h (step.PostResult tid pid r, Moved) ∙ ap (λ b. result_posts t p h ++ option_to_list (cond b (Some r) None)) (this_one tid pid)))

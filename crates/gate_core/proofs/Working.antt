@@ -16,7 +16,7 @@ use Rattle.gate_tenant.specs.States.{State as DispatchState, has_ended, matched,
 use Rattle.gate_core.specs.declared.answer.Answer.{Answer}
 use Rattle.gate_core.specs.declared.pipeline.Pipeline.{Pipeline}
 use Rattle.gate_core.specs.declared.step.Step.{Step}
-use Rattle.gate_core.specs.History.{History, finished, turned}
+use Rattle.gate_core.specs.History.{History, finished, processed_by}
 use Rattle.gate_core.specs.States.{TenantState, State, with_gathered}
 use Rattle.gate_core.specs.Steps.{with_item}
 use Rattle.gate_tenant.specs.Dispatching.{is_from}
@@ -44,14 +44,14 @@ module _ (config : Config) (h h' : History) (state : State) (t0 : ℕ) (ten ten'
       (holds.tenants t found (sym g ∙ there))
 
   none_goes : (t p : ℕ) → AfterSet state.tenants t0 ten' t → is_some (pipe_of p (slice_get (slice_set state.tenants t0 ten') t)) ≡ false →
-      ((q : ℕ) → is_some (slice_get ten'.pipelines q) ≡ false → (turned t0 q h' ≡ []) × (finished t0 q h' ≡ false)) → Holds config h state → (turned t p h' ≡ []) × (finished t p h' ≡ false)
+      ((q : ℕ) → is_some (slice_get ten'.pipelines q) ≡ false → (processed_by t0 q h' ≡ []) × (finished t0 q h' ≡ false)) → Holds config h state → (processed_by t p h' ≡ []) × (finished t p h' ≡ false)
   none_goes t p (it e g) none new holds =
-      subst (λ n. (turned n p h' ≡ []) × (finished n p h' ≡ false)) e (new p (subst (λ o. is_some (pipe_of p o) ≡ false) g none))
+      subst (λ n. (processed_by n p h' ≡ []) × (finished n p h' ≡ false)) e (new p (subst (λ o. is_some (pipe_of p o) ≡ false) g none))
   none_goes t p (another differ g) none new holds =
       let old = holds.others t p (subst (λ o. is_some (pipe_of p o) ≡ false) g none) in
       ((pipes t p differ).turns ∙ old.0, (pipes t p differ).finishes ∙ old.1)
 
-  pub tenant_goes_on : TenantHolds config h' state.connections t0 ten' → ((q : ℕ) → is_some (slice_get ten'.pipelines q) ≡ false → (turned t0 q h' ≡ []) × (finished t0 q h' ≡ false)) →
+  pub tenant_goes_on : TenantHolds config h' state.connections t0 ten' → ((q : ℕ) → is_some (slice_get ten'.pipelines q) ≡ false → (processed_by t0 q h' ≡ []) × (finished t0 q h' ≡ false)) →
       Holds config h state → Holds config h' (record state { tenants = slice_set state.tenants t0 ten' })
   tenant_goes_on new none holds = record {
     count = length-set state.tenants t0 ten' ∙ holds.count;
@@ -91,7 +91,7 @@ abbrev IsInside : Step → Answer → Type 0
 IsInside s a = (h : History) → ((c : ℕ) → ConnSame c h (h ++ (s, a) ∷ [])) × ((t p : ℕ) → PipeSame t p h (h ++ (s, a) ∷ []))
 
 pub none_before : (config : Config) (h : History) (state : State) (t : ℕ) (ten : TenantState) → slice_get state.tenants t ≡ Some ten → Holds config h state →
-    (p : ℕ) → is_some (slice_get ten.pipelines p) ≡ false → (turned t p h ≡ []) × (finished t p h ≡ false)
+    (p : ℕ) → is_some (slice_get ten.pipelines p) ≡ false → (processed_by t p h ≡ []) × (finished t p h ≡ false)
 none_before config h state t ten at holds p none = holds.others t p (subst (λ o. is_some (pipe_of p o) ≡ false) (sym at) none)
 
 module _ (config : Config) (h : History) (state : State) (s : Step) (a : Answer) (t : ℕ) (ten : TenantState) (at : slice_get state.tenants t ≡ Some ten) (inside : IsInside s a) where

@@ -8,7 +8,7 @@ use Rattle.gate_pipeline.specs.States.{Processed, held_as, processed}
 use Rattle.gate_core.specs.declared.answer.Answer.{Answer}
 use Rattle.gate_core.specs.declared.pipeline.Pipeline.{Pipeline}
 use Rattle.gate_core.specs.declared.step.Step.{Step}
-use Rattle.gate_core.specs.History.{History, turned}
+use Rattle.gate_core.specs.History.{History, processed_by}
 use Rattle.gate_core.specs.Promises.{AnswersRightly, Delivers, Keeps, Processes}
 use Rattle.gate_core.specs.Reports.{report_after, report_of}
 use Rattle.gate_core.specs.States.{State, pipeline_at}
@@ -59,4 +59,4 @@ pub record EveryChainDelivers : Type 0 where
   pub keeps : (config : Config) (attempts : List Attempt) → IsChain config (first config) attempts → Keeps config (answered_history attempts) (left_behind (first config) attempts)
   pub held : (config : Config) (state : State) (attempts : List Attempt) → IsChain config state attempts →
       (t p : ℕ) (pipe : Pipeline) (waits : Held) → pipeline_at t p state ≡ Some pipe → pipe.worker.held ≡ Some waits →
-      IsNext waits (processed config waits (held_as None pipe.worker)).1 (turned t p (answered_history attempts)) (pipeline_at t p (left_behind state attempts))
+      IsNext waits (processed config waits (held_as None pipe.worker)).1 (processed_by t p (answered_history attempts)) (pipeline_at t p (left_behind state attempts))

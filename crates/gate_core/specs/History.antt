@@ -38,9 +38,9 @@ is_moved Moved = true
 is_moved other = false
 
 -- what was processed: an action, the stamp of a trigger event's, and the outcome
-abbrev pub processed : Answer → Option Processed
-processed (Turned stamp action outcome) = Some (stamp, action, outcome)
-processed other = None
+abbrev pub processed_of : Answer → Option Processed
+processed_of (Turned stamp action outcome) = Some (stamp, action, outcome)
+processed_of other = None
 
 -- the record that the step offers to connection c
 abbrev pub offered_to : ℕ → Step → Option Record
@@ -86,8 +86,8 @@ abbrev pub accepted_in : ℕ → Step × Answer → Option Record
 accepted_in c event = if is_accepted event.1 then offered_to c event.0 else None
 
 -- the records that connection c accepted, in the order of the steps
-abbrev pub accepted : ℕ → History → List Record
-accepted c history = filter_map (accepted_in c) history
+abbrev pub accepted_records : ℕ → History → List Record
+accepted_records c history = filter_map (accepted_in c) history
 
 -- the number of a record, where the record passes
 abbrev pub number_where : (Record → Bool) → ℕ × Record → Option ℕ
@@ -99,23 +99,23 @@ wanted config t p c records = filter_map (number_where (selects config t p c)) (
 
 -- ---- what was processed
 
-abbrev pub turned_in : ℕ → ℕ → Step × Answer → Option Processed
-turned_in t p event = if is_turn t p event.0 then processed event.1 else None
+abbrev pub processed_in : ℕ → ℕ → Step × Answer → Option Processed
+processed_in t p event = if is_turn t p event.0 then processed_of event.1 else None
 
 -- what pipeline p of tenant t has processed, in order
-abbrev pub turned : ℕ → ℕ → History → List Processed
-turned t p history = filter_map (turned_in t p) history
+abbrev pub processed_by : ℕ → ℕ → History → List Processed
+processed_by t p history = filter_map (processed_in t p) history
 
 -- the actions that it has processed, and the same with their outcomes
 abbrev pub actions : ℕ → ℕ → History → List Action
-actions t p history = map action_of (turned t p history)
+actions t p history = map action_of (processed_by t p history)
 
 abbrev pub outcomes : ℕ → ℕ → History → List (Action × Outcome)
-outcomes t p history = map outcome_of (turned t p history)
+outcomes t p history = map outcome_of (processed_by t p history)
 
 -- the stamps of the trigger events that it has processed
 abbrev pub done : ℕ → ℕ → History → List Stamp
-done t p history = filter_map stamp_of (turned t p history)
+done t p history = filter_map stamp_of (processed_by t p history)
 
 -- the number of a stamp of connection c
 abbrev pub number_from : ℕ → Stamp → Option ℕ
@@ -126,8 +126,8 @@ abbrev pub numbers_from : ℕ → List Stamp → List ℕ
 numbers_from c stamps = filter_map (number_from c) stamps
 
 -- the triggers among the actions that it has processed, each with its stamp
-abbrev pub triggered : ℕ → ℕ → History → List (Option Stamp × Action)
-triggered t p history = filter_map triggering (turned t p history)
+abbrev pub processed_triggers : ℕ → ℕ → History → List (Option Stamp × Action)
+processed_triggers t p history = filter_map triggering (processed_by t p history)
 
 abbrev pub stamp_with : Option Stamp × Action → Option Stamp
 stamp_with trigger = trigger.0
@@ -145,14 +145,14 @@ asked_among config t p records (Some stamp) =
     option_and_then (λ (line : Record). asked_of config t p stamp (reading_of line)) (slice_get (records stamp.conn.0) stamp.number)
 
 abbrev pub asked_by : Config → ℕ → ℕ → History → Option Stamp → Option Action
-asked_by config t p history stamp = asked_among config t p (λ c. accepted c history) stamp
+asked_by config t p history stamp = asked_among config t p (λ c. accepted_records c history) stamp
 
 -- the management events and the results among them
-abbrev pub managed : ℕ → ℕ → History → List Manage
-managed t p history = filter_map managing (actions t p history)
+abbrev pub processed_management : ℕ → ℕ → History → List Manage
+processed_management t p history = filter_map managing (actions t p history)
 
-abbrev pub resulted : ℕ → ℕ → History → List JobResult
-resulted t p history = filter_map resulting (actions t p history)
+abbrev pub processed_results : ℕ → ℕ → History → List JobResult
+processed_results t p history = filter_map resulting (actions t p history)
 
 -- those that were posted to pipeline p of tenant t
 abbrev pub manage_posted_in : ℕ → ℕ → Step × Answer → Option Manage

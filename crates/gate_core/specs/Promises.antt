@@ -17,7 +17,7 @@ use Rattle.gate_core.specs.declared.answer.Answer.TheVariants.{Accepted, Closed,
 use Rattle.gate_core.specs.declared.step.Step.{Step}
 use Rattle.gate_core.specs.declared.step.Step.TheVariants.{Offer, Close, Take, Send, Fetch, Match, Give, PostManage, PostResult, Turn}
 use Rattle.gate_core.specs.Limits.{places}
-use Rattle.gate_core.specs.History.{History, accepted, actions, asked_by, closed, done, finished, manage_posts, managed, numbers_from, outcomes, result_posts, resulted, stamp_with, triggered, waiting, wanted}
+use Rattle.gate_core.specs.History.{History, accepted_records, actions, asked_by, closed, done, finished, manage_posts, processed_management, numbers_from, outcomes, result_posts, processed_results, stamp_with, processed_triggers, waiting, wanted}
 use Rattle.gate_core.specs.Late.{LateIsDiscarded}
 use Rattle.gate_core.specs.Reports.{report_after, report_of}
 use Rattle.gate_core.specs.States.{State, items_at}
@@ -26,14 +26,14 @@ use Rattle.gate_core.specs.Steps.{first, left_by, run_from}
 -- The trigger events that a pipeline has processed are, connection by connection, a prefix of the accepted records
 -- that its rules select, each once and in order, and all of them once its end mark is met.
 pub record Delivers (config : Config) (history : History) : Type 0 where
-  pub in_order : (t p c : ℕ) → IsPrefixOf (numbers_from c (done t p history)) (wanted config t p c (accepted c history))
-  pub whole : (t p c : ℕ) → finished t p history ≡ true → numbers_from c (done t p history) ≡ wanted config t p c (accepted c history)
+  pub in_order : (t p c : ℕ) → IsPrefixOf (numbers_from c (done t p history)) (wanted config t p c (accepted_records c history))
+  pub whole : (t p c : ℕ) → finished t p history ≡ true → numbers_from c (done t p history) ≡ wanted config t p c (accepted_records c history)
 
 -- the answer to an offer, after this history
 abbrev pub offer_answer : ℕ → History → Answer
 offer_answer c history =
     if closed c history then Closed
-    else (if waiting c history == places then Full else Accepted (length (accepted c history)))
+    else (if waiting c history == places then Full else Accepted (length (accepted_records c history)))
 
 -- the answer to a close, after this history
 abbrev pub close_answer : ℕ → History → Answer
@@ -60,12 +60,12 @@ no_items config t p = start (manager_of config t p) 0
 -- What each pipeline has processed is what it was asked, and came of it what the rules of queue items say.
 pub record Processes (config : Config) (history : History) : Type 0 where
   -- a trigger has a stamp, and is what the accepted record of that stamp asks for
-  pub triggers : (t p i : ℕ) (stamp : Option Stamp) (action : Action) → slice_get (triggered t p history) i ≡ Some (stamp, action) → asked_by config t p history stamp ≡ Some action
+  pub triggers : (t p i : ℕ) (stamp : Option Stamp) (action : Action) → slice_get (processed_triggers t p history) i ≡ Some (stamp, action) → asked_by config t p history stamp ≡ Some action
   -- what is done is the stamps of the triggers
-  pub stamps : (t p : ℕ) → filter_map stamp_with (triggered t p history) ≡ done t p history
+  pub stamps : (t p : ℕ) → filter_map stamp_with (processed_triggers t p history) ≡ done t p history
   -- management events and results are those that were posted, in order
-  pub management : (t p : ℕ) → IsPrefixOf (managed t p history) (manage_posts t p history)
-  pub results : (t p : ℕ) → IsPrefixOf (resulted t p history) (result_posts t p history)
+  pub management : (t p : ℕ) → IsPrefixOf (processed_management t p history) (manage_posts t p history)
+  pub results : (t p : ℕ) → IsPrefixOf (processed_results t p history) (result_posts t p history)
   -- each action has the outcome that it has behind those before it
   pub outcome : (t p : ℕ) → outcomes t p history ≡ run (no_items config t p) (actions t p history)
   -- a result of a build set that was cancelled before is discarded, and changes no item and no report

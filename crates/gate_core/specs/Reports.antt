@@ -11,7 +11,7 @@ use Rattle.gate_core.specs.declared.report.EndCause.{EndCause}
 use Rattle.gate_core.specs.declared.report.EndCause.TheVariants.{Unclosed, Ended}
 use Rattle.gate_core.specs.declared.report.PipelineReport.{PipelineReport}
 use Rattle.gate_core.specs.declared.report.RunReport.{RunReport}
-use Rattle.gate_core.specs.History.{History, accepted, done, finished, closed}
+use Rattle.gate_core.specs.History.{History, accepted_records, done, finished, closed}
 use Rattle.gate_core.specs.States.{ConnectionState, TenantState, State}
 
 abbrev pub cause_of : Bool → EndCause
@@ -21,7 +21,7 @@ cause_of closing = if closing then Ended else Unclosed
 
 -- how many records connection c accepted, and whether it was closed
 abbrev pub connection_after : History → ℕ → ConnectionReport
-connection_after history c = record { accepted = length (accepted c history); cause = cause_of (closed c history) }
+connection_after history c = record { accepted = length (accepted_records c history); cause = cause_of (closed c history) }
 
 -- what pipeline p of tenant t has processed, and whether it met its end mark
 abbrev pub pipeline_after : History → ℕ → ℕ → PipelineReport

@@ -6,6 +6,7 @@ use Rattle.std.specs.Str.Lines.{lines}
 use Rattle.gate_record.specs.declared.ids.ConnId.{ConnId}
 use Rattle.gate_record.specs.declared.ids.TenantId.{TenantId}
 use Rattle.gate_record.specs.declared.record.Record.TheVariants.{Line, Oversize}
+use Rattle.gate_record.specs.Characters.{digit_nine, digit_zero, number_sign, space}
 use Rattle.gate_record.specs.Numbers.{number_in}
 use Rattle.gate_items.specs.declared.action.JobResult.{JobResult}
 use Rattle.gate_items.specs.declared.action.Manage.{Manage}
@@ -20,7 +21,7 @@ use Rattle.gate_core.specs.declared.step.Step.TheVariants.{Offer, Close, Take, S
 -- ---- words and numbers
 
 abbrev pub is_space : ℕ → Bool
-is_space byte = byte == 32
+is_space byte = byte == space
 
 -- what stands before the first space, or all
 abbrev pub word_of : List ℕ → List ℕ
@@ -31,11 +32,11 @@ abbrev pub rest_of : List ℕ → Option (List ℕ)
 rest_of text = if nat_lt (position_or_len is_space text) (length text) then Some (after_first is_space text) else None
 
 abbrev pub is_digit : ℕ → Bool
-is_digit byte = nat_le 48 byte && nat_le byte 57
+is_digit byte = nat_le digit_zero byte && nat_le byte digit_nine
 
 -- the value of decimal digits
 abbrev pub value_of : List ℕ → ℕ
-value_of digits = fold (λ value digit. 10 * value + (digit - 48)) 0 digits
+value_of digits = fold (λ value digit. 10 * value + (digit - digit_zero)) 0 digits
 
 -- one or more decimal digits whose value is below a limit
 abbrev pub number_below : ℕ → List ℕ → Option ℕ
@@ -180,7 +181,7 @@ scripted_of line = option_and_then (scripted_named (word_of line)) (rest_of line
 -- an empty line, and one that begins with `#`, is skipped
 abbrev pub is_skipped : List ℕ → Bool
 is_skipped [] = true
-is_skipped (byte ∷ line) = byte == 35
+is_skipped (byte ∷ line) = byte == number_sign
 
 -- what a line adds: nothing where it is skipped, else what it stands for
 abbrev pub line_adds : List ℕ → Option (List Scripted)

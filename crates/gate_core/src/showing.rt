@@ -5,8 +5,8 @@ ghost use Rattle.gate_core.specs.Worlds.{state_of};
 
 use crate::output::push_number;
 use crate::world::World;
-use gate_items::{Items, Key, QueueItem, Report};
-use gate_record::{Memory, PipelineId, TenantId, Text, name_text};
+use gate_items::{Build, Items, Key, QueueItem, Report};
+use gate_record::{Memory, PipelineId, TenantId, name_text};
 use std::alloc::Global;
 
 /// The queue items of a pipeline and what it reported, as text: how many there are of each, then a line for each item and
@@ -129,7 +129,7 @@ fn push_start(
     Ok(())
 }
 
-fn push_jobs(out: &mut String, alloc: Global, jobs: &[(Text, Option<bool>)]) -> Result<(), Memory>
+fn push_jobs(out: &mut String, alloc: Global, jobs: &[Build]) -> Result<(), Memory>
     ensures { OnOk result (string_bytes out.new ≡ string_bytes out.old ++ flat_map job_text jobs.now) }
 {
     for job in jobs {
@@ -138,7 +138,7 @@ fn push_jobs(out: &mut String, alloc: Global, jobs: &[(Text, Option<bool>)]) -> 
     Ok(())
 }
 
-fn push_job(out: &mut String, alloc: Global, job: &(Text, Option<bool>)) -> Result<(), Memory>
+fn push_job(out: &mut String, alloc: Global, job: &Build) -> Result<(), Memory>
     ensures { OnOk result (string_bytes out.new ≡ string_bytes out.old ++ job_text job.now) }
 {
     push_quoted(out, alloc, job.0.as_str())?;

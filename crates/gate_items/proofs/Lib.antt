@@ -5,8 +5,8 @@ pub mod Each
 pub mod Entries
 pub mod Examples
 pub mod Histories
-pub mod LineSteps
-pub mod Lines
+pub mod RingSteps
+pub mod Rings
 pub mod Origins
 pub mod Parts
 pub mod Placing

@@ -3,7 +3,7 @@ pub mod History
 pub mod KeyOrder
 pub mod Keys
 pub mod Kept
-pub mod Line
+pub mod Ring
 pub mod Machine
 pub mod Outcomes
 pub mod Steps

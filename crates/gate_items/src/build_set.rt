@@ -1,18 +1,18 @@
 ghost use Rattle.std.specs.Prelude.{◌≡◌, ◌+◌, ◌^◌, ◌<◌, ◌≤◌, length, map, take, drop, ◌++◌, slice_set, slice_index_or};
 ghost use Rattle.std.specs.VecDeque.{deque_len};
-ghost use Rattle.gate_items.specs.Line.{numbered_set, renumbered};
+ghost use Rattle.gate_items.specs.Ring.{numbered_set, renumbered};
 ghost use Rattle.gate_items.specs.Machine.{open_job, with_set};
-ghost use Rattle.gate_items.specs.declared.line.Numbered.{Numbered as Entry};
+ghost use Rattle.gate_items.specs.declared.ring.Numbered.{Numbered as Entry};
 
-use crate::item::QueueItem;
-use crate::line::Numbered;
-use gate_record::{Sequence, Text};
+use crate::item::{Build, QueueItem};
+use crate::ring::Numbered;
+use gate_record::Sequence;
 use std::alloc::Global;
 use std::collections::VecDeque;
 use std::mem;
 
 // The jobs, each without an outcome.
-fn opened(jobs: Sequence<(Text, Option<bool>)>) -> Sequence<(Text, Option<bool>)>
+fn opened(jobs: Sequence<Build>) -> Sequence<Build>
     ensures { result ≡ map open_job jobs }
 {
     let mut jobs = jobs.into_vec();

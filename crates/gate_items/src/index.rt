@@ -178,16 +178,16 @@ impl Index {
     }
 
     // Records an outcome in the item at a place, without memory, and tells whether each of its jobs has one now.
-    pub(crate) fn record(&mut self, alloc: Global, place: u64, outcome: &JobResult) -> bool
-        ensures items { (item : Item) → get nat_cmp self.old.items place ≡ Some item → self.new.items.entries ≡ set_value (is_at (nat_cmp place)) self.old.items.entries (with_outcome outcome.now.job outcome.now.success item) }
-        ensures complete { (item : Item) → get nat_cmp self.old.items place ≡ Some item → result ≡ is_complete (with_outcome outcome.now.job outcome.now.success item) }
+    pub(crate) fn record(&mut self, alloc: Global, place: u64, ended: &JobResult) -> bool
+        ensures items { (item : Item) → get nat_cmp self.old.items place ≡ Some item → self.new.items.entries ≡ set_value (is_at (nat_cmp place)) self.old.items.entries (with_outcome ended.now.job ended.now.success item) }
+        ensures complete { (item : Item) → get nat_cmp self.old.items place ≡ Some item → result ≡ is_complete (with_outcome ended.now.job ended.now.success item) }
         ensures keys { self.new.by_key ≡ self.old.by_key }
         ensures sets { self.new.by_set ≡ self.old.by_set }
     {
         match self.items.get_mut(&place) {
             None => false,
             Some(item) => {
-                record_in(item, alloc, outcome);
+                record_in(item, alloc, ended);
                 item.is_complete()
             }
         }

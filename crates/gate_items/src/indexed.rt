@@ -127,22 +127,22 @@ impl Indexed {
     }
 
     // Records the outcome of a job, and reports its item if that is complete then.
-    fn result(&mut self, outcome: &JobResult) -> Outcome
-        ensures { (self.new, result) ≡ after_plan self.old (resulted self.old outcome.now (find (has_set outcome.now.set) self.old.items)) }
+    fn result(&mut self, ended: &JobResult) -> Outcome
+        ensures { (self.new, result) ≡ after_plan self.old (resulted self.old ended.now (find (has_set ended.now.set) self.old.items)) }
     {
-        let Some(place) = self.index.place_of_set(outcome.set) else {
+        let Some(place) = self.index.place_of_set(ended.set) else {
             return Outcome::Discarded(Discard::NotCurrent);
         };
         let Some(item) = self.index.items.get(&place) else {
             return Outcome::Discarded(Discard::NotCurrent);
         };
-        match item.state_of(outcome.job.as_str()) {
+        match item.state_of(ended.job.as_str()) {
             None => return Outcome::Discarded(Discard::NoJob),
             Some(Some(_)) => return Outcome::Discarded(Discard::Repeated),
             Some(None) => {}
         }
         let alloc = *self.reported.allocator();
-        if !self.index.record(alloc, place, outcome) {
+        if !self.index.record(alloc, place, ended) {
             return Outcome::Applied;
         }
         let Some(item) = self.index.take_out(place) else {

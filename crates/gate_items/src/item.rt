@@ -1,6 +1,9 @@
 use crate::key::Key;
 use gate_record::{Sequence, Text};
 
+/// A build (Zuul's documentation, "Builds"): the name of its job, and whether that succeeded, once it has an outcome.
+pub type Build = (Text, Option<bool>);
+
 /// A queue item (Zuul's documentation, "Pipelines"): a change or a ref update for which a pipeline runs its jobs.
 #[derive(Debug, Drop)]
 pub struct QueueItem {
@@ -11,7 +14,7 @@ pub struct QueueItem {
     /// The number of its build set, which no other build set of the pipeline has or had.
     pub set: u64,
     /// The jobs of its build set, and the outcome of each that has one: whether it succeeded.
-    pub jobs: Sequence<(Text, Option<bool>)>,
+    pub jobs: Sequence<Build>,
 }
 
 /// What is said of an item when each of its jobs has an outcome.

@@ -6,7 +6,7 @@ ghost use Rattle.gate_items.specs.Steps.{Does};
 use crate::action::{Action, Outcome};
 use crate::indexed::Indexed;
 use crate::item::Report;
-use crate::listed::Listed;
+use crate::ordered::Ordered;
 use crate::queue_items::QueueItems;
 use gate_record::{ManagerKind, Memory};
 use std::alloc::Global;
@@ -26,7 +26,7 @@ pub struct Items {
 // How the items are kept: in a map by their places with an independent manager, in a list with a dependent one.
 #[derive(Drop)]
 pub(crate) enum Kept {
-    Listed(Listed),
+    Ordered(Ordered),
     Indexed(Indexed),
 }
 
@@ -46,7 +46,7 @@ impl Items {
     {
         let kept = match manager {
             ManagerKind::Independent => Kept::Indexed(Indexed::new(alloc, first_set)),
-            ManagerKind::Dependent => Kept::Listed(Listed::new(alloc, first_set)),
+            ManagerKind::Dependent => Kept::Ordered(Ordered::new(alloc, first_set)),
         };
         Items { kept }
     }
@@ -70,7 +70,7 @@ impl Items {
         ensures { result ≡ self.now.items }
     {
         match &self.kept {
-            Kept::Listed(listed) => listed.items(),
+            Kept::Ordered(ordered) => ordered.items(),
             Kept::Indexed(indexed) => indexed.items(),
         }
     }
@@ -80,7 +80,7 @@ impl Items {
         ensures { result ≡ length self.now.items }
     {
         match &self.kept {
-            Kept::Listed(listed) => listed.len(),
+            Kept::Ordered(ordered) => ordered.len(),
             Kept::Indexed(indexed) => indexed.len(),
         }
     }
@@ -90,7 +90,7 @@ impl Items {
         ensures { result.now ≡ self.now.reported }
     {
         match &self.kept {
-            Kept::Listed(listed) => listed.reported(),
+            Kept::Ordered(ordered) => ordered.reported(),
             Kept::Indexed(indexed) => indexed.reported(),
         }
     }
@@ -100,7 +100,7 @@ impl Items {
         ensures { result ≡ is_current self.now set }
     {
         match &self.kept {
-            Kept::Listed(listed) => listed.current(set),
+            Kept::Ordered(ordered) => ordered.current(set),
             Kept::Indexed(indexed) => indexed.current(set),
         }
     }
@@ -112,7 +112,7 @@ impl Items {
         ensures memory { OnErr result ((apply self.old action.now).1 ≡ Outcome.Applied) }
     {
         match &mut self.kept {
-            Kept::Listed(listed) => listed.carry_out(action),
+            Kept::Ordered(ordered) => ordered.carry_out(action),
             Kept::Indexed(indexed) => indexed.carry_out(action),
         }
     }

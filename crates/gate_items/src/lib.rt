@@ -10,16 +10,16 @@ mod items;
 mod key;
 mod key_order;
 mod laws;
-mod line;
-mod listed;
+mod ordered;
 mod outcome;
 mod queue_items;
 mod report;
+mod ring;
 mod trigger;
 
 pub use action::{Action, Discard, JobResult, Manage, Outcome};
 pub use gate_record::ManagerKind;
-pub use item::{QueueItem, Report};
+pub use item::{Build, QueueItem, Report};
 pub use items::Items;
 pub use key::Key;
 pub use laws::{

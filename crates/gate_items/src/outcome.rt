@@ -2,13 +2,13 @@ ghost use Rattle.std.specs.Prelude.{◌≡◌, ◌<◌, ℕ, Bool, List, Option,
 ghost use Rattle.std.specs.VecDeque.{deque_len};
 ghost use Rattle.std.specs.List.{find, list_any};
 ghost use Rattle.gate_items.specs.Machine.{has_failed, is_complete, is_first_failure, is_job, record_at, with_outcome};
-ghost use Rattle.gate_items.specs.Line.{numbered_outcome};
-ghost use Rattle.gate_items.specs.declared.line.Numbered.{Numbered as Entry};
+ghost use Rattle.gate_items.specs.Ring.{numbered_outcome};
+ghost use Rattle.gate_items.specs.declared.ring.Numbered.{Numbered as Entry};
 
 use crate::action::JobResult;
-use crate::item::QueueItem;
-use crate::line::Numbered;
-use gate_record::{Sequence, Text};
+use crate::item::{Build, QueueItem};
+use crate::ring::Numbered;
+use gate_record::Sequence;
 use std::alloc::Global;
 use std::collections::VecDeque;
 use std::mem;
@@ -49,7 +49,7 @@ impl QueueItem {
 }
 
 // The outcome that a job has once the job of a name has one.
-fn outcome_after(job: &(Text, Option<bool>), name: &str, success: bool) -> Option<bool>
+fn outcome_after(job: &Build, name: &str, success: bool) -> Option<bool>
     ensures { (job.now.0, result) ≡ record_at name.now success job.now }
 {
     if job.0.as_str() == name {
@@ -61,10 +61,10 @@ fn outcome_after(job: &(Text, Option<bool>), name: &str, success: bool) -> Optio
 
 // The jobs, those of a name with an outcome.
 fn recorded(
-    jobs: Sequence<(Text, Option<bool>)>,
+    jobs: Sequence<Build>,
     name: &str,
     success: bool,
-) -> Sequence<(Text, Option<bool>)>
+) -> Sequence<Build>
     ensures { result ≡ map (record_at name.now success) jobs }
 {
     let mut jobs = jobs.into_vec();
@@ -76,20 +76,20 @@ fn recorded(
 }
 
 // Records an outcome in an item, without memory.
-pub(crate) fn record_in(item: &mut QueueItem, alloc: Global, outcome: &JobResult)
-    ensures { item.new ≡ with_outcome outcome.now.job outcome.now.success item.old }
+pub(crate) fn record_in(item: &mut QueueItem, alloc: Global, ended: &JobResult)
+    ensures { item.new ≡ with_outcome ended.now.job ended.now.success item.old }
 {
     let jobs = mem::replace(&mut item.jobs, Sequence::empty(alloc));
-    item.jobs = recorded(jobs, outcome.job.as_str(), outcome.success);
+    item.jobs = recorded(jobs, ended.job.as_str(), ended.success);
 }
 
 // Records an outcome in the item at a place, without memory.
-pub(crate) fn record_outcome(items: &mut VecDeque<Numbered>, place: usize, outcome: &JobResult)
+pub(crate) fn record_outcome(items: &mut VecDeque<Numbered>, place: usize, ended: &JobResult)
     requires { place < deque_len items.old }
-    ensures items { (d : Entry) → items.new.items ≡ slice_set items.old.items place (numbered_outcome outcome.now.job outcome.now.success (slice_index_or items.old.items place d)) }
+    ensures items { (d : Entry) → items.new.items ≡ slice_set items.old.items place (numbered_outcome ended.now.job ended.now.success (slice_index_or items.old.items place d)) }
     ensures len { deque_len items.new ≡ deque_len items.old }
 {
     let alloc = *items.allocator();
     let entry = &mut items[place];
-    record_in(&mut entry.item, alloc, outcome);
+    record_in(&mut entry.item, alloc, ended);
 }

@@ -1,5 +1,5 @@
 use crate::item::QueueItem;
-use crate::line::Numbered;
+use crate::ring::Numbered;
 use std::collections::btree_map::Values;
 use std::collections::vec_deque::Iter;
 use std::marker::Model;
@@ -13,7 +13,7 @@ pub struct QueueItems<'a> {
 // What is still to come, of a list or of an index.
 #[derive(Drop)]
 pub(crate) enum Rest<'a> {
-    Listed(Iter<'a, Numbered>),
+    Ordered(Iter<'a, Numbered>),
     Indexed(Values<'a, u64, QueueItem>),
 }
 
@@ -30,14 +30,14 @@ impl<'a> Model for QueueItems<'a> {
 impl<'a> QueueItems<'a> {
     ghost use Rattle.std.specs.Prelude.{◌≡◌};
     ghost use Rattle.std.specs.VecDeque.Iter.{deque_iter_rest};
-    ghost use Rattle.gate_items.specs.Line.{items_of};
+    ghost use Rattle.gate_items.specs.Ring.{items_of};
 
-    // The items of a line.
-    pub(crate) fn of_line(items: Iter<'a, Numbered>) -> QueueItems<'a>
+    // The items of a ring.
+    pub(crate) fn of_ring(items: Iter<'a, Numbered>) -> QueueItems<'a>
         ensures { result ≡ items_of (deque_iter_rest items.entry) }
     {
         QueueItems {
-            rest: Rest::Listed(items),
+            rest: Rest::Ordered(items),
         }
     }
 
@@ -62,7 +62,7 @@ impl<'a> Iterator for QueueItems<'a> {
 
     fn next(&mut self) -> Option<&'a QueueItem> {
         match &mut self.rest {
-            Rest::Listed(rest) => {
+            Rest::Ordered(rest) => {
                 let entry = rest.next()?;
                 Some(&entry.item)
             }

@@ -3,7 +3,7 @@ ghost use Rattle.gate_items.specs.Machine.{new_item};
 ghost use Rattle.gate_items.specs.Steps.{why_not};
 
 use crate::action::Discard;
-use crate::item::QueueItem;
+use crate::item::{Build, QueueItem};
 use crate::key::Key;
 use gate_record::{Memory, Sequence, Text};
 use std::alloc::Global;
@@ -45,7 +45,7 @@ pub(crate) fn new_item(
 fn open_jobs(
     alloc: Global,
     names: &Sequence<Text>,
-) -> Result<Sequence<(Text, Option<bool>)>, Memory>
+) -> Result<Sequence<Build>, Memory>
     ensures { IfOk result (λ jobs. jobs ≡ map (λ name. (name, None)) names.now) }
 {
     let mut jobs = Vec::new(alloc);

@@ -13,7 +13,7 @@ pub use laws::{
 };
 pub use pass::{Pass, Phase, Taking};
 pub use pipeline::Pipeline;
-pub use which::{Held, Taken, Which};
+pub use which::{Held, Processed, Taken, Which};
 
 /// How many values a pipeline takes in one phase of a pass before it goes on (this project's profile).
 pub const PHASE: u32 = 256;

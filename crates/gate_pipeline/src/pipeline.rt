@@ -3,7 +3,7 @@ ghost use Rattle.gate_pipeline.specs.States.{MayBeRefused, Takes, applied, asked
 
 use crate::pass::{Pass, Phase, Taking};
 use crate::trigger::{manager_of, trigger_of};
-use crate::which::{Held, Taken, Which};
+use crate::which::{Held, Processed, Taken, Which};
 use gate_config::Config;
 use gate_items::{Action, Items, Outcome};
 use gate_record::{Memory, PipelineId, PipelineItem, Stamp, Stamped, TenantId};
@@ -80,7 +80,7 @@ impl Pipeline {
         &mut self,
         config: &Config,
         given: Taken,
-    ) -> Result<Option<(Option<Stamp>, Action, Outcome)>, Memory>
+    ) -> Result<Option<Processed>, Memory>
         requires asked { next_of self.old ≡ asked given }
         ensures takes { Takes config.now self.old given self.new result }
         ensures refused { OnErr result (MayBeRefused self.old.items.manager (to_process self.old.held given)) }
@@ -148,7 +148,7 @@ impl Pipeline {
         &mut self,
         config: &Config,
         held: Held,
-    ) -> Result<(Option<Stamp>, Action, Outcome), Memory>
+    ) -> Result<Processed, Memory>
         requires free { self.old.held ≡ None }
         ensures processes { Processes config.now self.old held self.new result }
         ensures refused { OnErr result (MayBeRefused self.old.items.manager (Some held)) }

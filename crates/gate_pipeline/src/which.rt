@@ -1,5 +1,8 @@
-use gate_items::{Action, JobResult, Manage};
-use gate_record::{PipelineItem, Stamped};
+use gate_items::{Action, JobResult, Manage, Outcome};
+use gate_record::{PipelineItem, Stamp, Stamped};
+
+/// What was processed: the stamp of the trigger event, where it was one, the action, and its outcome.
+pub type Processed = (Option<Stamp>, Action, Outcome);
 
 /// What the worker of a pipeline is to do next.
 #[derive(Clone, Copy, Debug, PartialEq, Eq)]

@@ -4,12 +4,12 @@ use Rattle.std.specs.List.{filter_map}
 use Rattle.std.specs.Option.{option_or}
 use Rattle.std.specs.Char.{to_ascii_lowercase}
 use Rattle.serde_json.specs.Data.{Data}
+use Rattle.gate_record.specs.Characters.{hyphen, space}
 use Rattle.gate_record.specs.Json.{text_at, number_at, items_at}
 use Rattle.gate_record.specs.Limits.{most_approvals}
 
--- 32 is a space, 45 a dash
 abbrev pub category_byte : ℕ → ℕ
-category_byte byte = if byte == 32 then 45 else to_ascii_lowercase byte
+category_byte byte = if byte == space then hyphen else to_ascii_lowercase byte
 
 -- a label's name as rules write it: ASCII letters in lower case, and a dash for each space
 abbrev pub category : List ℕ → List ℕ

@@ -2,11 +2,12 @@
 use Rattle.std.specs.Prelude.{◌&&◌, ℕ, List, replicate, Bool, false, codes, Option, Some, None}
 use Rattle.std.specs.Str.{bytes_eq}
 use Rattle.gate_record.specs.declared.event.Event.{Event}
+use Rattle.gate_record.specs.Characters.{digit_zero}
 
--- the new revision of a ref that was deleted
+-- the new revision of a ref that was deleted: forty zeros
 abbrev pub is_no_revision : Option (List ℕ) → Bool
 is_no_revision None = false
-is_no_revision (Some revision) = bytes_eq revision (replicate 40 48)
+is_no_revision (Some revision) = bytes_eq revision (replicate 40 digit_zero)
 
 -- the event tells that a ref was deleted
 abbrev pub is_delete : Event → Bool

@@ -1,4 +1,5 @@
 pub mod Approvals
+pub mod Characters
 pub mod Entries
 pub mod Events
 pub mod Fields
@@ -8,6 +9,5 @@ pub mod Lines
 pub mod Names
 pub mod Numbers
 pub mod Prefixes
-pub mod Queues
 pub mod Reading
 pub mod Tapes

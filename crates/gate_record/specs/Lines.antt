@@ -4,6 +4,7 @@ use Rattle.std.specs.List.{filter_map, slice_split}
 use Rattle.std.specs.Str.Lines.{lines, strip_carriage_return}
 use Rattle.gate_record.specs.declared.record.Record.{Record}
 use Rattle.gate_record.specs.declared.record.Record.TheVariants.{Line, Oversize}
+use Rattle.gate_record.specs.Characters.{line_feed}
 use Rattle.gate_record.specs.Limits.{longest_line}
 
 -- the record has its bytes
@@ -21,9 +22,8 @@ record_of_line (byte ∷ bytes) = if nat_lt longest_line (length (byte ∷ bytes
 abbrev pub records_of : List ℕ → List Record
 records_of bytes = filter_map record_of_line (lines bytes)
 
--- 10 is LF
 abbrev pub is_line_feed : ℕ → Bool
-is_line_feed byte = byte == 10
+is_line_feed byte = byte == line_feed
 
 abbrev pub all_but_last : List (List ℕ) → List (List ℕ)
 all_but_last [] = []

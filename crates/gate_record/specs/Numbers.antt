@@ -4,6 +4,7 @@ use Rattle.std.specs.Str.{all_ascii_digits}
 use Rattle.std.specs.Str.Parse.{digits_value}
 use Rattle.serde_json.specs.Data.{Data, null, boolean, number, string, array, object}
 use Rattle.serde_json.specs.Find.{as_i64}
+use Rattle.gate_record.specs.Characters.{hyphen, plus}
 
 -- one decimal digit or more
 abbrev pub is_numeral : List ℕ → Bool
@@ -15,12 +16,12 @@ above_zero digits = if is_numeral digits && nat_lt (digits_value 10 digits) (2 ^
 abbrev pub below_zero : List ℕ → Option ℤ
 below_zero digits = if is_numeral digits && nat_le (digits_value 10 digits) (2 ^ 63) then Some (neg_ℤ (pos (digits_value 10 digits))) else None
 
--- the i64 that a text writes: one sign or none (45 is `-`, 43 is `+`), and decimal digits
+-- the i64 that a text writes: one sign or none, and decimal digits
 abbrev pub number_in : List ℕ → Option ℤ
 number_in [] = None
 number_in (sign ∷ digits) =
-    if sign == 45 then below_zero digits
-    else (if sign == 43 then above_zero digits else above_zero (sign ∷ digits))
+    if sign == hyphen then below_zero digits
+    else (if sign == plus then above_zero digits else above_zero (sign ∷ digits))
 
 -- the number that a value is: neither a fraction nor too large for an i64
 abbrev pub number_of : Data → Option ℤ

@@ -73,24 +73,4 @@ impl<T> Queue<T> {
     {
         self.items.clear();
     }
-
-    /// Moves the value at the front to the back of another queue, if there is one. Where memory is refused both stay
-    /// as they are.
-    pub fn move_first_to(&mut self, other: &mut Queue<T>) -> Result<(), AllocFailed<()>>
-        ensures ok { OnOk result (MovesFirst self.old other.old self.new other.new) }
-        ensures err { OnErr result ((self.new ≡ self.old) × (other.new ≡ other.old)) }
-    {
-        let Some(value) = self.items.pop_front() else {
-            return Ok(());
-        };
-        match other.items.push_back(value) {
-            Ok(()) => Ok(()),
-            Err(refused) => {
-                self.items.push_front_reserved(refused.value);
-                Err(AllocFailed { value: () })
-            }
-        }
-    }
 }
-
-ghost use Rattle.gate_record.specs.Queues.{MovesFirst};

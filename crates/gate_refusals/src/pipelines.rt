@@ -9,8 +9,7 @@ use crate::log::Log;
 use crate::records::{APPROVED, MADE, UPLOADED, event_of};
 use crate::shown::Shown;
 use gate_config::Config;
-use gate_items::{Action, Outcome};
-use gate_pipeline::{Pipeline, Taken, Which};
+use gate_pipeline::{Pipeline, Processed, Taken, Which};
 use gate_record::{ConnId, Memory, PipelineId, PipelineItem, Stamp, Stamped, TenantId};
 use std::alloc::{AllocError, Global};
 
@@ -31,7 +30,6 @@ const SCRIPT: [&str; 9] = [
 ];
 
 // What a worker makes of a taking.
-type Processed = Option<(Option<Stamp>, Action, Outcome)>;
 
 pub(crate) fn run(log: &mut Log, alloc: Global) -> Result<(), Elsewhere> {
     let config = config_of(log, alloc, PLAIN)?;
@@ -160,7 +158,7 @@ fn take_held(log: &mut Log, config: &Config, worker: &mut Pipeline) -> Result<()
 fn push_processed(
     log: &mut Log,
     worker: &Pipeline,
-    processed: &Processed,
+    processed: &Option<Processed>,
 ) -> Result<(), Elsewhere> {
     write!(log.told, "{processed:?} {:?}\n", worker.wants())?;
     Ok(worker.show(&mut log.told)?)

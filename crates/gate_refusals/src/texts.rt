@@ -4,7 +4,7 @@ use crate::log::Log;
 use crate::records::record_of;
 use crate::shown::Shown;
 use gate_record::{Queue, Sequence, Shared, Text, category, name_text};
-use std::alloc::{AllocError, Global};
+use std::alloc::Global;
 
 const WORDS: [&str; 5] = [
     "demo",
@@ -21,7 +21,7 @@ pub(crate) fn run(log: &mut Log, alloc: Global) -> Result<(), Elsewhere> {
         copy_record(log, alloc, word)?;
     }
     push_texts(log, alloc)?;
-    move_texts(log, alloc)
+    queue_texts(log, alloc)
 }
 
 fn copy_text(log: &mut Log, alloc: Global, word: &str) -> Result<(), Elsewhere> {
@@ -67,33 +67,13 @@ fn push_text(log: &mut Log, list: &mut Sequence<Text>, text: Text) -> Result<(),
     )
 }
 
-/// Two queues, of which values are moved from the first to the second.
-#[derive(Drop)]
-struct Queues {
-    first: Queue<Text>,
-    second: Queue<Text>,
-}
-
-impl Shown for Queues {
-    fn show(&self, text: &mut String) -> Result<(), AllocError> {
-        self.first.show(text)?;
-        text.push_str("and\n")?;
-        self.second.show(text)
-    }
-}
-
-fn move_texts(log: &mut Log, alloc: Global) -> Result<(), Elsewhere> {
-    let mut queues = Queues {
-        first: Queue::new(alloc),
-        second: Queue::new(alloc),
-    };
+// A queue that grows.
+fn queue_texts(log: &mut Log, alloc: Global) -> Result<(), Elsewhere> {
+    let mut queue = Queue::new(alloc);
     for word in WORDS {
-        queue_text(log, &mut queues.first, Text::copy(alloc, word)?)?;
+        queue_text(log, &mut queue, Text::copy(alloc, word)?)?;
     }
-    for _ in WORDS {
-        move_text(log, &mut queues)?;
-    }
-    queues.show(&mut log.told)?;
+    queue.show(&mut log.told)?;
     Ok(())
 }
 
@@ -107,13 +87,4 @@ fn queue_text(log: &mut Log, queue: &mut Queue<Text>, text: Text) -> Result<(), 
             Err(refused) => Err(refused.value),
         },
     )
-}
-
-fn move_text(log: &mut Log, queues: &mut Queues) -> Result<(), Elsewhere> {
-    log.kept("gate_record Queue::move_first_to", queues, move_first)?;
-    Ok(())
-}
-
-fn move_first(queues: &mut Queues) -> Result<(), gate_record::Memory> {
-    Ok(queues.first.move_first_to(&mut queues.second)?)
 }

@@ -9,7 +9,7 @@ use Rattle.gate_record.specs.declared.transit.PipelineItem.{PipelineItem}
 use Rattle.gate_record.specs.declared.transit.PipelineItem.TheVariants as pipeline
 use Rattle.gate_config.specs.declared.config.Config.{Config}
 use Rattle.gate_config.specs.Selection.{selects_event}
-use Rattle.gate_tenant.specs.Dispatching.{OneConnectionAlone, chosen_item, holds_ends, is_event_of, is_from}
+use Rattle.gate_tenant.specs.Dispatching.{OneConnectionAlone, chosen_item, all_marked_in, is_event_of, is_from}
 
 module _ (config : Config) (t p c : ℕ) where
   -- an event stays where it is this connection's, and falls away where it isn't
@@ -43,7 +43,7 @@ module _ (config : Config) (t p c : ℕ) where
 
 pub one_connection_alone : OneConnectionAlone
 one_connection_alone config t p c items =
-    filter-append (is_event_of c) (filter_map (chosen_item config t p) items) (if holds_ends config t items then pipeline.End ∷ [] else [])
-    ∙ ap (λ rest. filter (is_event_of c) (filter_map (chosen_item config t p) items) ++ rest) (no_marks config t p c (holds_ends config t items))
+    filter-append (is_event_of c) (filter_map (chosen_item config t p) items) (if all_marked_in config t items then pipeline.End ∷ [] else [])
+    ∙ ap (λ rest. filter (is_event_of c) (filter_map (chosen_item config t p) items) ++ rest) (no_marks config t p c (all_marked_in config t items))
     ∙ append-nil (filter (is_event_of c) (filter_map (chosen_item config t p) items))
     ∙ events config t p c items

@@ -9,7 +9,7 @@ use Rattle.gate_record.specs.declared.transit.TenantItem.TheVariants as tenant
 use Rattle.gate_config.specs.declared.config.Config.{Config}
 use Rattle.gate_config.specs.Limits.{most_connections}
 use Rattle.gate_config.specs.Lookups.{connections_of, lists}
-use Rattle.gate_tenant.specs.Dispatching.{all_marked, holds_ends, is_end_of, is_marked, marks_after, no_marks}
+use Rattle.gate_tenant.specs.Dispatching.{all_marked, all_marked_in, is_end_of, is_marked, marks_after, no_marks}
 
 or_false : (b : Bool) → (b || false) ≡ b
 or_false false = refl
@@ -58,7 +58,7 @@ same_for f g a (suc n) e =
     ∙ ap (λ b. g a && b) (same_for f g (a + 1) n (λ c h. e c (omega (arith, h))))
 
 -- The marks of a list of items say whether it holds the end mark of each connection that the tenant lists.
-pub ends_are : (config : Config) (t : ℕ) (items : List TenantItem) → all_marked config t (marks_after items no_marks) ≡ holds_ends config t items
+pub ends_are : (config : Config) (t : ℕ) (items : List TenantItem) → all_marked config t (marks_after items no_marks) ≡ all_marked_in config t items
 ends_are config t items =
     same_for (is_marked config t (marks_after items no_marks)) (λ c. not (lists config t c) || list_any (is_end_of c) items) 0 (length (connections_of config))
     (λ c h. ap (λ b. not (lists config t c) || b)

@@ -11,7 +11,7 @@ use Rattle.gate_record.specs.declared.transit.PipelineItem.TheVariants as pipeli
 use Rattle.gate_config.specs.declared.config.Config.{Config}
 use Rattle.gate_config.specs.Lookups.{pipelines_of}
 use Rattle.gate_tenant.specs.Limits.{most_gathered}
-use Rattle.gate_tenant.specs.Dispatching.{all_marked, by_pipeline, chosen, chosen_item, holds_ends, marks_after, no_marks, with_mark}
+use Rattle.gate_tenant.specs.Dispatching.{all_marked, by_pipeline, chosen, chosen_item, all_marked_in, marks_after, no_marks, with_mark}
 use Rattle.gate_tenant.specs.Histories.{AllWasGiven, EachGetsItsOwn, Happens, History, NothingIsLost, beginning, begins, comes_back, gathers, gives, item_for, items_for, matches, moves}
 use Rattle.gate_tenant.specs.States.{State, has_ended, last_marks, matched, room_of}
 use Rattle.gate_tenant.proofs.Ends.{ends_are}
@@ -67,13 +67,13 @@ module _ (config : Config) (t : ℕ) where
     more_marks = ap (marks_after h.state.gathered) was.marks ∙ sym (fold-append with_mark no_marks h.done h.state.gathered)
 
     -- the end marks come if all are there now
-    now_ended : (all_marked config t (marks_after h.state.gathered h.state.marks) && not (all_marked config t h.state.marks)) ≡ holds_ends config t (h.done ++ h.state.gathered)
+    now_ended : (all_marked config t (marks_after h.state.gathered h.state.marks) && not (all_marked config t h.state.marks)) ≡ all_marked_in config t (h.done ++ h.state.gathered)
     now_ended =
         ap (λ b. all_marked config t (marks_after h.state.gathered h.state.marks) && not b) unmarked
         ∙ and_true (all_marked config t (marks_after h.state.gathered h.state.marks))
         ∙ ap (all_marked config t) more_marks ∙ ends_are config t (h.done ++ h.state.gathered)
 
-    missing : holds_ends config t h.done ≡ false
+    missing : all_marked_in config t h.done ≡ false
     missing = sym (ends_are config t h.done) ∙ ap (all_marked config t) (sym was.marks) ∙ unmarked
 
     -- all that was matched was given
@@ -88,7 +88,7 @@ module _ (config : Config) (t : ℕ) where
     new_share p few =
         let events = flat_map (by_pipeline config t) h.state.gathered in
         let marks = last_marks config t h.state.gathered h.state.marks in
-        let ends = if holds_ends config t (h.done ++ h.state.gathered) then pipeline.End ∷ [] else [] in
+        let ends = if all_marked_in config t (h.done ++ h.state.gathered) then pipeline.End ∷ [] else [] in
         ap (λ o. items_for p (h.given ++ (option_to_list o ++ (events ++ marks)))) (was.turn some).2
         ∙ filter_map-append (item_for p) h.given (events ++ marks)
         ∙ ap (λ xs. xs ++ items_for p (events ++ marks)) (given_so_far p few)

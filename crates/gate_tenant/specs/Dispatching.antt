@@ -30,13 +30,13 @@ is_end_of c (tenant.Event s) = false
 is_end_of c (tenant.End conn) = conn.0 == c
 
 -- the list holds the end mark of each connection that tenant t lists
-abbrev pub holds_ends : Config → ℕ → List TenantItem → Bool
-holds_ends config t items = list_all (λ c. not (lists config t c) || list_any (is_end_of c) items) (range_with_len 0 (length (connections_of config)))
+abbrev pub all_marked_in : Config → ℕ → List TenantItem → Bool
+all_marked_in config t items = list_all (λ c. not (lists config t c) || list_any (is_end_of c) items) (range_with_len 0 (length (connections_of config)))
 
 -- What pipeline p of tenant t gets of a list of items: the events that it selects, in order, followed by the end mark if
 -- the list holds the end mark of each connection that the tenant lists.
 abbrev pub chosen : Config → ℕ → ℕ → List TenantItem → List PipelineItem
-chosen config t p items = filter_map (chosen_item config t p) items ++ (if holds_ends config t items then pipeline.End ∷ [] else [])
+chosen config t p items = filter_map (chosen_item config t p) items ++ (if all_marked_in config t items then pipeline.End ∷ [] else [])
 
 -- an item for pipeline p
 abbrev pub for_pipeline : ℕ → PipelineItem → PipelineId × PipelineItem

@@ -63,32 +63,13 @@ fn shares_values(rt: HostRuntime) -> Result<(), Fail> {
 #[test]
 fn queues_pop_at_the_front(rt: HostRuntime) -> Result<(), Fail> {
     let mut queue = Queue::new(rt.alloc());
-    let mut other = Queue::new(rt.alloc());
-    are_moved(&rt, &mut queue, &mut other)
-}
-
-// Puts 0, 1 and 2 into an empty queue, and moves its first value to another, which is empty.
-fn are_moved(rt: &impl Abort, queue: &mut Queue<i32>, other: &mut Queue<i32>) -> Result<(), Fail> {
     for value in 0..3 {
         queue.push(value)?;
     }
-    assert!(rt; (other.is_empty(), queue.len()) == (true, 3));
-    queue.move_first_to(other)?;
-    let moved = (other.get(0).copied(), queue.pop(), queue.get(0).copied());
-    assert!(rt; moved == (Some(0), Some(1), Some(2)));
-    nothing_is_moved(rt, queue, other)
-}
-
-// Clears a queue, from which nothing is moved then to another, which has one value.
-fn nothing_is_moved(
-    rt: &impl Abort,
-    queue: &mut Queue<i32>,
-    other: &mut Queue<i32>,
-) -> Result<(), Fail> {
+    assert!(&rt; (queue.is_empty(), queue.len()) == (false, 3));
+    assert!(&rt; (queue.pop(), queue.get(0).copied()) == (Some(0), Some(1)));
     queue.clear();
-    assert!(rt; queue.pop() == None);
-    queue.move_first_to(other)?;
-    assert!(rt; other.len() == 1);
+    assert!(&rt; (queue.is_empty(), queue.pop()) == (true, None));
     Ok(())
 }
 

@@ -12,13 +12,12 @@ use crate::lines::word_and_rest;
 use crate::records::event_of;
 use gate_config::Config;
 use gate_items::{Action, JobResult, Key, Manage, Outcome};
-use gate_pipeline::{Pipeline, Taken, Which};
+use gate_pipeline::{Pipeline, Processed, Taken, Which};
 use gate_record::{ConnId, PipelineItem, Shared, Stamp, Stamped, Text};
 use std::alloc::{AllocError, Global};
 use std::test::Fail;
 
 // What the pipeline makes of a taking, and its outcome; nothing for the end mark.
-type Processed = Option<(Option<Stamp>, Action, Outcome)>;
 
 pub(super) fn take(
     alloc: Global,
@@ -162,7 +161,7 @@ fn succeeded(alloc: Global, words: &str) -> Result<JobResult, Fail> {
     })
 }
 
-fn push_processed(text: &mut String, processed: &Processed) -> Result<(), Fail> {
+fn push_processed(text: &mut String, processed: &Option<Processed>) -> Result<(), Fail> {
     match processed {
         None => Ok(()),
         Some((_, action, outcome)) => Ok(push_action(text, action, outcome)?),

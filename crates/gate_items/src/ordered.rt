@@ -1,0 +1,279 @@
+ghost use Rattle.std.specs.Prelude.{◌≡◌, OnErr, false, ◌<◌, ◌≤◌, ◌+◌, ℕ, List, IfOk, length, slice_index_or, None, Some};
+ghost use Rattle.std.specs.List.{find, position};
+ghost use Rattle.gate_items.specs.History.{IsLate, IsTrigger, is_current, start};
+ghost use Rattle.gate_items.specs.Machine.{apply, dequeued, has_set, is_job, is_of, plan, reset, resulted, triggered};
+ghost use Rattle.gate_items.specs.Steps.{Does, Judges, changed, dequeued_at, ended_at, placed_last, recorded_at, replaced_at, reset_at, settled};
+ghost use Rattle.gate_items.specs.declared.item.QueueItem.{QueueItem as Item};
+
+use crate::action::{Action, Discard, JobResult, Manage, Outcome};
+use crate::item::Report;
+use crate::key::Key;
+use crate::ring::Ring;
+use crate::queue_items::QueueItems;
+use crate::report::report_complete;
+use crate::trigger::new_item;
+use gate_record::{ManagerKind, Memory, Sequence, Text};
+use std::alloc::Global;
+use std::marker::Model;
+
+// The items of a pipeline with a dependent manager.
+#[derive(Drop)]
+pub(crate) struct Ordered {
+    ring: Ring,
+    // There is room for a report of each item, so that an item leaves without memory.
+    reported: Vec<Report>,
+}
+
+impl Model for Ordered {
+    ghost use Rattle.std.specs.Prelude.{◌≤◌, ◌+◌, length, vec_capacity};
+    ghost use Rattle.gate_record.specs.declared.ids.ManagerKind.TheVariants.{Dependent};
+    ghost use Rattle.gate_items.specs.Machine.{State};
+
+    ghost Value = { State };
+
+    ghost view = { λ i. record { manager = Dependent; next = i.ring.next; items = i.ring.items; reported = i.reported.items } };
+
+    ghost invariant = { λ i. length i.reported.items + length i.ring.items ≤ vec_capacity i.reported };
+}
+
+impl Ordered {
+    // No items.
+    pub(crate) fn new(alloc: Global, first_set: u64) -> Ordered
+        ensures { result ≡ start ManagerKind.Dependent first_set }
+    {
+        Ordered {
+            ring: Ring::new(alloc, first_set),
+            reported: Vec::new(alloc),
+        }
+    }
+
+    // The items, one after another from the first.
+    pub(crate) fn items(&self) -> QueueItems<'_>
+        ensures { result ≡ self.now.items }
+    {
+        self.ring.items()
+    }
+
+    // How many items there are.
+    pub(crate) fn len(&self) -> usize
+        ensures { result ≡ length self.now.items }
+    {
+        self.ring.len()
+    }
+
+    // What was reported, first to last.
+    pub(crate) fn reported(&self) -> &[Report]
+        ensures { result.now ≡ self.now.reported }
+    {
+        self.reported.as_slice()
+    }
+
+    // Whether an item has this build set.
+    pub(crate) fn current(&self, set: u64) -> bool
+        ensures { result ≡ is_current self.now set }
+    {
+        self.ring.place_of_set(set).is_some()
+    }
+
+    // Does what an action asks for, and then reports.
+    pub(crate) fn carry_out(&mut self, action: &Action) -> Result<Outcome, Memory>
+        ensures does { Does self.old (apply self.old action.now) self.new result }
+        ensures trigger { OnErr result (IsTrigger action.now) }
+        ensures memory { OnErr result ((apply self.old action.now).1 ≡ Outcome.Applied) }
+    {
+        let outcome = self.change(action)?;
+        if outcome == Outcome::Applied {
+            self.settle();
+        }
+        Ok(outcome)
+    }
+
+    // Does what an action asks for, but reports nothing.
+    fn change(&mut self, action: &Action) -> Result<Outcome, Memory>
+        ensures does { Does self.old (changed self.old (plan self.old action.now)) self.new result }
+        ensures trigger { OnErr result (IsTrigger action.now) }
+        ensures memory { OnErr result ((changed self.old (plan self.old action.now)).1 ≡ Outcome.Applied) }
+    {
+        match action {
+            Action::Trigger(key, patchset, jobs) => self.trigger(key, *patchset, jobs),
+            Action::Result(result) => Ok(self.result(result)),
+            Action::Manage(Manage::Dequeue(key)) => Ok(self.dequeue(key)),
+            Action::Manage(Manage::Reset(key)) => Ok(self.reset(key)),
+        }
+    }
+
+    // Takes the item of a key out.
+    fn dequeue(&mut self, key: &Key) -> Outcome
+        ensures { (self.new, result) ≡ changed self.old (dequeued self.old key.now (find (is_of key.now) self.old.items)) }
+    {
+        match self.ring.place_of_key(key) {
+            None => Outcome::Discarded(Discard::NoItem),
+            Some(place) => self.dequeue_at(place),
+        }
+    }
+
+    // Takes the item at a place out.
+    fn dequeue_at(&mut self, place: usize) -> Outcome
+        requires { place < length self.old.items }
+        ensures { (self.new, result) ≡ changed self.old (dequeued_at self.old place) }
+    {
+        let Some(_next) = self.ring.next_after(place + 1) else {
+            return Outcome::Discarded(Discard::Numbers);
+        };
+        let _item = self.ring.remove(place);
+        self.ring.renew_from(place);
+        Outcome::Applied
+    }
+
+    // Gives the item of a key a new build set.
+    fn reset(&mut self, key: &Key) -> Outcome
+        ensures { (self.new, result) ≡ changed self.old (reset self.old key.now (find (is_of key.now) self.old.items)) }
+    {
+        match self.ring.place_of_key(key) {
+            None => Outcome::Discarded(Discard::NoItem),
+            Some(place) => self.reset_at(place),
+        }
+    }
+
+    // Gives the item at a place a new build set.
+    fn reset_at(&mut self, place: usize) -> Outcome
+        requires { place < length self.old.items }
+        ensures { (d : Item) → (self.new, result) ≡ changed self.old (reset_at self.old place (slice_index_or self.old.items place d)) }
+    {
+        let Some(_next) = self.ring.next_after(place) else {
+            return Outcome::Discarded(Discard::Numbers);
+        };
+        self.ring.renew_from(place);
+        Outcome::Applied
+    }
+
+    // Records the outcome of a job.
+    fn result(&mut self, ended: &JobResult) -> Outcome
+        ensures { (self.new, result) ≡ changed self.old (resulted self.old ended.now (find (has_set ended.now.set) self.old.items)) }
+    {
+        match self.ring.place_of_set(ended.set) {
+            None => Outcome::Discarded(Discard::NotCurrent),
+            Some(place) => self.result_at(place, ended),
+        }
+    }
+
+    // Records the outcome of a job in the item at a place.
+    fn result_at(&mut self, place: usize, ended: &JobResult) -> Outcome
+        requires { place < length self.old.items }
+        ensures { (d : Item) → (self.new, result) ≡ changed self.old (ended_at self.old place ended.now (slice_index_or self.old.items place d) (find (is_job ended.now.job) (slice_index_or self.old.items place d).jobs)) }
+    {
+        match self.ring.item(place).state_of(ended.job.as_str()) {
+            None => Outcome::Discarded(Discard::NoJob),
+            Some(Some(_)) => Outcome::Discarded(Discard::Repeated),
+            Some(None) => {
+                let renews = self.ring.item(place).is_first_failure(ended.success);
+                self.record_at(place, ended, renews)
+            }
+        }
+    }
+
+    // Records the outcome of a job in the item at a place, and renews what stands behind if asked for.
+    fn record_at(&mut self, place: usize, ended: &JobResult, renews: bool) -> Outcome
+        requires { place < length self.old.items }
+        ensures { (d : Item) → (self.new, result) ≡ changed self.old (recorded_at self.old place ended.now (slice_index_or self.old.items place d) renews) }
+    {
+        if !renews {
+            self.ring.record(place, ended);
+            return Outcome::Applied;
+        }
+        let Some(_next) = self.ring.next_after(place + 1) else {
+            return Outcome::Discarded(Discard::Numbers);
+        };
+        self.ring.record(place, ended);
+        self.ring.renew_from(place + 1);
+        Outcome::Applied
+    }
+
+    // An item of a key goes last, and an older one of the key is taken out.
+    fn trigger(
+        &mut self,
+        key: &Option<Key>,
+        patchset: i64,
+        jobs: &Sequence<Text>,
+    ) -> Result<Outcome, Memory>
+        ensures does { Does self.old (changed self.old (triggered self.old key.now patchset jobs.now)) self.new result }
+        ensures memory { OnErr result ((changed self.old (triggered self.old key.now patchset jobs.now)).1 ≡ Outcome.Applied) }
+    {
+        let Some(key) = key else {
+            return Ok(Outcome::Discarded(Discard::NoKey));
+        };
+        if jobs.len() == 0 {
+            return Ok(Outcome::Discarded(Discard::NoJobs));
+        }
+        match self.older_place(key, patchset) {
+            Err(why) => Ok(Outcome::Discarded(why)),
+            Ok(None) => self.place_last(key, patchset, jobs),
+            Ok(Some(place)) => self.replace_at(place, key, patchset, jobs),
+        }
+    }
+
+    // The place of an older patch set's item, or nothing where the key has no item, or why a trigger is discarded.
+    fn older_place(&self, key: &Key, patchset: i64) -> Result<Option<usize>, Discard>
+        ensures judges { (jobs : List (List ℕ)) → Judges self.now key.now patchset jobs result }
+        ensures place { IfOk result (λ place. place ≡ position (is_of key.now) self.now.items) }
+    {
+        let Some(place) = self.ring.place_of_key(key) else {
+            return Ok(None);
+        };
+        match self.ring.item(place).why_not(patchset) {
+            Some(why) => Err(why),
+            None => Ok(Some(place)),
+        }
+    }
+
+    // Puts an item last.
+    fn place_last(
+        &mut self,
+        key: &Key,
+        patchset: i64,
+        jobs: &Sequence<Text>,
+    ) -> Result<Outcome, Memory>
+        requires { None ≡ position (is_of key.now) self.old.items }
+        ensures does { Does self.old (changed self.old (placed_last self.old key.now patchset jobs.now)) self.new result }
+        ensures memory { OnErr result ((changed self.old (placed_last self.old key.now patchset jobs.now)).1 ≡ Outcome.Applied) }
+    {
+        let Some(_next) = self.ring.next().checked_add(1) else {
+            return Ok(Outcome::Discarded(Discard::Numbers));
+        };
+        let alloc = *self.reported.allocator();
+        let item = new_item(alloc, key, patchset, self.ring.next(), jobs)?;
+        let copy = key.copy(alloc)?;
+        self.reported.reserve(self.ring.len() + 1)?;
+        self.ring.put_last(copy, item)?;
+        Ok(Outcome::Applied)
+    }
+
+    // Takes the item at a place out, and puts a newer one last.
+    fn replace_at(
+        &mut self,
+        place: usize,
+        key: &Key,
+        patchset: i64,
+        jobs: &Sequence<Text>,
+    ) -> Result<Outcome, Memory>
+        requires { Some place ≡ position (is_of key.now) self.old.items }
+        ensures does { Does self.old (changed self.old (replaced_at self.old place key.now patchset jobs.now)) self.new result }
+        ensures memory { OnErr result ((changed self.old (replaced_at self.old place key.now patchset jobs.now)).1 ≡ Outcome.Applied) }
+    {
+        let Some(next) = self.ring.next_after(place) else {
+            return Ok(Outcome::Discarded(Discard::Numbers));
+        };
+        let alloc = *self.reported.allocator();
+        let item = new_item(alloc, key, patchset, next - 1, jobs)?;
+        self.ring.renew_from(place + 1);
+        self.ring.replace(place, item);
+        Ok(Outcome::Applied)
+    }
+
+    // Reports complete items, which leave.
+    fn settle(&mut self)
+        ensures { self.new ≡ settled self.old }
+    {
+        report_complete(&mut self.ring, &mut self.reported);
+    }
+}
