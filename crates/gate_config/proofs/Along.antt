@@ -6,8 +6,9 @@ use Rattle.serde_json.specs.Data.{Data}
 use Rattle.gate_config.specs.declared.document.Entry.{Entry}
 use Rattle.gate_config.specs.Checks.{along, along_from, source_checks, tenant_checks}
 use Rattle.gate_config.specs.Document.{names_in, sources_of, tenant_of}
-use Rattle.gate_config.specs.Entry.{entry_view, key_view}
-use Rattle.gate_config.specs.Faults.{Check, HasPassed, HasFault}
+use Rattle.gate_config.specs.Inner.Entry.{entry_view, key_view}
+use Rattle.gate_config.specs.Faults.{Check}
+use Rattle.gate_config.specs.Inner.Faults.{HasPassed, HasFault}
 use Rattle.gate_config.specs.Names.{with_name, with_names}
 use Rattle.gate_config.proofs.Each.{map_more, split}
 use Rattle.gate_config.proofs.Listed.{names_more, with_names-append}

@@ -14,11 +14,11 @@ use Rattle.std.proofs.lemmas.Slice.Eq.{bytes_eq-Decides}
 use Rattle.serde_json.specs.Data.{Data, null, boolean, number, string, array, object, Members, no_members, member}
 use Rattle.serde_json.specs.Find.{get_member}
 use Rattle.gate_rule.specs.declared.rule.Rule.{Rule}
-use Rattle.gate_config.specs.Attributes.{unlisted, with_attribute}
+use Rattle.gate_config.specs.Inner.Attributes.{unlisted, with_attribute}
 use Rattle.gate_config.specs.Checks.{attribute_checks}
 use Rattle.gate_config.specs.Document.{RuleTexts, flag, pattern_texts, rule_texts, votes}
-use Rattle.gate_config.specs.Entry.{key_view}
-use Rattle.gate_config.specs.Faults.{HasPassed}
+use Rattle.gate_config.specs.Inner.Entry.{key_view}
+use Rattle.gate_config.specs.Inner.Faults.{HasPassed}
 use Rattle.gate_config.specs.Parts.{keys_in, keys_of, optional, unless_null}
 use Rattle.gate_config.specs.Texts.{texts_of_rule}
 use Rattle.gate_config.proofs.Each.{TestedSoFar, map_more, tested_more, tested_none}

@@ -4,7 +4,8 @@ use Rattle.std.specs.List.{flat_map, filter_map, enumerate_from}
 use Rattle.std.proofs.lemmas.List.{append-nil, map-append, map-id, take_more, take_all, take-append-drop, length-map, length-take-le}
 use Rattle.gate_config.specs.declared.fault.ConfigFault.{ConfigFault}
 use Rattle.gate_config.specs.Checks.{each}
-use Rattle.gate_config.specs.Faults.{Check, HasPassed, HasFault}
+use Rattle.gate_config.specs.Faults.{Check}
+use Rattle.gate_config.specs.Inner.Faults.{HasPassed, HasFault}
 use Rattle.gate_config.proofs.Faults.{fault_front, fault_rest, passed_both}
 
 -- the checks from a position on

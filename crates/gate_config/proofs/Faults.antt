@@ -4,7 +4,8 @@ use Rattle.std.specs.Prelude.{not}
 use Rattle.std.specs.Result.{IsErrAnd}
 use Rattle.gate_config.specs.declared.fault.ConfigFault.{ConfigFault}
 use Rattle.gate_config.specs.declared.fault.ConfigFault.TheVariants as fault
-use Rattle.gate_config.specs.Faults.{Check, Asks, AllPass, IsFirstFault, IsFaultOf, HasPassed, HasFault, Reads, Tests}
+use Rattle.gate_config.specs.Faults.{Check, Asks, AllPass, IsFirstFault, IsFaultOf}
+use Rattle.gate_config.specs.Inner.Faults.{HasPassed, HasFault, Reads, Tests}
 
 -- what is a first fault there is one here, and want of memory is everywhere
 over_faults : (xs ys : List Check) → ((found : ConfigFault) → IsFirstFault xs found → IsFirstFault ys found) → (found : ConfigFault) → IsFaultOf xs found → IsFaultOf ys found

@@ -15,7 +15,8 @@ use Rattle.gate_config.proofs.Attributes.{same_bytes}
 use Rattle.gate_config.proofs.Each.{map_more}
 use Rattle.gate_config.proofs.Picked.{filter_map_more}
 use Rattle.gate_config.specs.Document.{name_in}
-use Rattle.gate_config.specs.Jobs.{firsts, with_job, with_jobs}
+use Rattle.gate_config.specs.Jobs.{firsts}
+use Rattle.gate_config.specs.Inner.Jobs.{with_job, with_jobs}
 
 -- ---- one more name
 

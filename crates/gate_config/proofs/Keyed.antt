@@ -13,7 +13,7 @@ use Rattle.std.proofs.lemmas.Map.Text.{is_eq-slice_cmp}
 use Rattle.std.proofs.lemmas.Slice.Eq.{bytes_eq-Decides}
 use Rattle.gate_rule.specs.Pattern.{text_of}
 use Rattle.gate_rule.specs.declared.pattern.Pattern.{Pattern}
-use Rattle.gate_config.specs.Keyed.{IsKeyed, StandsAtText}
+use Rattle.gate_config.specs.Inner.Keyed.{IsKeyed, StandsAtText}
 
 same : (xs ys : List ℕ) → is_eq (slice_cmp nat_cmp xs ys) ≡ true → xs ≡ ys
 same xs ys e = (bytes_eq-Decides xs ys).0 (sym (is_eq-slice_cmp xs ys) ∙ e)

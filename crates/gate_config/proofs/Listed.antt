@@ -9,7 +9,7 @@ use Rattle.serde_json.specs.declared.value.Value.{Value}
 use Rattle.gate_config.specs.declared.document.Entry.{Entry}
 use Rattle.gate_config.specs.Checks.{is_named, is_nameless, is_taken}
 use Rattle.gate_config.specs.Document.{name_of, tenant_name}
-use Rattle.gate_config.specs.Entry.{entry_view}
+use Rattle.gate_config.specs.Inner.Entry.{entry_view}
 use Rattle.gate_config.specs.Names.{with_name, with_names}
 use Rattle.gate_config.proofs.Each.{map_more}
 use Rattle.gate_config.proofs.Picked.{filter_map_more}

@@ -10,7 +10,8 @@ use Rattle.gate_config.specs.declared.config.Config.{Config}
 use Rattle.gate_config.specs.declared.fault.ConfigFault.{ConfigFault}
 use Rattle.gate_config.specs.Checks.{checks_of, checks_of_json, document_checks}
 use Rattle.gate_config.specs.Document.{connection_names, tenants_in}
-use Rattle.gate_config.specs.Faults.{AllPass, IsFaultOf, Reads}
+use Rattle.gate_config.specs.Faults.{AllPass, IsFaultOf}
+use Rattle.gate_config.specs.Inner.Faults.{Reads}
 use Rattle.gate_config.specs.Texts.{IsReadFrom, texts_of_tenant}
 
 -- bytes that are UTF-8 and read as a value

@@ -8,7 +8,7 @@ use Rattle.serde_json.specs.View.{view}
 use Rattle.serde_json.specs.declared.value.Value.{Value}
 use Rattle.gate_config.specs.declared.document.Entry.{Entry}
 use Rattle.gate_config.specs.Document.{is_ignored, picked, tenant_at}
-use Rattle.gate_config.specs.Entry.{entry_view}
+use Rattle.gate_config.specs.Inner.Entry.{entry_view}
 use Rattle.gate_config.specs.Parts.{texts_in}
 use Rattle.gate_config.proofs.Each.{map_more, count}
 

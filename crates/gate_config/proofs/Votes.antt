@@ -8,8 +8,8 @@ use Rattle.serde_json.specs.View.{view}
 use Rattle.serde_json.specs.declared.value.Value.{Value}
 use Rattle.gate_config.specs.Checks.{each, objects_checks, vote_checks, votes_checks}
 use Rattle.gate_config.specs.Document.{vote_at, votes_of}
-use Rattle.gate_config.specs.Entry.{key_view}
-use Rattle.gate_config.specs.Faults.{HasPassed, HasFault}
+use Rattle.gate_config.specs.Inner.Entry.{key_view}
+use Rattle.gate_config.specs.Inner.Faults.{HasPassed, HasFault}
 use Rattle.gate_config.specs.Places.{nth}
 use Rattle.gate_config.specs.declared.fault.ConfigFault.{ConfigFault}
 use Rattle.gate_config.proofs.Each.{TestedSoFar, count, map_more, tested_all, tested_fault, tested_more, tested_none}

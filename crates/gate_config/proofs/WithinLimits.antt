@@ -6,7 +6,8 @@ use Rattle.std.proofs.lemmas.List.{append-nil, length-append, length-map}
 use Rattle.serde_json.specs.Data.{Data}
 use Rattle.gate_config.specs.Checks.{along, along_from, each, all_items_checks, item_checks, items_checks, stanzas_checks, pipeline_checks, source_checks, tenant_checks, tenant_place}
 use Rattle.gate_config.specs.Document.{names_in, pipeline_items, sources_of, tenant_of}
-use Rattle.gate_config.specs.Faults.{Check, Asks, AllPass, HasPassed}
+use Rattle.gate_config.specs.Faults.{Check, Asks, AllPass}
+use Rattle.gate_config.specs.Inner.Faults.{HasPassed}
 use Rattle.gate_config.specs.Parts.{optional}
 use Rattle.gate_config.specs.Places.{below, nth}
 use Rattle.gate_config.specs.declared.fault.ConfigFault.{ConfigFault}

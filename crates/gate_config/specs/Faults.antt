@@ -1,5 +1,5 @@
 -- The first fault of a list of checks, in reading order.
-use Rattle.std.specs.Prelude.{◌≡◌, ◌⊎◌, ℕ, List, [], ◌∷◌, Bool, true, false, Result, Ok, Err}
+use Rattle.std.specs.Prelude.{◌≡◌, ◌⊎◌, ℕ, List, [], ◌∷◌, Bool, true, false}
 use Rattle.gate_rule.specs.declared.pattern.Pattern.{Pattern}
 use Rattle.gate_rule.specs.Built.{IsRefused}
 use Rattle.gate_rule.specs.Pattern.{text_of}
@@ -36,19 +36,3 @@ IsFirstFault (check ∷ checks) found = Fails check found ⊎ (Passes check × I
 -- Memory may be refused at whichever point; each other fault is the first.
 abbrev pub IsFaultOf : List Check → ConfigFault → Type 0
 IsFaultOf checks found = (found ≡ fault.Memory) ⊎ IsFirstFault checks found
-
--- `AllPass` and `IsFaultOf` as records, whose lists of checks a proof can read off
-pub record HasPassed (checks : List Check) : Type 0 where
-  pub all : AllPass checks
-
-pub record HasFault (checks : List Check) (found : ConfigFault) : Type 0 where
-  pub first : IsFaultOf checks found
-
--- A reader of a part with these checks: what it gives has P where all pass, else it answers their first fault.
-abbrev pub Reads : {T : Type 0} → List Check → (T → Type 0) → Result T ConfigFault → Type 0
-Reads checks P (Ok value) = HasPassed checks × P value
-Reads checks P (Err found) = HasFault checks found
-
--- a reader that gives nothing
-abbrev pub Tests : {T : Type 0} → List Check → Result T ConfigFault → Type 0
-Tests {T} checks result = Reads checks (λ (value : T). Unit {0}) result

@@ -1,11 +1,9 @@
-pub mod Attributes
 pub mod CheckText
 pub mod Checks
 pub mod Document
-pub mod Entry
 pub mod Faults
+pub mod Inner
 pub mod Jobs
-pub mod Keyed
 pub mod Laws
 pub mod Limits
 pub mod Lookups

@@ -1,5 +1,5 @@
 -- The look-ups of a configuration, by the numbers of connections, tenants and pipelines.
-use Rattle.std.specs.Prelude.{ℕ, List, [], Bool, false, Option, None, option_map, option_and_then, unwrap_or, is_some, map, slice_get}
+use Rattle.std.specs.Prelude.{ℕ, List, [], Bool, false, Option, None, option_map, option_and_then, unwrap_or, is_some, slice_get}
 use Rattle.std.specs.BTreeMap.{get_by_text}
 use Rattle.std.specs.BTreeSet.{contains_text}
 use Rattle.gate_rule.specs.declared.rule.Rule.{Rule}
@@ -18,10 +18,6 @@ tenants_of config = config.tenants
 
 abbrev pub pipelines_of : Config → ℕ → List PipelineSpec
 pipelines_of config t = unwrap_or (option_map (λ (tenant : TenantSpec). tenant.pipelines) (slice_get config.tenants t)) []
-
--- the names of pipelines
-abbrev pub names_of : List PipelineSpec → List (List ℕ)
-names_of pipelines = map (λ (pipeline : PipelineSpec). pipeline.name) pipelines
 
 -- the project of this name is there, byte by byte
 abbrev pub has_project : ProjectSet → List ℕ → Bool

@@ -1,7 +1,7 @@
 ghost use Rattle.std.specs.Prelude.{◌≡◌, ℕ, IfOk, map};
 ghost use Rattle.serde_json.specs.Data.{Data};
 ghost use Rattle.serde_json.specs.View.{view};
-ghost use Rattle.gate_config.specs.Entry.{entry_view};
+ghost use Rattle.gate_config.specs.Inner.Entry.{entry_view};
 ghost use Rattle.gate_config.specs.Document.{is_ignored, tenant_at, tenant_of, picked};
 ghost use Rattle.gate_config.specs.Parts.{optional};
 

@@ -1,5 +1,5 @@
 ghost use Rattle.std.specs.Prelude.{◌≡◌, ℕ, List, [], OnOk};
-ghost use Rattle.gate_config.specs.Jobs.{with_job};
+ghost use Rattle.gate_config.specs.Inner.Jobs.{with_job};
 
 use gate_record::{Memory, Text};
 use std::alloc::Global;

@@ -18,7 +18,7 @@ pub(crate) struct Jobs {
 
 impl Jobs {
     ghost use Rattle.gate_config.specs.Document.{name_in};
-    ghost use Rattle.gate_config.specs.Jobs.{with_jobs};
+    ghost use Rattle.gate_config.specs.Inner.Jobs.{with_jobs};
     ghost use Rattle.gate_config.specs.Lookups.{jobs_under};
 
     // No jobs.
@@ -58,7 +58,7 @@ impl Jobs {
 }
 
 ghost use Rattle.gate_config.specs.Document.{name_in};
-ghost use Rattle.gate_config.specs.Jobs.{with_jobs};
+ghost use Rattle.gate_config.specs.Inner.Jobs.{with_jobs};
 
 fn add_names(alloc: Global, list: &mut JobList, jobs: &[Value]) -> Result<(), Memory>
     ensures { OnOk result (list.new ≡ with_jobs list.old (filter_map name_in (map view jobs.now))) }

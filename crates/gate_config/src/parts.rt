@@ -2,8 +2,9 @@ ghost use Rattle.std.specs.Prelude.{◌≡◌, ◌∷◌, [], IfOk, Some, map, o
 ghost use Rattle.serde_json.specs.Find.{get, as_array};
 ghost use Rattle.serde_json.specs.View.{view, members_view};
 ghost use Rattle.gate_record.specs.Json.{items_in};
-ghost use Rattle.gate_config.specs.Entry.{key_view};
-ghost use Rattle.gate_config.specs.Faults.{Asks, Reads, Tests};
+ghost use Rattle.gate_config.specs.Inner.Entry.{key_view};
+ghost use Rattle.gate_config.specs.Faults.{Asks};
+ghost use Rattle.gate_config.specs.Inner.Faults.{Reads, Tests};
 ghost use Rattle.gate_config.specs.Parts.{is_object, is_list, is_text, is_there, is_fine, keys_in, items_of, keys_of, unless_null, optional, optional_in, text_of_member};
 ghost use Rattle.gate_config.specs.Places.{below};
 ghost use Rattle.gate_config.specs.declared.fault.ConfigFault.TheVariants.{Shape};

@@ -1,7 +1,7 @@
 ghost use Rattle.std.specs.Prelude.{◌≡◌, IfErr, IfOk, IfSome};
 ghost use Rattle.gate_rule.specs.Built.{IsNoPattern};
 ghost use Rattle.gate_rule.specs.Pattern.{text_of};
-ghost use Rattle.gate_config.specs.Keyed.{IsKeyed};
+ghost use Rattle.gate_config.specs.Inner.Keyed.{IsKeyed};
 
 use gate_record::Memory;
 use gate_rule::{Pattern, PatternFault};

@@ -4,7 +4,8 @@ ghost use Rattle.serde_json.specs.View.{view};
 ghost use Rattle.gate_rule.specs.Pattern.{text_of};
 ghost use Rattle.gate_config.specs.Checks.{each, entry_checks, pattern_checks, text_checks};
 ghost use Rattle.gate_config.specs.Document.{pattern_texts};
-ghost use Rattle.gate_config.specs.Faults.{Builds, Reads};
+ghost use Rattle.gate_config.specs.Faults.{Builds};
+ghost use Rattle.gate_config.specs.Inner.Faults.{Reads};
 ghost use Rattle.gate_config.specs.Parts.{texts_in};
 
 use crate::fault::ConfigFault;

@@ -2,10 +2,11 @@ ghost use Rattle.std.specs.Prelude.{◌≡◌, ◌∷◌, [], Some, map, option_
 ghost use Rattle.std.specs.List.{flat_map};
 ghost use Rattle.serde_json.specs.View.{view};
 ghost use Rattle.gate_config.specs.Checks.{each, trigger_checks, connection_checks, rule_checks, rule_checks_at, rule_list_checks, rules_checks, attribute_checks, flag_checks, is_asking};
-ghost use Rattle.gate_config.specs.Attributes.{unlisted, with_attribute};
+ghost use Rattle.gate_config.specs.Inner.Attributes.{unlisted, with_attribute};
 ghost use Rattle.gate_config.specs.Document.{flag, rule_texts, rules_at, rules_under};
-ghost use Rattle.gate_config.specs.Entry.{key_view};
-ghost use Rattle.gate_config.specs.Faults.{Asks, Reads, Tests};
+ghost use Rattle.gate_config.specs.Inner.Entry.{key_view};
+ghost use Rattle.gate_config.specs.Faults.{Asks};
+ghost use Rattle.gate_config.specs.Inner.Faults.{Reads, Tests};
 ghost use Rattle.gate_config.specs.Parts.{is_there, keys_of, optional};
 ghost use Rattle.gate_config.specs.Places.{below};
 ghost use Rattle.gate_config.specs.Texts.{texts_of_rule};

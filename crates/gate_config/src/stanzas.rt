@@ -3,10 +3,11 @@ ghost use Rattle.std.specs.List.{flat_map};
 ghost use Rattle.serde_json.specs.View.{view};
 ghost use Rattle.gate_config.specs.Checks.{each, job_checks, jobs_checks, part_checks, parts_checks, stanza_checks, stanza_checks_at};
 ghost use Rattle.gate_config.specs.Document.{jobs_for, jobs_in, plain_name, project_items, project_of};
-ghost use Rattle.gate_config.specs.Entry.{entry_view};
-ghost use Rattle.gate_config.specs.Faults.{Reads, Tests};
-ghost use Rattle.gate_config.specs.Jobs.{with_jobs};
-ghost use Rattle.gate_config.specs.Lookups.{jobs_under, names_of};
+ghost use Rattle.gate_config.specs.Inner.Entry.{entry_view};
+ghost use Rattle.gate_config.specs.Inner.Faults.{Reads, Tests};
+ghost use Rattle.gate_config.specs.Inner.Jobs.{with_jobs};
+ghost use Rattle.gate_config.specs.Lookups.{jobs_under};
+ghost use Rattle.gate_config.specs.Inner.Lookups.{names_of};
 
 use crate::config::PipelineSpec;
 use crate::document::{Entry, entries_at};

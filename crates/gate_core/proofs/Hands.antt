@@ -8,7 +8,7 @@ use Rattle.gate_core.specs.declared.answer.Answer.{Answer}
 use Rattle.gate_core.specs.declared.answer.Answer.TheVariants.{Idle, Moved}
 use Rattle.gate_core.specs.Answers.{Changes}
 use Rattle.gate_record.specs.declared.memory.Memory.{Memory}
-use Rattle.gate_core.specs.Sends.{Sends, state}
+use Rattle.gate_core.specs.Inner.Sends.{Sends, state}
 use Rattle.gate_core.specs.States.{ConnectionState, State, TenantState}
 use Rattle.gate_core.specs.Steps.{send, send_from, send_of, send_to}
 use Rattle.gate_core.proofs.Elements.{written_back}

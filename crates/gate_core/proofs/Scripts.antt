@@ -14,7 +14,8 @@ use Rattle.std.proofs.Common.{append_assoc, append-nil, Result, Ok, Err}
 use Rattle.gate_core.specs.declared.script.ScriptFault.{ScriptFault}
 use Rattle.gate_core.specs.declared.script.ScriptFault.TheVariants as fault
 use Rattle.gate_core.specs.declared.script.Scripted.{Scripted}
-use Rattle.gate_core.specs.Faults.{AddsLine, FailsScript}
+use Rattle.gate_core.specs.Faults.{FailsScript}
+use Rattle.gate_core.specs.Inner.Faults.{AddsLine}
 use Rattle.gate_core.specs.Script.{is_space, word_of, rest_of, value_of, text_of, followed_by, with_line, lines_from}
 
 -- ---- the first place of a byte

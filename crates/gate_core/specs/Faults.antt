@@ -1,5 +1,5 @@
 -- What a reader of scripts answers.
-use Rattle.std.specs.Prelude.{◌≡◌, ℕ, List, ◌++◌, Option, Some, None, Result, Ok, Err}
+use Rattle.std.specs.Prelude.{◌≡◌, ℕ, List, Result, Ok, Err}
 use Rattle.gate_core.specs.declared.script.ScriptFault.{ScriptFault}
 use Rattle.gate_core.specs.declared.script.ScriptFault.TheVariants.{Memory, Script}
 use Rattle.gate_core.specs.declared.script.Scripted.{Scripted}
@@ -12,10 +12,3 @@ FailsScript said (Script line) = said ≡ Err line
 abbrev pub GivesScript : Result (List Scripted) ℕ → Result (List Scripted) ScriptFault → Type 0
 GivesScript said (Ok lines) = said ≡ Ok lines
 GivesScript said (Err fault) = FailsScript said fault
-
--- what line n stands for went behind those before; or memory was refused; or the line is the fault
-abbrev pub AddsLine : Option (List Scripted) → List Scripted → List Scripted → ℕ → Result (Unit {0}) ScriptFault → Type 0
-AddsLine None old new n (Ok done) = ⊥
-AddsLine (Some lines) old new n (Ok done) = new ≡ old ++ lines
-AddsLine said old new n (Err Memory) = Unit {0}
-AddsLine said old new n (Err (Script line)) = (said ≡ None) × (line ≡ n)

@@ -2,6 +2,7 @@ pub mod Answers
 pub mod Chains
 pub mod Faults
 pub mod History
+pub mod Inner
 pub mod Late
 pub mod Limits
 pub mod Needs
@@ -11,7 +12,6 @@ pub mod Promises
 pub mod Replays
 pub mod Reports
 pub mod Script
-pub mod Sends
 pub mod Shows
 pub mod States
 pub mod Steps

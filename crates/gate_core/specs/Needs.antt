@@ -4,11 +4,7 @@ use Rattle.gate_record.specs.Lines.{IsLine}
 use Rattle.gate_record.specs.declared.transit.ConnEntry.{ConnEntry}
 use Rattle.gate_record.specs.declared.transit.ConnEntry.TheVariants as entry
 use Rattle.gate_pipeline.specs.States.{MayBeRefused, to_process}
-use Rattle.gate_core.specs.declared.connection.ConnectionStep.{ConnectionStep}
-use Rattle.gate_core.specs.declared.connection.ConnectionStep.TheVariants as of_connection
 use Rattle.gate_core.specs.declared.pipeline.Pipeline.{Pipeline}
-use Rattle.gate_core.specs.declared.pipeline.PipelineStep.{PipelineStep}
-use Rattle.gate_core.specs.declared.pipeline.PipelineStep.TheVariants as of_pipeline
 use Rattle.gate_core.specs.declared.step.Step.{Step}
 use Rattle.gate_core.specs.declared.step.Step.TheVariants as step
 use Rattle.gate_core.specs.Pipelines.{Found, Nothing, Emptiness, Something, found}
@@ -36,15 +32,6 @@ NeedsFor (Something given left) pipe = MayBeRefused pipe.worker.items.manager (t
 
 abbrev pub TurnNeeds : Pipeline → Type 0
 TurnNeeds pipe = NeedsFor (found pipe) pipe
-
--- a taking needs memory for a record, and a turn for what it processes; other steps wherever they change something
-abbrev pub ConnectionNeeds : ConnectionStep → ConnectionState → Type 0
-ConnectionNeeds of_connection.Take conn = TakeNeeds conn
-ConnectionNeeds other conn = Unit {0}
-
-abbrev pub PipelineNeeds : PipelineStep → Pipeline → Type 0
-PipelineNeeds of_pipeline.Turn pipe = TurnNeeds pipe
-PipelineNeeds other pipe = Unit {0}
 
 abbrev pub StepNeeds : State → Step → Type 0
 StepNeeds state (step.Take c) = IsThere TakeNeeds (slice_get state.connections c.0)

@@ -13,8 +13,6 @@ use Rattle.gate_pipeline.specs.States.{Processed, first_state, found_empty, held
 use Rattle.gate_core.specs.declared.answer.Answer.{Answer}
 use Rattle.gate_core.specs.declared.answer.Answer.TheVariants.{Full, Idle, Moved, Passed, Turned}
 use Rattle.gate_core.specs.declared.pipeline.Pipeline.{Pipeline}
-use Rattle.gate_core.specs.declared.pipeline.PipelineStep.{PipelineStep}
-use Rattle.gate_core.specs.declared.pipeline.PipelineStep.TheVariants.{PostManage, PostResult, Turn}
 use Rattle.gate_core.specs.Limits.{has_place}
 
 -- pipeline p of tenant t before anything came
@@ -69,10 +67,6 @@ answer_of (Some (stamp, action, outcome)) = Turned stamp action outcome
 abbrev pub took : Config → Taken → Pipeline → Pipeline × Answer
 took config given pipe = (record pipe { worker = (takes config pipe.worker given).0 }, answer_of (takes config pipe.worker given).1)
 
--- the worker gets this and is refused memory: it holds what is to be processed of it
-abbrev pub held_in : Taken → Pipeline → Pipeline
-held_in given pipe = record pipe { worker = held_as (to_process pipe.worker.held given) (taken_in given pipe.worker) }
-
 -- the queue of the phase was found empty
 abbrev pub passed_on : Pipeline → Pipeline × Answer
 passed_on pipe = (record pipe { worker = found_empty pipe.worker }, Passed)
@@ -98,15 +92,3 @@ refused_by (Something given left) pipe = holding (to_process pipe.worker.held gi
 
 abbrev pub refused : Pipeline → Pipeline
 refused pipe = refused_by (found pipe) pipe
-
--- ---- a post or a turn
-
-abbrev pub pipeline_step : Config → PipelineStep → Pipeline → Pipeline × Answer
-pipeline_step config (PostManage manage) = post_manage manage
-pipeline_step config (PostResult ended) = post_result ended
-pipeline_step config Turn = turned config
-
--- what it leaves that is refused memory
-abbrev pub refused_step : PipelineStep → Pipeline → Pipeline
-refused_step Turn pipe = refused pipe
-refused_step other pipe = pipe

@@ -4,15 +4,12 @@ use Rattle.std.specs.List.{filter_map}
 use Rattle.serde_json.specs.Data.{Data}
 use Rattle.gate_record.specs.Json.{json_of}
 use Rattle.gate_config.specs.declared.config.Config.{Config}
-use Rattle.gate_config.specs.declared.fault.ConfigFault.{ConfigFault}
 use Rattle.gate_config.specs.declared.fault.ConfigFault.TheVariants as config
 use Rattle.gate_config.specs.Checks.{checks_of}
 use Rattle.gate_config.specs.Faults.{AllPass, IsFaultOf}
 use Rattle.gate_config.specs.Texts.{IsReadFrom}
 use Rattle.gate_core.specs.declared.replaying.ReplayFault.{ReplayFault}
 use Rattle.gate_core.specs.declared.replaying.ReplayFault.TheVariants as replay
-use Rattle.gate_core.specs.declared.script.ScriptFault.{ScriptFault}
-use Rattle.gate_core.specs.declared.script.ScriptFault.TheVariants as script
 use Rattle.gate_core.specs.declared.script.Scripted.{Scripted}
 use Rattle.gate_core.specs.declared.script.Scripted.TheVariants as line
 use Rattle.gate_core.specs.declared.step.Step.{Step}
@@ -68,20 +65,6 @@ pub record Replays (document script text : List ℕ) : Type 0 where
   pub plays : Plays config lines text
 
 -- ---- faults
-
-abbrev pub of_config_fault : ConfigFault → ReplayFault
-of_config_fault config.Memory = replay.Memory
-of_config_fault config.NotJson = replay.Config config.NotJson
-of_config_fault (config.Shape place) = replay.Config (config.Shape place)
-of_config_fault (config.Limit place) = replay.Config (config.Limit place)
-of_config_fault (config.Manager place) = replay.Config (config.Manager place)
-of_config_fault (config.Attribute place) = replay.Config (config.Attribute place)
-of_config_fault (config.Pattern place) = replay.Config (config.Pattern place)
-of_config_fault (config.Repeated place) = replay.Config (config.Repeated place)
-
-abbrev pub of_script_fault : ScriptFault → ReplayFault
-of_script_fault script.Memory = replay.Memory
-of_script_fault (script.Script line) = replay.Script line
 
 -- Memory may be refused at whichever point. A fault of the configuration is its first. A script is read where the
 -- configuration has no fault, and its fault is the first line that stands for nothing.

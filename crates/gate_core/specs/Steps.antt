@@ -15,15 +15,9 @@ use Rattle.gate_forward.specs.Forwarding.{sends}
 use Rattle.gate_tenant.specs.States.{first_state, has_ended, matched, room_of}
 use Rattle.gate_core.specs.declared.answer.Answer.{Answer}
 use Rattle.gate_core.specs.declared.answer.Answer.TheVariants.{Accepted, Closed, Full, Moved, Idle}
-use Rattle.gate_core.specs.declared.connection.ConnectionStep.{ConnectionStep}
-use Rattle.gate_core.specs.declared.connection.ConnectionStep.TheVariants.{Offer, Close, Take}
 use Rattle.gate_core.specs.declared.pipeline.Pipeline.{Pipeline}
-use Rattle.gate_core.specs.declared.pipeline.PipelineStep.{PipelineStep}
-use Rattle.gate_core.specs.declared.pipeline.PipelineStep.TheVariants.{Turn}
 use Rattle.gate_core.specs.declared.step.Step.{Step}
 use Rattle.gate_core.specs.declared.step.Step.TheVariants as step
-use Rattle.gate_core.specs.declared.tenant.TenantStep.{TenantStep}
-use Rattle.gate_core.specs.declared.tenant.TenantStep.TheVariants.{Fetch, Match, Give}
 use Rattle.gate_core.specs.History.{turn_of}
 use Rattle.gate_core.specs.Limits.{has_place}
 use Rattle.gate_core.specs.Pipelines.{fresh_pipeline, post_manage, post_result, refused, turned}
@@ -66,11 +60,6 @@ take_from config c [] (entry ∷ queue) conn = (record conn { queue = queue; han
 abbrev pub take : Config → ℕ → ConnectionState → ConnectionState × Answer
 take config c conn = take_from config c conn.hand conn.queue conn
 
-abbrev pub connection_step : Config → ℕ → ConnectionStep → ConnectionState → ConnectionState × Answer
-connection_step config c (Offer line) = offer line
-connection_step config c Close = close
-connection_step config c Take = take config c
-
 -- ---- steps of a tenant
 
 -- how many items a fetch of `count` gathers: as many as wait, and as there is room for; none once all end marks were matched
@@ -109,11 +98,6 @@ give_from (first ∷ hand) tenant = give_to first.0 first.1 hand (slice_get tena
 
 abbrev pub give : TenantState → TenantState × Answer
 give tenant = give_from tenant.dispatch.items tenant
-
-abbrev pub tenant_step : Config → ℕ → TenantStep → TenantState → TenantState × Answer
-tenant_step config t (Fetch count) = fetch config t count
-tenant_step config t Match = match_gathered config t
-tenant_step config t Give = give
 
 -- a post to this pipeline, the one of number p, or a turn of it
 abbrev pub with_pipeline : (Pipeline → Pipeline × Answer) → ℕ → Option Pipeline → TenantState → TenantState × Answer
@@ -183,10 +167,6 @@ step_of config state (step.Turn t p) = on_tenant (on_pipeline (turned config) p.
 abbrev pub refused_in : ℕ → ℕ → Option TenantState → State → State
 refused_in t p None state = state
 refused_in t p (Some tenant) state = record state { tenants = slice_set state.tenants t (refused_turn p tenant) }
-
-abbrev pub refused_at : PipelineStep → ℕ → ℕ → State → State
-refused_at Turn t p state = refused_in t p (slice_get state.tenants t) state
-refused_at other t p state = state
 
 abbrev pub refused_turn_of : Option (TenantId × PipelineId) → State → State
 refused_turn_of None state = state

@@ -1,12 +1,8 @@
 -- What contracts see of a connection and of a tenant at work.
-use Rattle.std.specs.Prelude.{◌≡◌, ◌<◌, ◌+◌, ◌^◌, ℕ, List, Some, slice_get}
-use Rattle.gate_config.specs.declared.config.Config.{Config}
-use Rattle.gate_forward.specs.Hands.{hand_of, config_of, conn_of}
-use Rattle.gate_tenant.specs.States.{state_of, tenant_of}
-use Rattle.gate_tenant.specs.States as dispatch
+use Rattle.std.specs.Prelude.{◌≡◌, ℕ, List, Some, slice_get}
+use Rattle.gate_forward.specs.Hands.{hand_of}
+use Rattle.gate_tenant.specs.States.{state_of}
 use Rattle.gate_core.specs.declared.connection.Connection.{Connection}
-use Rattle.gate_core.specs.declared.connection.ConnectionStep.{ConnectionStep}
-use Rattle.gate_core.specs.declared.connection.ConnectionStep.TheVariants.{Offer}
 use Rattle.gate_core.specs.declared.tenant.Tenant.{Tenant}
 use Rattle.gate_core.specs.States.{ConnectionState, TenantState}
 
@@ -19,42 +15,7 @@ EachAt {X} has xs = (i : ℕ) (x : X) → slice_get xs i ≡ Some x → has i x
 abbrev pub connection_view : Connection → ConnectionState
 connection_view conn = record { accepted = conn.accepted; closed = conn.closed; queue = conn.queue.items; hand = (hand_of conn.forward).items }
 
--- it has a number left for a record that it is offered
-abbrev pub HasNumberLeft : ConnectionStep → ConnectionState → Type 0
-HasNumberLeft (Offer line) conn = conn.accepted + 1 < 2 ^ 64
-HasNumberLeft other conn = Unit {0}
-
--- the configuration that its forwarder forwards by
-abbrev pub config_of_connection : Connection → Config
-config_of_connection conn = config_of conn.forward
-
--- the number that its forwarder has
-abbrev pub number_of_connection : Connection → ℕ
-number_of_connection conn = conn_of conn.forward
-
--- it works by this configuration, as the connection of this number
-abbrev pub IsConnection : Config → ℕ → Connection → Type 0
-IsConnection config c conn = (config_of_connection conn ≡ config) × (number_of_connection conn ≡ c)
-
-abbrev pub AreConnections : Config → List Connection → Type 0
-AreConnections config conns = EachAt (IsConnection config) conns
-
 -- ---- a tenant
 
 abbrev pub tenant_view : Tenant → TenantState
 tenant_view tenant = record { queue = tenant.queue.items; dispatch = state_of tenant.dispatch; pipelines = tenant.pipelines.items }
-
--- the configuration that its dispatch matches by
-abbrev pub config_of_tenant : Tenant → Config
-config_of_tenant tenant = dispatch.config_of tenant.dispatch
-
--- the number that its dispatch has
-abbrev pub number_of_tenant : Tenant → ℕ
-number_of_tenant tenant = tenant_of tenant.dispatch
-
--- it works by this configuration, as the tenant of this number
-abbrev pub IsTenant : Config → ℕ → Tenant → Type 0
-IsTenant config t tenant = (config_of_tenant tenant ≡ config) × (number_of_tenant tenant ≡ t)
-
-abbrev pub AreTenants : Config → List Tenant → Type 0
-AreTenants config tenants = EachAt (IsTenant config) tenants

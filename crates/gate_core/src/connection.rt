@@ -39,9 +39,12 @@ pub struct Connection<'c> {
 impl<'c> Connection<'c> {
     ghost use Rattle.std.specs.Prelude.{OnErr};
     ghost use Rattle.gate_core.specs.Answers.{Does};
-    ghost use Rattle.gate_core.specs.Needs.{ConnectionNeeds, TakeNeeds};
-    ghost use Rattle.gate_core.specs.Steps.{new_connection, connection_step, offer, close, take};
-    ghost use Rattle.gate_core.specs.Views.{HasNumberLeft, connection_view, config_of_connection, number_of_connection};
+    ghost use Rattle.gate_core.specs.Needs.{TakeNeeds};
+    ghost use Rattle.gate_core.specs.Inner.Needs.{ConnectionNeeds};
+    ghost use Rattle.gate_core.specs.Steps.{new_connection, offer, close, take};
+    ghost use Rattle.gate_core.specs.Inner.Steps.{connection_step};
+    ghost use Rattle.gate_core.specs.Views.{connection_view};
+    ghost use Rattle.gate_core.specs.Inner.Views.{HasNumberLeft, config_of_connection, number_of_connection};
 
     /// The connection of this number before any record came. It takes no memory.
     pub fn new(alloc: Global, config: &'c Config, conn: ConnId) -> Connection<'c>

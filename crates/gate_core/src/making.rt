@@ -2,7 +2,8 @@ ghost use Rattle.std.specs.Prelude.{◌≡◌, IfOk, length, map};
 ghost use Rattle.std.specs.List.{range_with_len};
 ghost use Rattle.gate_config.specs.Lookups.{connections_of, tenants_of};
 ghost use Rattle.gate_core.specs.Steps.{new_connection, new_tenant};
-ghost use Rattle.gate_core.specs.Views.{AreConnections, AreTenants, connection_view, tenant_view};
+ghost use Rattle.gate_core.specs.Views.{connection_view, tenant_view};
+ghost use Rattle.gate_core.specs.Inner.Views.{AreConnections, AreTenants};
 
 use crate::connection::Connection;
 use crate::tenant::Tenant;

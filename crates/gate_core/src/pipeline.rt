@@ -37,8 +37,10 @@ pub struct Pipeline {
 impl Pipeline {
     ghost use Rattle.std.specs.Prelude.{OnErr};
     ghost use Rattle.gate_core.specs.Answers.{Does};
-    ghost use Rattle.gate_core.specs.Needs.{PipelineNeeds, TurnNeeds};
-    ghost use Rattle.gate_core.specs.Pipelines.{fresh_pipeline, held_in, pipeline_step, post_manage, post_result, refused, refused_step, took, turned};
+    ghost use Rattle.gate_core.specs.Needs.{TurnNeeds};
+    ghost use Rattle.gate_core.specs.Inner.Needs.{PipelineNeeds};
+    ghost use Rattle.gate_core.specs.Pipelines.{fresh_pipeline, post_manage, post_result, refused, took, turned};
+    ghost use Rattle.gate_core.specs.Inner.Pipelines.{held_in, pipeline_step, refused_step};
 
     /// A pipeline of a tenant before anything came.
     pub fn new(alloc: Global, config: &Config, tenant: TenantId, pipeline: PipelineId) -> Pipeline

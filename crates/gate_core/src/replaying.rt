@@ -54,7 +54,8 @@ pub fn replay(alloc: Global, document: &[u8], script: &[u8]) -> Result<String, R
     }
 }
 
-ghost use Rattle.gate_core.specs.Replays.{of_config_fault, of_script_fault, Plays};
+ghost use Rattle.gate_core.specs.Replays.{Plays};
+ghost use Rattle.gate_core.specs.Inner.Replays.{of_config_fault, of_script_fault};
 
 // Memory is one fault, wherever it was refused.
 fn of_config(fault: ConfigFault) -> ReplayFault

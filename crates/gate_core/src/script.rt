@@ -58,7 +58,7 @@ pub fn read_script(alloc: Global, script: &[u8]) -> Result<Queue<Scripted>, Scri
 }
 
 ghost use Rattle.gate_core.specs.Script.{line_adds};
-ghost use Rattle.gate_core.specs.Faults.{AddsLine};
+ghost use Rattle.gate_core.specs.Inner.Faults.{AddsLine};
 
 // Adds what the line of this number stands for.
 fn add_line(

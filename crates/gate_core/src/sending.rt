@@ -1,7 +1,8 @@
 ghost use Rattle.std.specs.Prelude.{◌≡◌, map};
 ghost use Rattle.gate_config.specs.declared.config.Config.{Config as Configuration};
-ghost use Rattle.gate_core.specs.Sends.{Sends};
-ghost use Rattle.gate_core.specs.Views.{AreTenants, config_of_connection, connection_view, number_of_connection, tenant_view};
+ghost use Rattle.gate_core.specs.Inner.Sends.{Sends};
+ghost use Rattle.gate_core.specs.Views.{connection_view, tenant_view};
+ghost use Rattle.gate_core.specs.Inner.Views.{AreTenants, config_of_connection, number_of_connection};
 
 use crate::answer::Answer;
 use crate::connection::Connection;

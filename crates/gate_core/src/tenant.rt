@@ -35,9 +35,11 @@ pub struct Tenant<'c> {
 
 impl<'c> Tenant<'c> {
     ghost use Rattle.gate_core.specs.Answers.{Does};
-    ghost use Rattle.gate_core.specs.Steps.{new_tenant, tenant_step, fetch, match_gathered, give};
+    ghost use Rattle.gate_core.specs.Steps.{new_tenant, fetch, match_gathered, give};
+    ghost use Rattle.gate_core.specs.Inner.Steps.{tenant_step};
     ghost use Rattle.gate_core.specs.States.{with_gathered};
-    ghost use Rattle.gate_core.specs.Views.{tenant_view, config_of_tenant, number_of_tenant};
+    ghost use Rattle.gate_core.specs.Views.{tenant_view};
+    ghost use Rattle.gate_core.specs.Inner.Views.{config_of_tenant, number_of_tenant};
 
     /// The tenant of this number before anything came. `Memory` where its pipelines, or the end marks of a tenant that
     /// lists no connection, find no room.

@@ -1,5 +1,5 @@
 ghost use Rattle.std.specs.Prelude.{◌≡◌, ◌+◌, ℕ, IfOk, OnErr, Some, option_map, slice_get};
-ghost use Rattle.gate_core.specs.Views.{AreConnections, AreTenants};
+ghost use Rattle.gate_core.specs.Inner.Views.{AreConnections, AreTenants};
 
 use crate::answer::Answer;
 use crate::connection::{Connection, ConnectionStep};
@@ -30,12 +30,14 @@ pub struct World<'c> {
 
 impl<'c> World<'c> {
     ghost use Rattle.gate_core.specs.Answers.{Does};
-    ghost use Rattle.gate_core.specs.Needs.{ConnectionNeeds, IsThere, PipelineNeeds, StepNeeds};
+    ghost use Rattle.gate_core.specs.Needs.{IsThere, StepNeeds};
+    ghost use Rattle.gate_core.specs.Inner.Needs.{ConnectionNeeds, PipelineNeeds};
     ghost use Rattle.gate_core.specs.Reports.{report_of};
-    ghost use Rattle.gate_core.specs.Pipelines.{pipeline_step};
+    ghost use Rattle.gate_core.specs.Inner.Pipelines.{pipeline_step};
     ghost use Rattle.gate_core.specs.States.{ConnectionState, items_at, pipeline_at};
-    ghost use Rattle.gate_core.specs.Steps.{connection_step, first, on_connection, on_pipeline, on_tenant, refused_at, refused_step, send, step_of, tenant_step};
-    ghost use Rattle.gate_core.specs.Views.{HasNumberLeft};
+    ghost use Rattle.gate_core.specs.Steps.{first, on_connection, on_pipeline, on_tenant, refused_step, send, step_of};
+    ghost use Rattle.gate_core.specs.Inner.Steps.{connection_step, refused_at, tenant_step};
+    ghost use Rattle.gate_core.specs.Inner.Views.{HasNumberLeft};
     ghost use Rattle.gate_core.specs.Worlds.{AcceptedAtMost, HasNumber, config_of, state_of};
 
     /// The world in which nothing was offered yet. `Memory` where its connections and tenants find no room.

@@ -48,9 +48,6 @@ for_tenant t item = (tenant_id t, item)
 abbrev pub by_tenant : Config → (ℕ → Option TenantItem) → List (TenantId × TenantItem)
 by_tenant config gets = filter_map (λ t. option_map (for_tenant t) (gets t)) (range_with_len 0 (length (tenants_of config)))
 
-abbrev pub sends_reading : Config → ℕ → ℕ → Reading → List (TenantId × TenantItem)
-sends_reading config c n r = by_tenant config (λ t. forwarded_reading config t c n r)
-
 -- what an entry of connection c sends: what each tenant gets of it, in rising number of the tenants
 abbrev pub sends : Config → ℕ → ConnEntry → List (TenantId × TenantItem)
 sends config c entry = by_tenant config (λ t. forwarded_entry config t c entry)

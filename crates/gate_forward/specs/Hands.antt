@@ -1,10 +1,9 @@
 -- The hand of a forwarder, and what its calls make of it.
-use Rattle.std.specs.Prelude.{◌≡◌, ◌<◌, ℕ, zero, suc, ◌+◌, nat_lt, List, [], ◌∷◌, Bool, true, false, length, drop, get_or, Option, Some, None, is_some, option_map, if◌then◌else◌}
+use Rattle.std.specs.Prelude.{ℕ, zero, suc, ◌+◌, List, [], ◌∷◌, Bool, true, false, drop, Option, Some, None, option_map}
 use Rattle.std.specs.List.{cons_option}
 use Rattle.gate_record.specs.declared.ids.TenantId.{TenantId}
 use Rattle.gate_record.specs.declared.transit.TenantItem.{TenantItem}
 use Rattle.gate_config.specs.declared.config.Config.{Config}
-use Rattle.gate_config.specs.Limits.{most_tenants}
 use Rattle.gate_forward.specs.declared.forward.Forward.{Forward}
 use Rattle.gate_forward.specs.declared.places.Places.{Places}
 use Rattle.gate_forward.specs.Forwarding.{for_tenant, tenant_id}
@@ -28,7 +27,7 @@ items_of places = held places.next (drop places.next places.items)
 abbrev pub out_before : ℕ → Bool → Option TenantId
 out_before next false = None
 out_before zero true = None
-out_before (suc t) true = if nat_lt t most_tenants then Some (tenant_id t) else None
+out_before (suc t) true = Some (tenant_id t)
 
 abbrev pub out_of : Places → Option TenantId
 out_of places = out_before places.next places.out
@@ -56,9 +55,3 @@ moved_out (first ∷ items) hand = (record hand { items = items; out = Some firs
 abbrev pub put_back : TenantItem → Option TenantId → Hand → Hand
 put_back item None hand = hand
 put_back item (Some t) hand = record hand { items = (t, item) ∷ hand.items; out = None }
-
--- The place of the first item from this place on, if there is an item.
-abbrev pub IsFirst : ℕ → List (Option TenantItem) → Option ℕ → Type 0
-IsFirst next items None = held next (drop next items) ≡ []
-IsFirst next items (Some place) =
-    (place < length items) × (is_some (get_or items place None) ≡ true) × (held next (drop next items) ≡ held place (drop place items))

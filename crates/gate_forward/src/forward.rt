@@ -1,12 +1,14 @@
 ghost use Rattle.std.specs.Prelude.{◌≡◌, ◌==◌, ◌&&◌, [], true, false, length, is_some, None, IfErr, IfOk, OnErr, OnOk};
 ghost use Rattle.gate_config.specs.Selection.{is_listed};
-ghost use Rattle.gate_forward.specs.Forwarding.{forwarded_entry, forwarded_reading, sends, sends_reading};
+ghost use Rattle.gate_forward.specs.Forwarding.{forwarded_entry, forwarded_reading, sends};
+ghost use Rattle.gate_forward.specs.Inner.Forwarding.{sends_reading};
 ghost use Rattle.gate_forward.specs.Hands.{config_of, conn_of, empty_hand, hand_of, held, moved_out, put_back};
 ghost use Rattle.gate_record.specs.Lines.{IsLine};
 ghost use Rattle.gate_record.specs.declared.reading.Reading.TheVariants as reading;
 ghost use Rattle.gate_record.specs.declared.transit.ConnEntry.TheVariants as entry;
 
-use crate::places::{Places, no_items};
+use crate::finding::no_items;
+use crate::places::Places;
 use gate_config::{Config, MAX_TENANTS};
 use gate_record::{
     ConnId, Event, Memory, Reading, Record, RecordReader, Shared, Stamp, Stamped, TenantId,

@@ -1,6 +1,7 @@
 //! The forwarder of a connection: which tenants get what of its records, and the hand from which they are sent it.
 #![tactic(auto)]
 
+mod finding;
 mod forward;
 mod laws;
 mod places;

@@ -1,7 +1,7 @@
-ghost use Rattle.std.specs.Prelude.{◌≡◌, ◌∷◌, ◌==◌, [], MatchOption, length, is_some, replicate, true, Some, None};
+ghost use Rattle.std.specs.Prelude.{◌≡◌, ◌<◌, ◌≤◌, ◌∷◌, ◌==◌, [], MatchOption, length, is_some, true, Some, None};
 ghost use Rattle.gate_config.specs.Limits.{most_tenants};
-ghost use Rattle.gate_forward.specs.Hands.{IsFirst, held, items_of, out_of};
 
+use crate::finding::first;
 use gate_config::MAX_TENANTS;
 use gate_record::{TenantId, TenantItem};
 
@@ -13,9 +13,12 @@ pub(crate) struct Places {
     pub(crate) next: usize,
     // Whether the item of the place before that is out.
     pub(crate) out: bool,
+    ghost before: { out ≡ true → (0 < next) × (next ≤ most_tenants) },
 }
 
 impl Places {
+    ghost use Rattle.gate_forward.specs.Hands.{held, items_of, out_of};
+
     // These items, of which none is out.
     pub(crate) fn new(items: [Option<TenantItem>; MAX_TENANTS]) -> Places
         ensures items { items_of result ≡ held 0 items }
@@ -57,9 +60,9 @@ impl Places {
         ensures items { (t : TenantId) → out_of self.old ≡ Some t → items_of self.new ≡ (t, item) ∷ items_of self.old }
         ensures out { out_of self.new ≡ None }
     {
+        self.out = false;
         self.next -= 1;
         self.items[self.next] = Some(item);
-        self.out = false;
     }
 
     pub(crate) fn is_empty(&self) -> bool
@@ -72,28 +75,6 @@ impl Places {
     pub(crate) fn is_out(&self) -> bool
         ensures { result ≡ is_some (out_of self.now) }
     {
-        self.out && self.next > 0 && self.next <= MAX_TENANTS
+        self.out
     }
-}
-
-// Where the first item stands, from this place on.
-fn first(items: &[Option<TenantItem>], from: usize) -> Option<usize>
-    ensures { IsFirst from items.now result }
-{
-    for place in from..items.len() {
-        if items[place].is_some() {
-            return Some(place);
-        }
-    }
-    None
-}
-
-// No items.
-pub(crate) fn no_items() -> [Option<TenantItem>; MAX_TENANTS]
-    ensures { result ≡ replicate most_tenants None }
-{
-    [
-        None, None, None, None, None, None, None, None, None, None, None, None, None, None, None,
-        None,
-    ]
 }

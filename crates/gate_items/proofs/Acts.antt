@@ -5,7 +5,7 @@ use Rattle.std.specs.List.{find, list_any}
 use Rattle.std.specs.Map.{lookup, remove_entry, set_value, values_of}
 use Rattle.std.proofs.lemmas.Bool.{le-ltb, lt-ltb}
 use Rattle.gate_record.specs.declared.ids.ManagerKind.TheVariants.{Independent}
-use Rattle.gate_items.specs.Agreement.{Agrees, Found, is_here}
+use Rattle.gate_items.specs.Inner.Agreement.{Agrees, Found, is_here}
 use Rattle.gate_items.specs.Machine.{Makes, Refuses, State, after_plan, before, behind, dequeued, ended, has_set, is_complete, is_first_failure, is_job, is_of, leaving, recorded, report_of, reset, resulted, staying, with_outcome, with_set}
 use Rattle.gate_items.specs.declared.action.JobResult.{JobResult}
 use Rattle.gate_items.specs.declared.action.Discard.TheVariants.{NoItem, NoJob, NotCurrent, Numbers, Repeated}

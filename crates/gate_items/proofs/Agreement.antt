@@ -7,8 +7,9 @@ use Rattle.std.specs.List.{list_all}
 use Rattle.std.specs.Map.{lookup, remove_entry, set_value}
 use Rattle.std.specs.Ordering.{nat_cmp}
 use Rattle.std.proofs.lemmas.Bool.{ne_eqb}
-use Rattle.gate_items.specs.Agreement.{Agrees, Each, Found, is_here}
-use Rattle.gate_items.specs.KeyOrder.{key_cmp, same_by_cmp}
+use Rattle.gate_items.specs.Inner.Agreement.{Agrees, Each, Found, is_here}
+use Rattle.gate_items.specs.KeyOrder.{key_cmp}
+use Rattle.gate_items.specs.Inner.KeyOrder.{same_by_cmp}
 use Rattle.gate_items.specs.Keys.{is_same}
 use Rattle.gate_items.specs.Machine.{has_ended, has_set, is_complete, is_of, open_job, with_set}
 use Rattle.gate_items.specs.declared.item.QueueItem.{QueueItem}

@@ -9,8 +9,9 @@ use Rattle.std.specs.declared.cmp.Ordering.{Ordering}
 use Rattle.std.specs.declared.cmp.Ordering.TheVariants.{Less, Equal, Greater}
 use Rattle.std.proofs.lemmas.Bool.{eq-eqb, eqb-false, eqb-true, ne_eqb}
 use Rattle.std.proofs.lemmas.Cmp.{ranked}
-use Rattle.gate_items.specs.Agreement.{Each, Rises, is_here}
-use Rattle.gate_items.specs.KeyOrder.{key_cmp, key_cmp_total, same_by_cmp}
+use Rattle.gate_items.specs.Inner.Agreement.{Each, Rises, is_here}
+use Rattle.gate_items.specs.KeyOrder.{key_cmp, key_cmp_total}
+use Rattle.gate_items.specs.Inner.KeyOrder.{same_by_cmp}
 use Rattle.gate_items.specs.Keys.{is_same}
 use Rattle.gate_items.specs.declared.item.QueueItem.{QueueItem}
 use Rattle.gate_items.specs.declared.key.Key.{Key}

@@ -6,7 +6,7 @@ use Rattle.std.specs.List.{find}
 use Rattle.std.specs.Map.{lookup, remove_entry, values_of}
 use Rattle.std.specs.Ordering.{int_eq, nat_cmp}
 use Rattle.std.proofs.lemmas.List.{length-append, map-append}
-use Rattle.gate_items.specs.Agreement.{Agrees, Placed, cause, standing}
+use Rattle.gate_items.specs.Inner.Agreement.{Agrees, Placed, cause, standing}
 use Rattle.gate_items.specs.KeyOrder.{key_cmp}
 use Rattle.gate_items.specs.Machine.{Makes, Plan, Refuses, State, after_plan, before, behind, is_complete, is_of, new_item, placing}
 use Rattle.gate_items.specs.declared.action.Discard.{Discard}

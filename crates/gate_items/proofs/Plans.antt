@@ -14,7 +14,8 @@ use Rattle.gate_items.specs.declared.action.JobResult.{JobResult}
 use Rattle.gate_items.specs.declared.item.QueueItem.{QueueItem}
 use Rattle.gate_items.specs.declared.key.Key.{Key}
 use Rattle.gate_items.specs.Machine.{Makes, Plan, Refuses, State, before, behind, behind_it, dequeued, ended, has_set, is_first_failure, is_job, is_of, new_item, placing, replacing, reset, resulted, sets_behind, triggered, with_outcome, with_set}
-use Rattle.gate_items.specs.Steps.{Does, Judges, changed, changed_to, dequeued_at, ended_at, fitting, placed_last, recorded_at, replaced_at, reset_at, why_not}
+use Rattle.gate_items.specs.Steps.{Does}
+use Rattle.gate_items.specs.Inner.Steps.{Judges, changed, changed_to, dequeued_at, ended_at, fitting, placed_last, recorded_at, replaced_at, reset_at, why_not}
 use Rattle.gate_items.proofs.Standing.{Stands, stands_at, stands_nowhere}
 
 -- the item that stands at a place

@@ -2,7 +2,7 @@
 use Rattle.std.proofs.Common.{◌≡◌, ◌∙◌, ◌+◌, ◌-◌, ◌<◌, ◌≤◌, ℕ, List, [], ◌∷◌, ◌++◌, length, take, drop, get_or, set, refl, sym, ap, arith, append_assoc, length-append, length-drop}
 use Rattle.std.proofs.lemmas.List.{drop-append-le, drop_more, get_or_at, length-take-le, set_at, take_more}
 use Rattle.gate_items.specs.declared.ring.Numbered.{Numbered}
-use Rattle.gate_items.specs.Ring.{numbered_set, renumbered}
+use Rattle.gate_items.specs.Inner.Ring.{numbered_set, renumbered}
 
 length-renumbered : (n : ℕ) (items : List Numbered) → length (renumbered n items) ≡ length items
 length-renumbered n [] = refl

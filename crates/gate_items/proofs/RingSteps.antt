@@ -10,10 +10,11 @@ use Rattle.std.proofs.lemmas.Bool.{eq-eqb, eqb-true, ne_eqb}
 use Rattle.std.proofs.lemmas.List.{drop-map, get_or-map, length-map, map-append, map-set, take-append-drop, take-map}
 use Rattle.std.proofs.Math.Seq.{map-set_same}
 use Rattle.std.proofs.lemmas.Option.{slice_get-get_or}
-use Rattle.gate_items.specs.Agreement.{is_here}
+use Rattle.gate_items.specs.Inner.Agreement.{is_here}
 use Rattle.gate_items.specs.KeyOrder.{key_cmp}
 use Rattle.gate_items.specs.Keys.{is_same}
-use Rattle.gate_items.specs.Ring.{EachFound, IsIndexed, IsRing, Rise, is_number, item_of, items_of, numbered_outcome, renumbered, set_of, tag_of}
+use Rattle.gate_items.specs.Ring.{item_of, items_of}
+use Rattle.gate_items.specs.Inner.Ring.{EachFound, IsIndexed, IsRing, Rise, is_number, numbered_outcome, renumbered, set_of, tag_of}
 use Rattle.gate_items.specs.Machine.{has_set, is_of, renewed, with_outcome, with_set}
 use Rattle.gate_items.specs.declared.item.QueueItem.{QueueItem}
 use Rattle.gate_items.specs.declared.key.Key.{Key}

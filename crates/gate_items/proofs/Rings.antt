@@ -4,10 +4,11 @@ use Rattle.std.specs.Prelude.{◌||◌}
 use Rattle.std.specs.BTreeMap.{is_at}
 use Rattle.std.specs.List.{list_any}
 use Rattle.std.proofs.lemmas.List.{map-append}
-use Rattle.gate_items.specs.Agreement.{is_here}
-use Rattle.gate_items.specs.KeyOrder.{key_cmp, same_by_cmp}
+use Rattle.gate_items.specs.Inner.Agreement.{is_here}
+use Rattle.gate_items.specs.KeyOrder.{key_cmp}
+use Rattle.gate_items.specs.Inner.KeyOrder.{same_by_cmp}
 use Rattle.gate_items.specs.Keys.{is_same}
-use Rattle.gate_items.specs.Ring.{EachFound, IsIndexed, Rise, is_number, tag_of}
+use Rattle.gate_items.specs.Inner.Ring.{EachFound, IsIndexed, Rise, is_number, tag_of}
 use Rattle.gate_items.specs.declared.key.Key.{Key}
 use Rattle.gate_items.specs.declared.ring.Numbered.{Numbered}
 use Rattle.gate_items.proofs.Agreement.{added_here, away_by, dropped, key_twice, new_here, new_live, others}

@@ -7,7 +7,7 @@ use Rattle.std.proofs.lemmas.Bool.{eq-eqb, eqb-false, eqb-true, le-ltb, lt-ltb, 
 use Rattle.std.proofs.lemmas.Bool.Decides.{nat_tests}
 use Rattle.std.proofs.lemmas.Cmp.{ranked}
 use Rattle.std.proofs.lemmas.List.Sums.{position_or_len_is}
-use Rattle.gate_items.specs.Ring.{Rise}
+use Rattle.gate_items.specs.Inner.Ring.{Rise}
 
 pub rise_le : (low high : ℕ) (ns : List ℕ) → Rise low high ns → low ≤ high
 rise_le low high [] r = r

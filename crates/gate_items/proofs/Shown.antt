@@ -5,7 +5,7 @@ use Rattle.std.specs.List.{find}
 use Rattle.std.specs.Map.{lookup, remove_entry, set_value, values_of}
 use Rattle.std.proofs.lemmas.Bool.{lt-ltb}
 use Rattle.gate_record.specs.declared.ids.ManagerKind.TheVariants.{Independent}
-use Rattle.gate_items.specs.Agreement.{Each}
+use Rattle.gate_items.specs.Inner.Agreement.{Each}
 use Rattle.gate_items.specs.Machine.{Makes, State, after_plan, before, behind, is_complete, leaving, report_of, staying}
 use Rattle.gate_items.specs.declared.action.Outcome.{Outcome}
 use Rattle.gate_items.specs.declared.action.Discard.TheVariants.{Numbers}

@@ -32,12 +32,6 @@ IsLate s (action.Result result) = is_current s result.set ≡ false
 IsLate s (action.Trigger key patchset jobs) = ⊥
 IsLate s (action.Manage manage) = ⊥
 
--- the action asks for an item
-abbrev pub IsTrigger : Action → Type 0
-IsTrigger (action.Trigger key patchset jobs) = Unit {0}
-IsTrigger (action.Result result) = ⊥
-IsTrigger (action.Manage manage) = ⊥
-
 -- the action may be refused memory: it asks for an item, or for a number in the index of an independent pipeline
 abbrev pub MayTakeMemory : ManagerKind → Action → Type 0
 MayTakeMemory manager (action.Trigger key patchset jobs) = Unit {0}

@@ -1,9 +1,9 @@
-pub mod Agreement
 pub mod History
+pub mod Inner
+pub mod Kept
 pub mod KeyOrder
 pub mod Keys
-pub mod Kept
-pub mod Ring
 pub mod Machine
 pub mod Outcomes
+pub mod Ring
 pub mod Steps

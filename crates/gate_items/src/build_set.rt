@@ -1,6 +1,6 @@
 ghost use Rattle.std.specs.Prelude.{◌≡◌, ◌+◌, ◌^◌, ◌<◌, ◌≤◌, length, map, take, drop, ◌++◌, slice_set, slice_index_or};
 ghost use Rattle.std.specs.VecDeque.{deque_len};
-ghost use Rattle.gate_items.specs.Ring.{numbered_set, renumbered};
+ghost use Rattle.gate_items.specs.Inner.Ring.{numbered_set, renumbered};
 ghost use Rattle.gate_items.specs.Machine.{open_job, with_set};
 ghost use Rattle.gate_items.specs.declared.ring.Numbered.{Numbered as Entry};
 

@@ -2,7 +2,7 @@ ghost use Rattle.std.specs.Prelude.{◌≡◌, cond, ℕ, None, Some, OnOk, OnEr
 ghost use Rattle.std.specs.BTreeMap.{get, insert_entry, is_at};
 ghost use Rattle.std.specs.Map.{remove_entry, set_value};
 ghost use Rattle.std.specs.Ordering.{nat_cmp};
-ghost use Rattle.gate_items.specs.Agreement.{Placed, cause, standing};
+ghost use Rattle.gate_items.specs.Inner.Agreement.{Placed, cause, standing};
 ghost use Rattle.gate_items.specs.KeyOrder.{key_cmp};
 ghost use Rattle.gate_items.specs.Machine.{is_complete, with_outcome, with_set};
 ghost use Rattle.gate_items.specs.declared.item.QueueItem.{QueueItem as Item};

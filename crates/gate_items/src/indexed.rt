@@ -30,7 +30,7 @@ impl Model for Indexed {
     ghost use Rattle.std.specs.BTreeMap.{get, values};
     ghost use Rattle.std.specs.Ordering.{nat_cmp};
     ghost use Rattle.gate_record.specs.declared.ids.ManagerKind.TheVariants.{Independent};
-    ghost use Rattle.gate_items.specs.Agreement.{Agrees};
+    ghost use Rattle.gate_items.specs.Inner.Agreement.{Agrees};
     ghost use Rattle.gate_items.specs.KeyOrder.{key_cmp};
     ghost use Rattle.gate_items.specs.Machine.{State};
 

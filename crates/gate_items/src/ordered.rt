@@ -1,16 +1,18 @@
 ghost use Rattle.std.specs.Prelude.{◌≡◌, OnErr, false, ◌<◌, ◌≤◌, ◌+◌, ℕ, List, IfOk, length, slice_index_or, None, Some};
 ghost use Rattle.std.specs.List.{find, position};
-ghost use Rattle.gate_items.specs.History.{IsLate, IsTrigger, is_current, start};
+ghost use Rattle.gate_items.specs.History.{IsLate, is_current, start};
+ghost use Rattle.gate_items.specs.Inner.History.{IsTrigger};
 ghost use Rattle.gate_items.specs.Machine.{apply, dequeued, has_set, is_job, is_of, plan, reset, resulted, triggered};
-ghost use Rattle.gate_items.specs.Steps.{Does, Judges, changed, dequeued_at, ended_at, placed_last, recorded_at, replaced_at, reset_at, settled};
+ghost use Rattle.gate_items.specs.Steps.{Does};
+ghost use Rattle.gate_items.specs.Inner.Steps.{Judges, changed, dequeued_at, ended_at, placed_last, recorded_at, replaced_at, reset_at, settled};
 ghost use Rattle.gate_items.specs.declared.item.QueueItem.{QueueItem as Item};
 
 use crate::action::{Action, Discard, JobResult, Manage, Outcome};
 use crate::item::Report;
 use crate::key::Key;
-use crate::ring::Ring;
 use crate::queue_items::QueueItems;
 use crate::report::report_complete;
+use crate::ring::Ring;
 use crate::trigger::new_item;
 use gate_record::{ManagerKind, Memory, Sequence, Text};
 use std::alloc::Global;

@@ -2,7 +2,7 @@ ghost use Rattle.std.specs.Prelude.{◌≡◌, ◌<◌, ℕ, Bool, List, Option,
 ghost use Rattle.std.specs.VecDeque.{deque_len};
 ghost use Rattle.std.specs.List.{find, list_any};
 ghost use Rattle.gate_items.specs.Machine.{has_failed, is_complete, is_first_failure, is_job, record_at, with_outcome};
-ghost use Rattle.gate_items.specs.Ring.{numbered_outcome};
+ghost use Rattle.gate_items.specs.Inner.Ring.{numbered_outcome};
 ghost use Rattle.gate_items.specs.declared.ring.Numbered.{Numbered as Entry};
 
 use crate::action::JobResult;
@@ -60,11 +60,7 @@ fn outcome_after(job: &Build, name: &str, success: bool) -> Option<bool>
 }
 
 // The jobs, those of a name with an outcome.
-fn recorded(
-    jobs: Sequence<Build>,
-    name: &str,
-    success: bool,
-) -> Sequence<Build>
+fn recorded(jobs: Sequence<Build>, name: &str, success: bool) -> Sequence<Build>
     ensures { result ≡ map (record_at name.now success) jobs }
 {
     let mut jobs = jobs.into_vec();

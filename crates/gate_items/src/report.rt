@@ -1,5 +1,5 @@
 ghost use Rattle.std.specs.Prelude.{◌≡◌, ◌≤◌, ◌+◌, ◌++◌, length, map, vec_capacity};
-ghost use Rattle.gate_items.specs.Ring.{after_ring};
+ghost use Rattle.gate_items.specs.Inner.Ring.{after_ring};
 ghost use Rattle.gate_items.specs.Machine.{head_of, report_of, rest_of};
 
 use crate::item::{QueueItem, Report};

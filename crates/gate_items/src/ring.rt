@@ -2,9 +2,9 @@ ghost use Rattle.std.specs.Prelude.{◌≡◌, ◌+◌, ◌<◌, ◌≤◌, ◌^
 ghost use Rattle.std.specs.BTreeMap.{get, is_at};
 ghost use Rattle.std.specs.List.{position};
 ghost use Rattle.gate_items.specs.KeyOrder.{key_cmp};
-ghost use Rattle.gate_items.specs.Ring.{TakesComplete, after_ring};
+ghost use Rattle.gate_items.specs.Inner.Ring.{TakesComplete, after_ring};
 ghost use Rattle.gate_items.specs.Machine.{has_set, is_of, renewed, with_outcome};
-ghost use Rattle.gate_items.specs.Steps.{fitting};
+ghost use Rattle.gate_items.specs.Inner.Steps.{fitting};
 ghost use Rattle.gate_items.specs.declared.item.QueueItem.{QueueItem as Item};
 ghost use Rattle.gate_items.specs.declared.key.Key.{Key as ItemKey};
 
@@ -39,7 +39,8 @@ pub(crate) struct Ring {
 impl Model for Ring {
     ghost use Rattle.std.specs.BTreeMap.{get};
     ghost use Rattle.gate_items.specs.KeyOrder.{key_cmp};
-    ghost use Rattle.gate_items.specs.Ring.{IsRing, RingState, items_of};
+    ghost use Rattle.gate_items.specs.Ring.{items_of};
+    ghost use Rattle.gate_items.specs.Inner.Ring.{IsRing, RingState};
 
     ghost Value = { RingState };
 

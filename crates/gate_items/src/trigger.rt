@@ -1,6 +1,6 @@
 ghost use Rattle.std.specs.Prelude.{◌≡◌, IfOk, map};
 ghost use Rattle.gate_items.specs.Machine.{new_item};
-ghost use Rattle.gate_items.specs.Steps.{why_not};
+ghost use Rattle.gate_items.specs.Inner.Steps.{why_not};
 
 use crate::action::Discard;
 use crate::item::{Build, QueueItem};
@@ -42,10 +42,7 @@ pub(crate) fn new_item(
 }
 
 // A job for each name, without an outcome.
-fn open_jobs(
-    alloc: Global,
-    names: &Sequence<Text>,
-) -> Result<Sequence<Build>, Memory>
+fn open_jobs(alloc: Global, names: &Sequence<Text>) -> Result<Sequence<Build>, Memory>
     ensures { IfOk result (λ jobs. jobs ≡ map (λ name. (name, None)) names.now) }
 {
     let mut jobs = Vec::new(alloc);

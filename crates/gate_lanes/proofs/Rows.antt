@@ -8,7 +8,7 @@ use Rattle.std.proofs.lemmas.Simd.{get_or-zip2, length-zip2}
 use Rattle.std.specs.List.{list_any, range_with_len}
 use Rattle.std.specs.Simd.Lanes.{zip2}
 use Rattle.gate_lanes.proofs.Chosen.{one_more}
-use Rattle.gate_lanes.specs.Masks.{marked_too}
+use Rattle.gate_lanes.specs.Inner.Masks.{marked_too}
 use Rattle.gate_lanes.specs.Masks.{mark_if}
 
 one_number_more : (t : ℕ → Bool) (a n m : ℕ) → a + n ≡ m → list_any t (range_with_len a (suc n)) ≡ (list_any t (range_with_len a n) || t m)

@@ -24,10 +24,6 @@ is_in_row cells rows id row = list_any (λ slot. slice_index cells (slot * rows 
 abbrev pub marked_slots : List ℕ → ℕ → ℕ → List ℕ
 marked_slots cells rows id = map (λ row. mark_if (is_in_row cells rows id row)) (range_with_len 0 rows)
 
--- a mark, set too where the cell is the id
-abbrev pub marked_too : ℕ → ℕ → ℕ → ℕ
-marked_too id mark cell = if cell == id then MARKED else mark
-
 -- word by word
 abbrev pub both : List ℕ → List ℕ → List ℕ
 both words others = zip2 bit_and words others

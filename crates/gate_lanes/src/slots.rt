@@ -1,5 +1,6 @@
 ghost use Rattle.std.specs.Prelude.{◌≡◌, ◌%◌, length};
-ghost use Rattle.gate_lanes.specs.Masks.{marked_slots, marked_too};
+ghost use Rattle.gate_lanes.specs.Masks.{marked_slots};
+ghost use Rattle.gate_lanes.specs.Inner.Masks.{marked_too};
 
 use crate::MARKED;
 use crate::groups::{Join, join_all};

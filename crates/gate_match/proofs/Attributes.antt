@@ -7,9 +7,9 @@ use Rattle.gate_rule.specs.Rule.{is_met}
 use Rattle.gate_intern.specs.declared.field.Field.{Field}
 use Rattle.gate_intern.specs.Columns.{field_of}
 use Rattle.gate_match.specs.declared.asked.Asked.{Asked}
-use Rattle.gate_match.specs.Finding.{finds, passes, reach_of}
-use Rattle.gate_match.specs.Marks.{both}
-use Rattle.gate_match.specs.Narrowing.{any_found_in, meeting_in, patterns_of}
+use Rattle.gate_match.specs.Inner.Finding.{finds, passes, reach_of}
+use Rattle.gate_match.specs.Inner.Marks.{both}
+use Rattle.gate_match.specs.Inner.Narrowing.{any_found_in, meeting_in, patterns_of}
 use Rattle.gate_match.proofs.Ids.{map_alike}
 use Rattle.gate_match.proofs.Rows.{both_all}
 

@@ -14,9 +14,9 @@ use Rattle.gate_config.specs.Lookups.{rules_of}
 use Rattle.gate_config.specs.Selection.{is_listed, selects_event}
 use Rattle.gate_lanes.specs.Masks.{is_among}
 use Rattle.gate_match.specs.declared.active.Active.{Active}
-use Rattle.gate_match.specs.Choosing.{AreActive, active_in, chosen, chosen_of, has_all, is_conn_of, listed_in}
-use Rattle.gate_match.specs.Marks.{both, either}
-use Rattle.gate_match.specs.Tables.{meets_any}
+use Rattle.gate_match.specs.Inner.Choosing.{AreActive, active_in, chosen, chosen_of, has_all, is_conn_of, listed_in}
+use Rattle.gate_match.specs.Inner.Marks.{both, either}
+use Rattle.gate_match.specs.Inner.Tables.{meets_any}
 use Rattle.gate_match.proofs.Ids.{map_alike, map_twice}
 use Rattle.gate_match.proofs.Rows.{none_of}
 

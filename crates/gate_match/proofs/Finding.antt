@@ -2,7 +2,7 @@
 use Rattle.std.proofs.Common.{◌≡◌, ◌∙◌, sym, ap, ℕ, ◌+◌, ◌<◌, ◌≤◌, Bool, true, false, if◌then◌else◌, List, [], ◌∷◌, ◌++◌, map, drop, length, get_or, add-one, append_assoc, append-nil}
 use Rattle.std.proofs.Math.Seq.{drop-cons}
 use Rattle.std.proofs.lemmas.List.{drop_all}
-use Rattle.gate_match.specs.Finding.{ids_from}
+use Rattle.gate_match.specs.Inner.Finding.{ids_from}
 
 module _ {R A : Type 0} (text_at : R → A) (texts : List R) (test : A → Bool) where
   left : (i : ℕ) (d : R) (id : ℕ) → i < length texts →

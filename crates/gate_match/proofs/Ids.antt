@@ -6,7 +6,7 @@ use Rattle.gate_lanes.specs.Masks.{is_among}
 use Rattle.gate_intern.specs.declared.field.Field.{Field}
 use Rattle.gate_intern.specs.Columns.{column_of, field_of, texts_of}
 use Rattle.gate_intern.specs.GivenBack.{FieldsComeBack, named}
-use Rattle.gate_match.specs.Finding.{ids_from, ids_where, passes, passing_in, rows_where}
+use Rattle.gate_match.specs.Inner.Finding.{ids_from, ids_where, passes, passing_in, rows_where}
 
 pub map_alike : {A B : Type 0} (f g : A → B) (xs : List A) → ((x : A) → f x ≡ g x) → map f xs ≡ map g xs
 map_alike f g [] h = refl

@@ -5,7 +5,7 @@ use Rattle.std.proofs.lemmas.List.Recursion.{is_count_by}
 use Rattle.std.proofs.lemmas.Simd.{length-zip2}
 use Rattle.std.specs.Simd.Lanes.{zip2}
 use Rattle.gate_lanes.specs.Masks.{mark_if, cleared_if, count_marked}
-use Rattle.gate_match.specs.Marks.{AreMarks, is_marked, marks_any, marks_of, words_of}
+use Rattle.gate_match.specs.Inner.Marks.{AreMarks, is_marked, marks_any, marks_of, words_of}
 
 marked_if : (b : Bool) → is_marked (mark_if b) ≡ b
 marked_if true = refl

@@ -1,7 +1,7 @@
 -- Rows that are left, one test after another.
 use Rattle.std.proofs.Common.{◌≡◌, ◌∙◌, refl, sym, ap, ◌&&◌, Bool, true, false, not, List, map, Result, Ok, Err}
 use Rattle.std.specs.Result.{OnOk}
-use Rattle.gate_match.specs.Marks.{both, marks_any}
+use Rattle.gate_match.specs.Inner.Marks.{both, marks_any}
 use Rattle.gate_match.proofs.Rows.{narrowed_more, none_left, not_true}
 
 module _ {X : Type 0} (out : List Bool) (xs : List X) (f g : X → Bool) where

@@ -5,7 +5,7 @@ use Rattle.std.proofs.lemmas.List.Folds.{list_all_more, list_any_more}
 use Rattle.std.proofs.lemmas.Simd.{zip2-map}
 use Rattle.std.proofs.Math.Bool.{and_assoc}
 use Rattle.std.proofs.lemmas.List.{take_all}
-use Rattle.gate_match.specs.Marks.{both, either, marks_any, without}
+use Rattle.gate_match.specs.Inner.Marks.{both, either, marks_any, without}
 use Rattle.gate_match.proofs.Ids.{map_alike}
 
 or_left : (a b : Bool) → (a || b) ≡ false → a ≡ false

@@ -9,8 +9,8 @@ use Rattle.gate_rule.specs.Rule.{is_given}
 use Rattle.gate_lanes.specs.Masks.{is_among, is_in_row}
 use Rattle.gate_intern.specs.Columns.{approval_cells_of, approvals_of, is_same_vote, number_in, slot_of, slots_of}
 use Rattle.gate_intern.specs.GivenBack.{ApprovalsComeBack, named}
-use Rattle.gate_match.specs.Finding.{ids_where, passes}
-use Rattle.gate_match.specs.Narrowing.{given_to}
+use Rattle.gate_match.specs.Inner.Finding.{ids_where, passes}
+use Rattle.gate_match.specs.Inner.Narrowing.{given_to}
 use Rattle.gate_match.proofs.Ids.{among_ids}
 use Rattle.gate_match.proofs.Rows.{list_any_map}
 

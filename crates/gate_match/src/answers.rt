@@ -1,8 +1,8 @@
 ghost use Rattle.std.specs.Prelude.{◌≡◌, IfOk, IfSome, OnOk, List, length};
 ghost use Rattle.gate_record.specs.declared.event.Event.{Event};
 ghost use Rattle.gate_rule.specs.Pattern.{text_of};
-ghost use Rattle.gate_match.specs.Finding.{HoldsOfText, found_in};
-ghost use Rattle.gate_match.specs.Marks.{either};
+ghost use Rattle.gate_match.specs.Inner.Finding.{HoldsOfText, found_in};
+ghost use Rattle.gate_match.specs.Inner.Marks.{either};
 
 use crate::asked::Asked;
 use crate::mask::Mask;
@@ -29,7 +29,7 @@ pub(crate) struct Answers<'c> {
 }
 
 impl<'c> Answers<'c> {
-    ghost use Rattle.gate_match.specs.Knowing.{AreRight};
+    ghost use Rattle.gate_match.specs.Inner.Knowing.{AreRight};
 
     // Nothing was asked.
     pub(crate) fn none(alloc: Global) -> Answers<'c>

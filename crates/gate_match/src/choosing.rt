@@ -1,12 +1,12 @@
 ghost use Rattle.std.specs.Prelude.{◌≡◌, ℕ, IfOk, IfSome, OnOk, length, map, replicate, false, true};
 ghost use Rattle.std.specs.List.{All, zip};
 ghost use Rattle.gate_config.specs.Lookups.{rules_of};
-ghost use Rattle.gate_match.specs.Choosing.{AreActive, active_in, chosen, chosen_of, has_all, is_conn_of};
-ghost use Rattle.gate_match.specs.Compiling.{rules_in};
-ghost use Rattle.gate_match.specs.Knowing.{AreRight};
-ghost use Rattle.gate_match.specs.Marks.{either};
+ghost use Rattle.gate_match.specs.Inner.Choosing.{AreActive, active_in, chosen, chosen_of, has_all, is_conn_of};
+ghost use Rattle.gate_match.specs.Inner.Compiling.{rules_in};
+ghost use Rattle.gate_match.specs.Inner.Knowing.{AreRight};
+ghost use Rattle.gate_match.specs.Inner.Marks.{either};
 ghost use Rattle.gate_match.specs.Selecting.{config_of, mask_of, masks_of, tenant_of};
-ghost use Rattle.gate_match.specs.Tables.{AskAlike};
+ghost use Rattle.gate_match.specs.Inner.Tables.{AskAlike};
 ghost use Rattle.gate_match.specs.declared.active.Active.{Active};
 
 use crate::active::Active;

@@ -1,6 +1,6 @@
 ghost use Rattle.std.specs.Prelude.{◌≡◌, IfOk};
-ghost use Rattle.gate_match.specs.Compiling.{rule_of, rules_in};
-ghost use Rattle.gate_match.specs.Narrowing.{patterns_of};
+ghost use Rattle.gate_match.specs.Inner.Compiling.{rule_of, rules_in};
+ghost use Rattle.gate_match.specs.Inner.Narrowing.{patterns_of};
 
 use crate::asked::Asked;
 use crate::compiled::Compiled;

@@ -2,8 +2,8 @@ ghost use Rattle.std.specs.Prelude.{◌≡◌, ◌%◌, IfOk, length, map};
 ghost use Rattle.std.specs.List.{list_any, range_with_len};
 ghost use Rattle.gate_intern.specs.Columns.{is_same_vote};
 ghost use Rattle.gate_lanes.specs.Masks.{is_in_row};
-ghost use Rattle.gate_match.specs.Finding.{ids_where};
-ghost use Rattle.gate_match.specs.Narrowing.{given_to};
+ghost use Rattle.gate_match.specs.Inner.Finding.{ids_where};
+ghost use Rattle.gate_match.specs.Inner.Narrowing.{given_to};
 
 use crate::mask::Mask;
 use gate_intern::{Columns, cells_give_approvals_back};

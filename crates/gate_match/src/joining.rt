@@ -1,8 +1,8 @@
 ghost use Rattle.std.specs.Prelude.{◌≡◌, OnOk, length};
-ghost use Rattle.gate_match.specs.Compiling.{rules_in};
-ghost use Rattle.gate_match.specs.Knowing.{AreRight};
-ghost use Rattle.gate_match.specs.Marks.{both, either};
-ghost use Rattle.gate_match.specs.Narrowing.{meeting_any};
+ghost use Rattle.gate_match.specs.Inner.Compiling.{rules_in};
+ghost use Rattle.gate_match.specs.Inner.Knowing.{AreRight};
+ghost use Rattle.gate_match.specs.Inner.Marks.{both, either};
+ghost use Rattle.gate_match.specs.Inner.Narrowing.{meeting_any};
 
 use crate::answers::Answers;
 use crate::compiled::Compiled;

@@ -1,6 +1,6 @@
 ghost use Rattle.std.specs.Prelude.{◌≡◌, ◌++◌, IfOk, map};
 ghost use Rattle.gate_rule.specs.Pattern.{text_of, tree_in, tree_of};
-ghost use Rattle.gate_match.specs.Finding.{HoldsOfText, finds, ids_where};
+ghost use Rattle.gate_match.specs.Inner.Finding.{HoldsOfText, finds, ids_where};
 
 use crate::reach::Reach;
 use gate_record::Memory;

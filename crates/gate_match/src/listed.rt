@@ -1,7 +1,7 @@
 ghost use Rattle.std.specs.Prelude.{◌≡◌, IfOk, map};
 ghost use Rattle.gate_config.specs.Lookups.{belongs};
-ghost use Rattle.gate_match.specs.Finding.{ids_where};
-ghost use Rattle.gate_match.specs.Choosing.{listed_in};
+ghost use Rattle.gate_match.specs.Inner.Finding.{ids_where};
+ghost use Rattle.gate_match.specs.Inner.Choosing.{listed_in};
 
 use crate::mask::Mask;
 use gate_config::Config;

@@ -1,7 +1,7 @@
 ghost use Rattle.std.specs.Prelude.{◌≡◌, ◌%◌, IfOk, false, length, map, not, replicate};
 ghost use Rattle.std.specs.List.{range_with_len};
 ghost use Rattle.gate_lanes.specs.Masks.{is_among, is_in_row};
-ghost use Rattle.gate_match.specs.Marks.{both, either, marks_any, marks_of, without, words_of};
+ghost use Rattle.gate_match.specs.Inner.Marks.{both, either, marks_any, marks_of, without, words_of};
 
 use gate_lanes::{and_into, clear_where, count, mark_any, mark_slots, or_into};
 use gate_record::Memory;
@@ -16,7 +16,7 @@ pub(crate) struct Mask {
 
 impl Model for Mask {
     ghost use Rattle.std.specs.Prelude.{List, Bool};
-    ghost use Rattle.gate_match.specs.Marks.{AreMarks, marks_of};
+    ghost use Rattle.gate_match.specs.Inner.Marks.{AreMarks, marks_of};
 
     ghost Value = { List Bool };
 

@@ -1,8 +1,8 @@
 ghost use Rattle.std.specs.Prelude.{◌≡◌, IfOk, OnOk, length};
-ghost use Rattle.gate_match.specs.Knowing.{AreRight};
-ghost use Rattle.gate_match.specs.Marks.{both};
-ghost use Rattle.gate_match.specs.Compiling.{rule_of};
-ghost use Rattle.gate_match.specs.Narrowing.{any_found_in, approved, meeting, meeting_front, meeting_in, meeting_rest, not_ignored, patterns_of};
+ghost use Rattle.gate_match.specs.Inner.Knowing.{AreRight};
+ghost use Rattle.gate_match.specs.Inner.Marks.{both};
+ghost use Rattle.gate_match.specs.Inner.Compiling.{rule_of};
+ghost use Rattle.gate_match.specs.Inner.Narrowing.{any_found_in, approved, meeting, meeting_front, meeting_in, meeting_rest, not_ignored, patterns_of};
 
 use crate::answers::Answers;
 use crate::asked::Asked;

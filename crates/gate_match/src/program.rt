@@ -1,4 +1,4 @@
-ghost use Rattle.gate_match.specs.Tables.{AreOfConfig};
+ghost use Rattle.gate_match.specs.Inner.Tables.{AreOfConfig};
 
 use crate::rules_of_conn::RulesOfConn;
 use crate::shelf::Shelf;

@@ -1,5 +1,5 @@
 ghost use Rattle.std.specs.Prelude.{◌≡◌};
-ghost use Rattle.gate_match.specs.Finding.{reach_of};
+ghost use Rattle.gate_match.specs.Inner.Finding.{reach_of};
 
 use gate_intern::Field;
 

@@ -1,6 +1,6 @@
 ghost use Rattle.std.specs.Prelude.{◌≡◌, IfOk, IfSome, map};
 ghost use Rattle.gate_rule.specs.Pattern.{text_of};
-ghost use Rattle.gate_match.specs.Finding.{HoldsOfText, finds, rows_where};
+ghost use Rattle.gate_match.specs.Inner.Finding.{HoldsOfText, finds, rows_where};
 
 use crate::asked::Asked;
 use crate::kept::Kept;

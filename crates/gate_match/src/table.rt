@@ -1,5 +1,5 @@
 ghost use Rattle.std.specs.Prelude.{IfOk, OnOk};
-ghost use Rattle.gate_match.specs.Tables.{AreOfConfig};
+ghost use Rattle.gate_match.specs.Inner.Tables.{AreOfConfig};
 
 use crate::compiling::{compile, keep_rule};
 use crate::rules_of_conn::RulesOfConn;

@@ -1,4 +1,5 @@
 pub mod Histories
+pub mod Inner
 pub mod Limits
 pub mod Passes
 pub mod States

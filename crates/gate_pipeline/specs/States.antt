@@ -5,7 +5,6 @@ use Rattle.gate_record.specs.declared.ids.ManagerKind.TheVariants.{Independent}
 use Rattle.gate_record.specs.declared.ids.Stamp.{Stamp}
 use Rattle.gate_record.specs.declared.memory.Memory.{Memory}
 use Rattle.gate_record.specs.declared.transit.PipelineItem.TheVariants as item
-use Rattle.gate_record.specs.declared.transit.Stamped.{Stamped}
 use Rattle.gate_config.specs.declared.config.Config.{Config}
 use Rattle.gate_config.specs.declared.config.PipelineSpec.{PipelineSpec}
 use Rattle.gate_config.specs.Lookups.{pipelines_of}
@@ -123,16 +122,6 @@ takes config state given = with_processed config (to_process state.held given) (
 abbrev pub Takes : Config → State → Taken → State → Result (Option Processed) Memory → Type 0
 Takes config old given new (Ok answer) = (new, answer) ≡ takes config old given
 Takes config old given new (Err memory) = new ≡ held_as (to_process old.held given) (taken_in given old)
-
--- this is processed; or memory was refused, and it is held
-abbrev pub Processes : Config → State → Held → State → Result Processed Memory → Type 0
-Processes config old waiting new (Ok answer) = (new, answer) ≡ processed config waiting old
-Processes config old waiting new (Err memory) = new ≡ held_as (Some waiting) old
-
--- a trigger event is processed; or memory was refused, and all is as it was
-abbrev pub Triggers : Config → State → Stamped → State → Result (Action × Outcome) Memory → Type 0
-Triggers config old stamped new (Ok (action, outcome)) = (new, (Some stamped.stamp, action, outcome)) ≡ processed config (held.Event stamped) old
-Triggers config old stamped new (Err memory) = new ≡ old
 
 -- memory may be refused to a trigger event, and to an action that takes it; never to a result or the end mark
 abbrev pub MayBeRefused : ManagerKind → Option Held → Type 0

@@ -76,11 +76,7 @@ impl Pipeline {
     ///
     /// `Memory` where a trigger, or a reset of an independent pipeline, finds none: then it is held, and is the next one
     /// processed.
-    pub fn took(
-        &mut self,
-        config: &Config,
-        given: Taken,
-    ) -> Result<Option<Processed>, Memory>
+    pub fn took(&mut self, config: &Config, given: Taken) -> Result<Option<Processed>, Memory>
         requires asked { next_of self.old ≡ asked given }
         ensures takes { Takes config.now self.old given self.new result }
         ensures refused { OnErr result (MayBeRefused self.old.items.manager (to_process self.old.held given)) }
@@ -131,7 +127,8 @@ impl Pipeline {
         &self.items
     }
 
-    ghost use Rattle.gate_pipeline.specs.States.{Processes, counted, held_as};
+    ghost use Rattle.gate_pipeline.specs.States.{counted, held_as};
+    ghost use Rattle.gate_pipeline.specs.Inner.States.{Processes};
     ghost use Rattle.std.specs.Prelude.{Some, None};
 
     // Counts a taking.
@@ -144,11 +141,7 @@ impl Pipeline {
     }
 
     // Processes what was taken. Where memory is refused it is held.
-    fn process(
-        &mut self,
-        config: &Config,
-        held: Held,
-    ) -> Result<Processed, Memory>
+    fn process(&mut self, config: &Config, held: Held) -> Result<Processed, Memory>
         requires free { self.old.held ≡ None }
         ensures processes { Processes config.now self.old held self.new result }
         ensures refused { OnErr result (MayBeRefused self.old.items.manager (Some held)) }
@@ -171,7 +164,7 @@ impl Pipeline {
         }
     }
 
-    ghost use Rattle.gate_pipeline.specs.States.{Triggers};
+    ghost use Rattle.gate_pipeline.specs.Inner.States.{Triggers};
 
     // Processes a trigger event. Where memory is refused all is as it was.
     fn trigger(&mut self, config: &Config, stamped: &Stamped) -> Result<(Action, Outcome), Memory>

@@ -8,8 +8,9 @@ use Rattle.gate_queue.specs.declared.known.Known.{Known}
 use Rattle.gate_queue.specs.declared.known.Known.TheVariants.{Taker}
 use Rattle.gate_queue.specs.Seats.{QueueId, Shape, TakerSeat, IsHeadOf, with_taken}
 use Rattle.gate_queue.specs.States.{AreFrom, MayBeEmpty}
-use Rattle.gate_queue.specs.Sharing.{HasTaken, HasTakenAll, CanWait, took}
-use Rattle.gate_queue.specs.Views.{as_taker, taker_at, with_more, KnowsTaker}
+use Rattle.gate_queue.specs.Inner.Sharing.{HasTaken, HasTakenAll, CanWait, took}
+use Rattle.gate_queue.specs.Views.{as_taker, taker_at, KnowsTaker}
+use Rattle.gate_queue.specs.Inner.Views.{with_more}
 use Rattle.gate_queue.specs.FreeViews.{handed_out, seat_with, FreePass, known_by, IsAtRest, IsFreeTakerRight}
 use Rattle.std.specs.Option.{option_to_list}
 use Rattle.gate_queue.proofs.Settles.{inner, outer}

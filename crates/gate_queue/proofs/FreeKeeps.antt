@@ -8,9 +8,11 @@ use Rattle.gate_queue.specs.declared.known.Put.{Put}
 use Rattle.gate_queue.specs.declared.known.Got.{Got}
 use Rattle.gate_queue.specs.declared.known.Known.{Known}
 use Rattle.gate_queue.specs.declared.known.Known.TheVariants.{Sender, Taker, Nothing}
-use Rattle.gate_queue.specs.Sharing.{Fits, Shares, newcomer, HasPut, HasTaken, HasTakenAll, CanWait, planned, nothing, seated, next_sender, joined, took}
-use Rattle.gate_queue.specs.FreeSharing.{IsFresh, HasBegun, SharesFree, begun, parted, first_joined, rest_of}
-use Rattle.gate_queue.specs.Views.{as_sender, with_more}
+use Rattle.gate_queue.specs.Sharing.{Fits, Shares, joined}
+use Rattle.gate_queue.specs.Inner.Sharing.{newcomer, HasPut, HasTaken, HasTakenAll, CanWait, planned, nothing, seated, next_sender, took}
+use Rattle.gate_queue.specs.Inner.FreeSharing.{IsFresh, HasBegun, SharesFree, begun, parted, first_joined, rest_of}
+use Rattle.gate_queue.specs.Views.{as_sender}
+use Rattle.gate_queue.specs.Inner.Views.{with_more}
 use Rattle.gate_queue.proofs.Views.{each_set, each_snoc}
 use Rattle.gate_queue.proofs.Told.{put_keeps, take_keeps_at}
 use Rattle.gate_queue.proofs.Keeps.{takes_many}

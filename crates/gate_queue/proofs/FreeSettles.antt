@@ -8,7 +8,8 @@ use Rattle.gate_queue.specs.declared.known.Known.{Known}
 use Rattle.gate_queue.specs.declared.known.Known.TheVariants.{Taker}
 use Rattle.gate_queue.specs.Seats.{QueueId, Shape, SenderSeat, TakerSeat, AreTailsOf}
 use Rattle.gate_queue.specs.States.{AreFrom, IsDelivered}
-use Rattle.gate_queue.specs.Views.{as_taker, with_joined, seats_from, AreSeats}
+use Rattle.gate_queue.specs.Views.{as_taker}
+use Rattle.gate_queue.specs.Inner.Views.{with_joined, seats_from, AreSeats}
 use Rattle.gate_queue.specs.Tagged.{values_of}
 use Rattle.gate_queue.specs.FreeViews.{seat_with}
 use Rattle.gate_queue.proofs.Values.{values_of-append}

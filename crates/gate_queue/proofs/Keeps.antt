@@ -10,8 +10,9 @@ use Rattle.gate_queue.specs.declared.known.Known.{Known}
 use Rattle.gate_queue.specs.declared.known.Known.TheVariants.{Sender, Taker, Nothing}
 use Rattle.gate_queue.specs.Tagged.{values_of}
 use Rattle.gate_queue.specs.States.{AreFrom}
-use Rattle.gate_queue.specs.Views.{with_more}
-use Rattle.gate_queue.specs.Sharing.{IsSender, IsTaker, Fits, Shares, newcomer, HasPut, HasTaken, HasTakenAll, CanWait, SenderAllows, TakerAllows, joined_number}
+use Rattle.gate_queue.specs.Inner.Views.{with_more}
+use Rattle.gate_queue.specs.Sharing.{IsSender, IsTaker, Fits, Shares, joined_number}
+use Rattle.gate_queue.specs.Inner.Sharing.{newcomer, HasPut, HasTaken, HasTakenAll, CanWait, SenderAllows, TakerAllows}
 use Rattle.gate_queue.proofs.Values.{values_of-same, values_of-other}
 use Rattle.gate_queue.proofs.Views.{each_set, each_snoc}
 

@@ -2,8 +2,9 @@
 use Rattle.std.proofs.Common.{◌≡◌, ℕ, zero, suc, ◌<◌, List, [], ◌∷◌, ◌++◌, length, arith, get_or, subst, sym, ap, ◌∙◌}
 use Rattle.gate_queue.specs.Seats.{QueueId, SenderSeat}
 use Rattle.gate_queue.specs.declared.known.Known.{Known}
-use Rattle.gate_queue.specs.Sharing.{next_sender, opening}
-use Rattle.gate_queue.specs.Views.{AreNew, new_seat, sender_at}
+use Rattle.gate_queue.specs.Inner.Sharing.{next_sender, opening}
+use Rattle.gate_queue.specs.Views.{sender_at}
+use Rattle.gate_queue.specs.Inner.Views.{AreNew, new_seat}
 
 -- a fact of each place stays when one comes
 pub longer : {A : Type 0} (d : A) (G : ℕ → A → Type 0) (xs : List A) (x : A) → ((s : ℕ) → s < length xs → G s (get_or xs s d)) → G (length xs) x

@@ -9,9 +9,10 @@ use Rattle.gate_queue.specs.declared.known.Got.{Got}
 use Rattle.gate_queue.specs.declared.known.Known.{Known}
 use Rattle.gate_queue.specs.declared.known.Known.TheVariants.{Sender, Taker, Nothing}
 use Rattle.gate_queue.specs.Tagged.{values_of}
-use Rattle.gate_queue.specs.Sharing.{IsSender, IsTaker, Fits, Shares, joined_number, planned, nothing, seated, next_sender, joined}
-use Rattle.gate_queue.specs.FreeSharing.{parted, first_joined}
-use Rattle.gate_queue.specs.Views.{with_joined}
+use Rattle.gate_queue.specs.Sharing.{IsSender, IsTaker, Fits, Shares, joined_number, joined}
+use Rattle.gate_queue.specs.Inner.Sharing.{planned, nothing, seated, next_sender}
+use Rattle.gate_queue.specs.Inner.FreeSharing.{parted, first_joined}
+use Rattle.gate_queue.specs.Inner.Views.{with_joined}
 use Rattle.crossbeam_queue.proofs.Lists.{set_else}
 use Rattle.gate_queue.proofs.Views.{Each, each_set, each_snoc}
 

@@ -12,8 +12,10 @@ use Rattle.gate_queue.specs.declared.known.Known.TheVariants.{Taker, Nothing}
 use Rattle.gate_queue.specs.Tagged.{values_of}
 use Rattle.gate_queue.specs.Seats.{QueueId, QueueName, SenderSeat}
 use Rattle.gate_queue.specs.States.{AreFrom, IsDelivered}
-use Rattle.gate_queue.specs.Sharing.{Shares, HasTaken, CanWait, TakerAllows, joined_number, took, joined}
-use Rattle.gate_queue.specs.Views.{as_sender, with_joined, with_more, AreSeats, KnowsSender}
+use Rattle.gate_queue.specs.Sharing.{Shares, joined_number, joined}
+use Rattle.gate_queue.specs.Inner.Sharing.{HasTaken, CanWait, TakerAllows, took}
+use Rattle.gate_queue.specs.Views.{as_sender, KnowsSender}
+use Rattle.gate_queue.specs.Inner.Views.{with_joined, with_more, AreSeats}
 use Rattle.gate_queue.proofs.Values.{values_of-append}
 use Rattle.gate_queue.proofs.Counts.{same_length, values_of-beyond}
 use Rattle.gate_queue.proofs.Parts.{joins}

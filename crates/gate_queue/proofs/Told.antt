@@ -10,7 +10,8 @@ use Rattle.gate_queue.specs.declared.known.Known.TheVariants.{Sender, Taker}
 use Rattle.gate_queue.specs.Tagged.{values_of}
 use Rattle.gate_queue.specs.Seats.{QueueId, Shape, SenderSeat, TakerSeat, IsTailOf, IsHeadOf}
 use Rattle.gate_queue.specs.States.{AreFrom, MayBeFull, MayBeEmpty}
-use Rattle.gate_queue.specs.Sharing.{Shares, HasPut, HasTaken, CanWait, SenderAllows, TakerAllows}
+use Rattle.gate_queue.specs.Sharing.{Shares}
+use Rattle.gate_queue.specs.Inner.Sharing.{HasPut, HasTaken, CanWait, SenderAllows, TakerAllows}
 use Rattle.gate_queue.specs.Views.{as_sender, as_taker, sender_at, taker_at, KnowsSender, KnowsTaker}
 use Rattle.gate_queue.proofs.Values.{values_of-append, length-values_of-only}
 use Rattle.gate_queue.proofs.Keeps.{puts, takes, learns}

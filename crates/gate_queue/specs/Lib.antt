@@ -1,9 +1,9 @@
-pub mod Tagged
-pub mod Sharing
-pub mod Seats
-pub mod States
-pub mod Views
-pub mod FreeSharing
-pub mod FreeViews
 pub mod Batches
+pub mod FreeViews
+pub mod Inner
 pub mod Laws
+pub mod Seats
+pub mod Sharing
+pub mod States
+pub mod Tagged
+pub mod Views

@@ -43,7 +43,8 @@ pub enum Known<T> {
 pub struct Sharing;
 
 impl<T> Protocol<Tagged<T>, Known<T>> for Sharing {
-    ghost use Rattle.gate_queue.specs.Sharing.{Shares, newcomer};
+    ghost use Rattle.gate_queue.specs.Sharing.{Shares};
+    ghost use Rattle.gate_queue.specs.Inner.Sharing.{newcomer};
 
     ghost holds = { Shares };
 
@@ -54,13 +55,13 @@ impl<T> Protocol<Tagged<T>, Known<T>> for Sharing {
 pub struct Puts;
 
 impl<T> Outcome<Tagged<T>, Known<T>> for Puts {
-    ghost use Rattle.gate_queue.specs.Sharing.{HasPut};
+    ghost use Rattle.gate_queue.specs.Inner.Sharing.{HasPut};
 
     ghost then = { HasPut };
 }
 
 impl<T> Lesson<Tagged<T>, Known<T>> for Puts {
-    ghost use Rattle.gate_queue.specs.Sharing.{CanWait};
+    ghost use Rattle.gate_queue.specs.Inner.Sharing.{CanWait};
 
     ghost fact = { CanWait };
 }
@@ -69,19 +70,19 @@ impl<T> Lesson<Tagged<T>, Known<T>> for Puts {
 pub struct Takes;
 
 impl<T> Outcome<Tagged<T>, Known<T>> for Takes {
-    ghost use Rattle.gate_queue.specs.Sharing.{HasTaken};
+    ghost use Rattle.gate_queue.specs.Inner.Sharing.{HasTaken};
 
     ghost then = { HasTaken };
 }
 
 impl<T> Outcomes<Tagged<T>, Known<T>> for Takes {
-    ghost use Rattle.gate_queue.specs.Sharing.{HasTakenAll};
+    ghost use Rattle.gate_queue.specs.Inner.Sharing.{HasTakenAll};
 
     ghost then_all = { HasTakenAll };
 }
 
 impl<T> Lesson<Tagged<T>, Known<T>> for Takes {
-    ghost use Rattle.gate_queue.specs.Sharing.{CanWait};
+    ghost use Rattle.gate_queue.specs.Inner.Sharing.{CanWait};
 
     ghost fact = { CanWait };
 }
@@ -90,7 +91,7 @@ impl<T> Lesson<Tagged<T>, Known<T>> for Takes {
 pub struct Plans;
 
 impl<T> Split<Known<T>> for Plans {
-    ghost use Rattle.gate_queue.specs.Sharing.{planned, nothing};
+    ghost use Rattle.gate_queue.specs.Inner.Sharing.{planned, nothing};
 
     ghost left = { planned };
 
@@ -101,7 +102,7 @@ impl<T> Split<Known<T>> for Plans {
 pub struct Seats;
 
 impl<T> Split<Known<T>> for Seats {
-    ghost use Rattle.gate_queue.specs.Sharing.{seated, next_sender};
+    ghost use Rattle.gate_queue.specs.Inner.Sharing.{seated, next_sender};
 
     ghost left = { seated };
 

@@ -3,8 +3,8 @@ ghost use Rattle.std.specs.Prelude.{◌≡◌, ◌≤◌, ◌↔◌, [], All, If
 ghost use Rattle.std.specs.Vec.{vec_capacity};
 ghost use Rattle.crossbeam_queue.specs.Passes.{view, IsPassOf};
 ghost use Rattle.gate_queue.specs.Seats.{in_table, IsHeadOf, AreAllTailsOf};
-ghost use Rattle.gate_queue.specs.Sharing.{opening};
-ghost use Rattle.gate_queue.specs.Views.{AreNew};
+ghost use Rattle.gate_queue.specs.Inner.Sharing.{opening};
+ghost use Rattle.gate_queue.specs.Inner.Views.{AreNew};
 
 use crate::fault::OpenFault;
 use crate::known::{Places, Plans, Right, Seats};

@@ -5,7 +5,8 @@ ghost use Rattle.crossbeam_queue.specs.Passes.{view, IsPassOf, ruled_capacity};
 ghost use Rattle.gate_queue.specs.Seats.{in_table, IsHeadOf, AreAllTailsOf, AreTailsOf};
 ghost use Rattle.gate_queue.specs.States.{AreFrom, IsDelivered};
 ghost use Rattle.gate_queue.specs.declared.known.Known.TheVariants.{Taker};
-ghost use Rattle.gate_queue.specs.Views.{as_taker, with_joined, IsTakerRight, AreSeats};
+ghost use Rattle.gate_queue.specs.Views.{as_taker, IsTakerRight};
+ghost use Rattle.gate_queue.specs.Inner.Views.{with_joined, AreSeats};
 
 use crate::fault::Unsettled;
 use crate::known::{Joins, Places, Right, Takes};

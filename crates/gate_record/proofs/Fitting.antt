@@ -9,7 +9,7 @@ use Rattle.json.proofs.Printed.Trees.{value-json_tokens}
 use Rattle.json.proofs.Unique.Spelling.{tokens-document, value-json_tokens_back}
 use Rattle.serde_json.specs.Data.{Data, number, array, object, Items, item, Members, no_members, put}
 use Rattle.serde_json.specs.Read.{max_depth, number_of, of_json, of_items, of_members, read}
-use Rattle.gate_record.specs.Tapes.{fit}
+use Rattle.gate_record.specs.Inner.Tapes.{fit}
 use Rattle.gate_record.proofs.Found.{mapped, chained}
 
 both : (x y : Bool) → (x && y) ≡ true → (x ≡ true) × (y ≡ true)

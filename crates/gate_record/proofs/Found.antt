@@ -14,7 +14,7 @@ use Rattle.serde_json.specs.Read.{number_of, of_json, of_items, of_members}
 use Rattle.serde_json.proofs.Views.{get_member-put, get_member-put_other}
 use Rattle.gate_record.specs.Json.{at_path, items_in}
 use Rattle.gate_record.specs.Numbers.{number_in, number_of as gate_number}
-use Rattle.gate_record.specs.Tapes.{AreOf, Begins, Finds, Follows, GoesOn, Lists, items_of}
+use Rattle.gate_record.specs.Inner.Tapes.{AreOf, Begins, Finds, Follows, GoesOn, Lists, items_of}
 
 -- ---- what comes of an option
 

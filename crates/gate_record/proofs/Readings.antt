@@ -11,7 +11,7 @@ use Rattle.serde_json.specs.Find.{as_object}
 use Rattle.serde_json.specs.Read.{number_of, of_json, of_items, of_members}
 use Rattle.gate_record.specs.Json.{text_at}
 use Rattle.gate_record.specs.Reading.{reading_of_object, reading_of_value}
-use Rattle.gate_record.specs.Tapes.{Begins}
+use Rattle.gate_record.specs.Inner.Tapes.{Begins}
 use Rattle.gate_record.specs.declared.reading.Reading.TheVariants as reading
 use Rattle.gate_record.specs.declared.reading.Why.TheVariants as why
 use Rattle.gate_record.proofs.Found.{mapped}

@@ -2,7 +2,7 @@ pub mod Approvals
 pub mod Characters
 pub mod Entries
 pub mod Events
-pub mod Fields
+pub mod Inner
 pub mod Json
 pub mod Limits
 pub mod Lines
@@ -10,4 +10,3 @@ pub mod Names
 pub mod Numbers
 pub mod Prefixes
 pub mod Reading
-pub mod Tapes

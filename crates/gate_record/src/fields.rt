@@ -4,9 +4,9 @@ ghost use Rattle.std.specs.List.{filter_map};
 ghost use Rattle.serde_json.specs.Data.{Data};
 ghost use Rattle.serde_json.specs.Find.{get};
 ghost use Rattle.gate_record.specs.Approvals.{approval_of, approvals_of};
-ghost use Rattle.gate_record.specs.Fields.{AreFields, account_in, label_of, labelled};
+ghost use Rattle.gate_record.specs.Inner.Fields.{AreFields, account_in, label_of, labelled};
 ghost use Rattle.gate_record.specs.Reading.{account_of, event_of, project_of};
-ghost use Rattle.gate_record.specs.Tapes.{Begins, Finds, GoesOn};
+ghost use Rattle.gate_record.specs.Inner.Tapes.{Begins, Finds, GoesOn};
 ghost use Rattle.gate_record.specs.Limits.{most_approvals};
 
 use crate::approvals::{MAX_APPROVALS, category};

@@ -2,7 +2,7 @@
 ghost use Rattle.std.specs.Prelude.{◌≡◌, ◌∷◌, List, map, false, MatchOption};
 ghost use Rattle.json.specs.Tape.{node_token};
 ghost use Rattle.json.specs.Token.{Token};
-ghost use Rattle.gate_record.specs.Tapes.{fit};
+ghost use Rattle.gate_record.specs.Inner.Tapes.{fit};
 
 use crate::numeral::is_taken;
 use json::Node;

@@ -4,7 +4,7 @@ ghost use Rattle.serde_json.specs.Data.{Data};
 ghost use Rattle.serde_json.specs.Find.{as_i64, as_number, as_str, get};
 ghost use Rattle.gate_record.specs.Json.{items_at, number_at, text_at};
 ghost use Rattle.gate_record.specs.Numbers.{number_of};
-ghost use Rattle.gate_record.specs.Tapes.{Begins, Finds, Follows, GoesOn, Lists, items_of};
+ghost use Rattle.gate_record.specs.Inner.Tapes.{Begins, Finds, Follows, GoesOn, Lists, items_of};
 
 use crate::number::number_of_text;
 use crate::numeral::integer;

@@ -7,7 +7,7 @@ ghost use Rattle.serde_json.specs.Read.{read};
 ghost use Rattle.gate_record.specs.Json.{json_of};
 ghost use Rattle.gate_record.specs.Lines.{IsLine};
 ghost use Rattle.gate_record.specs.Reading.{reading_of, reading_of_json, reading_of_value};
-ghost use Rattle.gate_record.specs.Tapes.{Begins};
+ghost use Rattle.gate_record.specs.Inner.Tapes.{Begins};
 
 use crate::fields::event;
 use crate::limits::fit;

@@ -5,8 +5,6 @@ use Rattle.regex.specs.Failures.{IsPattern}
 use Rattle.regex.specs.Strings.{regex_config, IsReadFromSource}
 use Rattle.regex.specs.Patterns.{default_config}
 use Rattle.regex_syntax.specs.Grammar.{read}
-use Rattle.gate_rule.specs.declared.pattern.BuildFault.{BuildFault}
-use Rattle.gate_rule.specs.declared.pattern.BuildFault.TheVariants as build
 use Rattle.gate_rule.specs.declared.pattern.PatternFault.{PatternFault}
 use Rattle.gate_rule.specs.declared.pattern.PatternFault.TheVariants as fault
 
@@ -27,12 +25,6 @@ IsRead text = IsPattern default_config text
 -- `regex` refuses the text: its grammar doesn't read it, or does, and what is built of it is too large
 abbrev pub IsRefused : List ℕ → Type 0
 IsRefused text = IsUnread text ⊎ IsRead text
-
--- What is known of a text that isn't built. How large is too large `regex` says by a number of bytes, and no definition.
-abbrev pub IsNotBuilt : List ℕ → BuildFault → Type 0
-IsNotBuilt text build.Memory = Unit {0}
-IsNotBuilt text build.Unread = IsUnread text
-IsNotBuilt text build.TooLarge = IsRead text
 
 -- the same of a text that is no pattern
 abbrev pub IsNoPattern : List ℕ → PatternFault → Type 0

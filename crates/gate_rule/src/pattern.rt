@@ -1,6 +1,7 @@
 ghost use Rattle.std.specs.Prelude.{◌≡◌, IfErr, IfOk};
 ghost use Rattle.regex.specs.Strings.{regex_source};
-ghost use Rattle.gate_rule.specs.Built.{IsNoPattern, IsNotBuilt, IsReadByDefault};
+ghost use Rattle.gate_rule.specs.Built.{IsNoPattern, IsReadByDefault};
+ghost use Rattle.gate_rule.specs.Inner.Built.{IsNotBuilt};
 
 use crate::matcher::Matcher;
 use gate_record::{Memory, Shared};

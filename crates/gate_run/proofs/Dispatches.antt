@@ -15,8 +15,9 @@ use Rattle.gate_tenant.specs.Histories.{EachGetsItsOwn, NothingIsLost, beginning
 use Rattle.gate_tenant.specs.States.{State, config_of, first_state, has_ended, matched, moved_out, put_back, room_of, state_of, tenant_of}
 use Rattle.gate_queue.specs.declared.tagged.Tagged.{Tagged}
 use Rattle.gate_queue.specs.Seats.{IsHeadOf, SenderSeat, Shape, TakerSeat}
-use Rattle.gate_run.specs.Dispatchers.{GivenInOrder, HasDispatched, IsDispatching}
-use Rattle.gate_run.specs.Seats.{PutAt, fresh_head, fresh_tail, seat_in, seat_of, values}
+use Rattle.gate_run.specs.Inner.Dispatchers.{GivenInOrder, HasDispatched, IsDispatching}
+use Rattle.gate_run.specs.Seats.{fresh_head, fresh_tail, values}
+use Rattle.gate_run.specs.Inner.Seats.{PutAt, seat_in, seat_of}
 use Rattle.gate_run.proofs.Seated.{fresh_put, fresh_seats, values_more}
 
 module _ {config : Config} {t : ℕ} {d : Dispatch} {head : TakerSeat TenantItem} {tails : List (SenderSeat PipelineItem)} (d' : Dispatch) (head' : TakerSeat TenantItem) (tails' : List (SenderSeat PipelineItem))

@@ -14,11 +14,12 @@ use Rattle.gate_run.specs.declared.reader.ReaderEnd.{ReaderEnd}
 use Rattle.gate_run.specs.declared.worker.Worker.{Worker}
 use Rattle.gate_run.specs.declared.worker.WorkerEnd.{WorkerEnd}
 use Rattle.gate_source.specs.Feeds.{Told}
-use Rattle.gate_run.specs.Lists.{EachAt, Pairwise}
+use Rattle.gate_run.specs.Lists.{Pairwise}
+use Rattle.gate_run.specs.Inner.Lists.{EachAt}
 use Rattle.gate_run.specs.Ports.{InboxEnds}
-use Rattle.gate_run.specs.Seatings.{AreWorkersOf, IsDispatcherOf, IsForwarderOf, IsReaderOf}
-use Rattle.gate_run.specs.Stages.{AreLanesSettled, IsStageSettled}
-use Rattle.gate_run.specs.Works.{Dispatched, Forwarded, Read, Worked}
+use Rattle.gate_run.specs.Inner.Seatings.{AreWorkersOf, IsDispatcherOf, IsForwarderOf, IsReaderOf}
+use Rattle.gate_run.specs.Inner.Stages.{AreLanesSettled, IsStageSettled}
+use Rattle.gate_run.specs.Inner.Works.{Dispatched, Forwarded, Read, Worked}
 
 pub record Evidence {F : Type 0} (G : Type 0) (config : Config) (to_come : F → Told) (faults : F → ℕ) (feeds : List F) (inbox : List (List InboxEnds)) (cell : ℕ) : Type 0 where
   pub records : List Shape

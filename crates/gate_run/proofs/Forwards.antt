@@ -16,8 +16,9 @@ use Rattle.gate_forward.specs.Histories.{EachTenantGetsItsOwn, beginning, begins
 use Rattle.gate_queue.specs.declared.tagged.Tagged.{Tagged}
 use Rattle.gate_queue.specs.Seats.{IsHeadOf, SenderSeat, Shape, TakerSeat}
 use Rattle.gate_run.specs.declared.forwarder.Forwarding.{Forwarding}
-use Rattle.gate_run.specs.Forwarders.{HasForwarded, IsForwarding, PutInOrder}
-use Rattle.gate_run.specs.Seats.{PutAt, fresh_head, fresh_tail, seat_in, seat_of, values}
+use Rattle.gate_run.specs.Inner.Forwarders.{HasForwarded, IsForwarding, PutInOrder}
+use Rattle.gate_run.specs.Seats.{fresh_head, fresh_tail, values}
+use Rattle.gate_run.specs.Inner.Seats.{PutAt, seat_in, seat_of}
 use Rattle.gate_run.proofs.Seated.{fresh_put, fresh_seats, taken_more}
 
 module _ {config : Config} {c : ℕ} {f : Forwarding} (f' : Forwarding) (was : IsForwarding config c f) where

@@ -11,15 +11,16 @@ use Rattle.gate_run.specs.declared.putting.PassedOn.{PassedOn}
 use Rattle.gate_run.specs.declared.reader.Reader.{Reader}
 use Rattle.gate_run.specs.declared.reader.ReaderEnd.{ReaderEnd}
 use Rattle.gate_run.specs.declared.worker.WorkerEnd.{WorkerEnd}
-use Rattle.gate_run.specs.Dispatchers.{HasDispatched}
+use Rattle.gate_run.specs.Inner.Dispatchers.{HasDispatched}
 use Rattle.gate_source.specs.Feeds.{Told}
-use Rattle.gate_run.specs.Forwarders.{HasForwarded}
-use Rattle.gate_run.specs.Lists.{Pairwise, Threes}
+use Rattle.gate_run.specs.Inner.Forwarders.{HasForwarded}
+use Rattle.gate_run.specs.Lists.{Pairwise}
+use Rattle.gate_run.specs.Inner.Lists.{Threes}
 use Rattle.gate_run.specs.Ports.{InboxEnds, at_pipeline}
-use Rattle.gate_run.specs.Seatings.{AreWorkersOf, IsDispatcherOf, IsForwarderOf, IsWorkerOf}
-use Rattle.gate_run.specs.Seats.{seat_in, seat_of}
-use Rattle.gate_run.specs.Workers.{HasWorked}
-use Rattle.gate_run.specs.Works.{Dispatched, Forwarded, Read, Worked}
+use Rattle.gate_run.specs.Inner.Seatings.{AreWorkersOf, IsDispatcherOf, IsForwarderOf, IsWorkerOf}
+use Rattle.gate_run.specs.Inner.Seats.{seat_in, seat_of}
+use Rattle.gate_run.specs.Inner.Workers.{HasWorked}
+use Rattle.gate_run.specs.Inner.Works.{Dispatched, Forwarded, Read, Worked}
 use Rattle.gate_run.proofs.Evidence.{Evidence}
 use Rattle.gate_run.proofs.Places.{at_here, beside_of, each_alike, each_here, the_same}
 use Rattle.gate_run.proofs.Seatings.{here_mapped}

@@ -1,7 +1,8 @@
 -- What holds of elements at their places.
 use Rattle.std.proofs.Common.{◌≡◌, ◌∙◌, refl, sym, ap, subst, ℕ, zero, suc, ◌+◌, ◌<◌, List, [], ◌∷◌, ◌++◌, length, map, Some, get_or, drop, arith}
 use Rattle.std.specs.Prelude.{All, slice_get}
-use Rattle.gate_run.specs.Lists.{Each, EachAt, Pairwise}
+use Rattle.gate_run.specs.Lists.{Pairwise}
+use Rattle.gate_run.specs.Inner.Lists.{Each, EachAt}
 
 pub head_same : {X : Type 0} (x y : X) (xs ys : List X) → x ∷ xs ≡ y ∷ ys → x ≡ y
 head_same x y xs ys e = ap (λ l. get_or l 0 x) e

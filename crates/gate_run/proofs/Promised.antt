@@ -38,15 +38,17 @@ use Rattle.gate_run.specs.declared.reader.ReaderEnd.{ReaderEnd}
 use Rattle.gate_run.specs.declared.worker.Worker.{Worker}
 use Rattle.gate_run.specs.declared.worker.WorkerEnd.{WorkerEnd}
 use Rattle.gate_source.specs.Feeds.{Told}
-use Rattle.gate_run.specs.Lists.{Each, EachAt}
+use Rattle.gate_run.specs.Inner.Lists.{Each, EachAt}
 use Rattle.gate_run.specs.Ports.{InboxEnds, InboxView, at_pipeline, pipeline_counts}
 use Rattle.gate_run.specs.Readers.{Means, is_closed}
-use Rattle.gate_run.specs.Seats.{seat_in, seat_of, values}
-use Rattle.gate_run.specs.Seatings.{AreWorkersOf, IsReaderOf}
-use Rattle.gate_run.specs.Gatherings.{inbox_back, knows_as_much, report_of_pipeline, report_of_reader}
+use Rattle.gate_run.specs.Seats.{values}
+use Rattle.gate_run.specs.Inner.Seats.{seat_in, seat_of}
+use Rattle.gate_run.specs.Inner.Seatings.{AreWorkersOf, IsReaderOf}
+use Rattle.gate_run.specs.Gatherings.{report_of_pipeline}
+use Rattle.gate_run.specs.Inner.Gatherings.{inbox_back, knows_as_much, report_of_reader}
 use Rattle.gate_run.specs.Serving.{Delivers, HasEnded, HasProcessed, HaveEnded, Serves, lines_of}
-use Rattle.gate_run.specs.Stages.{IsStageSettled}
-use Rattle.gate_run.specs.Works.{Read, Worked}
+use Rattle.gate_run.specs.Inner.Stages.{IsStageSettled}
+use Rattle.gate_run.specs.Inner.Works.{Read, Worked}
 use Rattle.gate_run.proofs.Composed.{OfSenders, of_senders, taken_own, way_of}
 use Rattle.gate_run.proofs.Evidence.{Evidence}
 use Rattle.gate_run.proofs.Found.{ForwarderAt, LinesOf, There, WorkerAt, alike_here, all_lines, dispatcher_at, find_lines, forwarder_at, from, lines_count, row_of, seat_at, there, three_here, worker_at}

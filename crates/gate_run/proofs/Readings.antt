@@ -12,9 +12,11 @@ use Rattle.gate_core.specs.declared.report.EndCause.{EndCause}
 use Rattle.gate_core.specs.declared.report.EndCause.TheVariants.{Unclosed, Ended, Stopped, Failed, Memory}
 use Rattle.gate_core.specs.Ways.{mark}
 use Rattle.gate_source.specs.declared.feed.FeedStep.TheVariants as step
-use Rattle.gate_source.specs.Feeds.{AreAll, AreFirst, Leaves, Steps, Told}
-use Rattle.gate_run.specs.Readers.{Closes, CutsShort, HasRead, IsReading, Means, is_closed}
-use Rattle.gate_run.specs.Seats.{seat_of}
+use Rattle.gate_source.specs.Feeds.{AreAll, AreFirst, Steps, Told}
+use Rattle.gate_source.specs.Inner.Feeds.{Leaves}
+use Rattle.gate_run.specs.Readers.{Means, is_closed}
+use Rattle.gate_run.specs.Inner.Readers.{Closes, CutsShort, HasRead, IsReading}
+use Rattle.gate_run.specs.Inner.Seats.{seat_of}
 
 leaves_first : (before mid : Told) (lines : List Record) → Leaves before lines mid → AreFirst lines before
 leaves_first None mid lines left = tt

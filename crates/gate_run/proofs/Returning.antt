@@ -18,11 +18,12 @@ use Rattle.gate_run.specs.declared.reader.ReaderEnd.{ReaderEnd}
 use Rattle.gate_run.specs.declared.worker.Worker.{Worker}
 use Rattle.gate_run.specs.declared.worker.WorkerEnd.{WorkerEnd}
 use Rattle.gate_source.specs.Feeds.{Told}
-use Rattle.gate_run.specs.Lists.{Each, EachAt, Pairwise}
+use Rattle.gate_run.specs.Lists.{Pairwise}
+use Rattle.gate_run.specs.Inner.Lists.{Each, EachAt}
 use Rattle.gate_run.specs.Ports.{InboxEnds}
-use Rattle.gate_run.specs.Seatings.{AreWorkersOf, IsDispatcherOf, IsForwarderOf, IsReaderOf, IsWorkerOf}
-use Rattle.gate_run.specs.Seats.{seat_in, seat_of}
-use Rattle.gate_run.specs.Works.{Dispatched, Forwarded, Read, Worked}
+use Rattle.gate_run.specs.Inner.Seatings.{AreWorkersOf, IsDispatcherOf, IsForwarderOf, IsReaderOf, IsWorkerOf}
+use Rattle.gate_run.specs.Inner.Seats.{seat_in, seat_of}
+use Rattle.gate_run.specs.Inner.Works.{Dispatched, Forwarded, Read, Worked}
 use Rattle.gate_run.proofs.Places.{as_many, at_here, beside_of, the_same}
 use Rattle.gate_run.proofs.Seatings.{number_here}
 use Rattle.gate_run.proofs.Staged.{range_length}

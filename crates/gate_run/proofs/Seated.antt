@@ -3,7 +3,8 @@ use Rattle.std.proofs.Common.{◌≡◌, ◌∙◌, refl, sym, ap, ℕ, zero, su
 use Rattle.std.specs.Option.{option_to_list}
 use Rattle.gate_queue.specs.declared.tagged.Tagged.{Tagged}
 use Rattle.gate_queue.specs.Seats.{QueueName, SenderSeat, Shape}
-use Rattle.gate_run.specs.Seats.{fresh_tail, seat_in, seat_of, values}
+use Rattle.gate_run.specs.Seats.{fresh_tail, values}
+use Rattle.gate_run.specs.Inner.Seats.{seat_in, seat_of}
 
 pub map_map : {A B C : Type 0} (f : B → C) (g : A → B) (xs : List A) → map f (map g xs) ≡ map (λ x. f (g x)) xs
 map_map f g [] = refl

@@ -15,9 +15,9 @@ use Rattle.gate_run.specs.declared.dispatcher.Dispatcher.{Dispatcher}
 use Rattle.gate_run.specs.declared.forwarder.Forwarder.{Forwarder}
 use Rattle.gate_run.specs.declared.reader.Reader.{Reader}
 use Rattle.gate_run.specs.declared.worker.Worker.{Worker}
-use Rattle.gate_run.specs.Lists.{EachAt}
+use Rattle.gate_run.specs.Inner.Lists.{EachAt}
 use Rattle.gate_run.specs.Ports.{InboxEnds}
-use Rattle.gate_run.specs.Seatings.{IsDispatcherOf, IsForwarderOf, IsReaderOf, IsWorkerOf}
+use Rattle.gate_run.specs.Inner.Seatings.{IsDispatcherOf, IsForwarderOf, IsReaderOf, IsWorkerOf}
 use Rattle.gate_run.specs.Seats.{fresh_head, fresh_tail}
 use Rattle.gate_run.proofs.Paired.{map_length}
 use Rattle.gate_run.proofs.Places.{at_more, the_same}

@@ -6,10 +6,11 @@ use Rattle.std.proofs.lemmas.List.{map-append}
 use Rattle.gate_queue.specs.declared.tagged.Tagged.{Tagged}
 use Rattle.gate_queue.specs.Seats.{AreAllTailsOf, IsTailOf, QueueName, SenderSeat, Shape, TakerSeat}
 use Rattle.gate_queue.specs.States.{AreFrom, IsDelivered}
-use Rattle.gate_run.specs.Lists.{Each, EachAt}
-use Rattle.gate_run.specs.Seats.{fresh_tail, seat_in, seat_of}
-use Rattle.gate_run.specs.Stages.{AreLanesSettled, AreSettled, IsSettled, IsStageSettled, seats_in}
-use Rattle.gate_run.specs.Tables.{dealt, dealt_all, empties}
+use Rattle.gate_run.specs.Inner.Lists.{Each, EachAt}
+use Rattle.gate_run.specs.Seats.{fresh_tail}
+use Rattle.gate_run.specs.Inner.Seats.{seat_in, seat_of}
+use Rattle.gate_run.specs.Inner.Stages.{AreLanesSettled, AreSettled, IsSettled, IsStageSettled, seats_in}
+use Rattle.gate_run.specs.Inner.Tables.{dealt, dealt_all, empties}
 use Rattle.gate_run.proofs.Paired.{map_length}
 use Rattle.gate_run.proofs.Places.{at_here, each_here, each_of_all, head_same, tail_same, the_same}
 use Rattle.gate_run.proofs.Seated.{map_map}

@@ -2,8 +2,8 @@
 use Rattle.std.proofs.Common.{◌≡◌, ◌∙◌, refl, sym, ap, ℕ, zero, suc, ◌+◌, List, [], ◌∷◌, ◌++◌, length, map, arith, append-nil, append_assoc}
 use Rattle.std.specs.List.{range_with_len}
 use Rattle.std.proofs.lemmas.List.{map-append}
-use Rattle.gate_run.specs.Lists.{Each, EachAt}
-use Rattle.gate_run.specs.Tables.{dealt, dealt_all, empties}
+use Rattle.gate_run.specs.Inner.Lists.{Each, EachAt}
+use Rattle.gate_run.specs.Inner.Tables.{dealt, dealt_all, empties}
 use Rattle.gate_run.proofs.Places.{each_last}
 
 pub map_same : {A B : Type 0} (f g : A → B) → ((x : A) → f x ≡ g x) → (xs : List A) → map f xs ≡ map g xs

@@ -14,13 +14,13 @@ use Rattle.gate_run.specs.declared.queues.QueueSeats.{QueueSeats}
 use Rattle.gate_run.specs.declared.queues.Queues.{Queues}
 use Rattle.gate_run.specs.declared.reader.Reader.{Reader}
 use Rattle.gate_source.specs.Feeds.{Told}
-use Rattle.gate_run.specs.Lists.{Each}
+use Rattle.gate_run.specs.Inner.Lists.{Each}
 use Rattle.gate_run.specs.Ports.{InboxEnds}
-use Rattle.gate_run.specs.Queues.{AreOpen}
-use Rattle.gate_run.specs.Seatings.{IsReaderOf}
-use Rattle.gate_run.specs.Seats.{seat_in, seat_of}
-use Rattle.gate_run.specs.Stages.{AreLanesSettled, IsStageSettled}
-use Rattle.gate_run.specs.Works.{Forwarded, HaveRun}
+use Rattle.gate_run.specs.Inner.Queues.{AreOpen}
+use Rattle.gate_run.specs.Inner.Seatings.{IsReaderOf}
+use Rattle.gate_run.specs.Inner.Seats.{seat_in, seat_of}
+use Rattle.gate_run.specs.Inner.Stages.{AreLanesSettled, IsStageSettled}
+use Rattle.gate_run.specs.Inner.Works.{Forwarded, HaveRun}
 use Rattle.gate_run.proofs.Evidence.{Evidence}
 use Rattle.gate_run.proofs.Paired.{map_length}
 use Rattle.gate_run.proofs.Places.{as_many}

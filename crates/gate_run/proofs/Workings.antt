@@ -12,7 +12,8 @@ use Rattle.gate_pipeline.specs.States.{MayBeRefused, Processed, State, asked, fi
 use Rattle.gate_queue.specs.declared.tagged.Tagged.{Tagged}
 use Rattle.gate_queue.specs.Seats.{TakerSeat, with_taken}
 use Rattle.gate_run.specs.declared.worker.Working.{Working}
-use Rattle.gate_run.specs.Workers.{HasWorked, IsWorking, MayProcess, TookMore}
+use Rattle.gate_run.specs.Workers.{TookMore}
+use Rattle.gate_run.specs.Inner.Workers.{HasWorked, IsWorking, MayProcess}
 
 module _ {T : Type 0} where
   pub took_none : (before now : TakerSeat T) → now ≡ before → TookMore before [] now

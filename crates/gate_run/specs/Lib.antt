@@ -1,16 +1,9 @@
-pub mod Dispatchers
-pub mod Forwarders
 pub mod Gatherings
+pub mod Inner
 pub mod Lists
 pub mod PipelineEnds
 pub mod Ports
-pub mod Queues
 pub mod Readers
-pub mod Seatings
 pub mod Seats
 pub mod Serving
-pub mod Stages
-pub mod Steps
-pub mod Tables
 pub mod Workers
-pub mod Works

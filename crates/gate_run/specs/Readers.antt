@@ -1,23 +1,11 @@
 -- What a reader does.
-use Rattle.std.specs.Prelude.{◌≡◌, ◌⊎◌, ◌-◌, ◌<◌, ◌^◌, ◌++◌, ℕ, List, Bool, true, false, is_some, length, if◌then◌else◌}
+use Rattle.std.specs.Prelude.{◌≡◌, ◌-◌, ◌<◌, ℕ, List, Bool, true, false, is_some}
 use Rattle.gate_record.specs.declared.record.Record.{Record}
-use Rattle.gate_record.specs.declared.transit.ConnEntry.{ConnEntry}
-use Rattle.gate_record.specs.declared.transit.ConnEntry.TheVariants as entry
-use Rattle.gate_record.specs.Entries.{entries_of}
-use Rattle.gate_queue.specs.Seats.{SenderSeat, Shape, with_put}
-use Rattle.gate_source.specs.Sources.{HasAccepted, State}
-use Rattle.gate_source.specs.Stops.{IsNoteOf, Note}
+use Rattle.gate_source.specs.Stops.{Note}
 use Rattle.gate_core.specs.declared.report.EndCause.{EndCause}
 use Rattle.gate_core.specs.declared.report.EndCause.TheVariants.{Unclosed, Ended, Stopped, Failed, Memory}
 use Rattle.gate_core.specs.Ways.{mark}
-use Rattle.gate_source.specs.Feeds.{AreAll, AreFirst, Leaves, Told}
-use Rattle.gate_run.specs.Seats.{fresh_tail, seat_of}
-
--- a reader can begin: nothing was put by its seat, its note is one of the cell's, and its feed has answered few faults
-pub record CanRead (queue : Shape) (tail : SenderSeat ConnEntry) (cell : ℕ) (note : Note) (faults : ℕ) : Type 0 where
-  pub not_put : tail ≡ fresh_tail 0 queue
-  pub note_of : IsNoteOf cell note
-  pub few : faults < 2 ^ 64 - 1
+use Rattle.gate_source.specs.Feeds.{AreAll, Told}
 
 -- the end mark is put behind the records
 abbrev pub is_closed : EndCause → Bool
@@ -27,25 +15,6 @@ is_closed Failed = true
 is_closed Memory = false
 is_closed Unclosed = false
 
--- reading is cut short by this: memory was refused somewhere, or a stop was asked for, and the note knows it
-abbrev pub CutsShort : EndCause → Note → Type 0
-CutsShort Memory note = Unit {0}
-CutsShort Stopped note = is_some note.cause ≡ true
-CutsShort Ended note = ⊥
-CutsShort Failed note = ⊥
-CutsShort Unclosed note = ⊥
-
--- a seat was left for a cause, or since memory was refused; behind what was put the end mark stands, but where memory was refused
-pub record Closes (cause : EndCause) (seat : SenderSeat ConnEntry) (cause' : EndCause) (tail : SenderSeat ConnEntry) : Type 0 where
-  pub for_it : (cause' ≡ cause) ⊎ (cause' ≡ Memory)
-  pub left : tail ≡ (if is_closed cause' then with_put seat entry.End else seat)
-
--- A reader at work: it accepted these records, and the rest is still to come
-pub record IsReading (before after : Told) (tail : SenderSeat ConnEntry) (source : State) : Type 0 where
-  pub lines : List Record
-  pub has_accepted : HasAccepted tail source lines
-  pub leaves : Leaves before lines after
-
 -- What each cause of a reader's end says: where the feed ended, all of its records were accepted and none is to come; it answered
 -- a fault; a stop was asked for, and the note knows it.
 abbrev pub Means : EndCause → (before after : Told) → List Record → (faults faults' : ℕ) → Note → Type 0
@@ -54,17 +23,3 @@ Means Failed before after lines faults faults' note = faults < faults'
 Means Stopped before after lines faults faults' note = is_some note.cause ≡ true
 Means Memory before after lines faults faults' note = Unit {0}
 Means Unclosed before after lines faults faults' note = ⊥
-
--- What a reader did, whose feed told these records and had answered so many faults before, and tells those and has answered so
--- many now; by its seat in the connection's queue, before and now; with how many records it counted, the cause of its end, and
--- its note of the stop cell, before and now.
-pub record HasRead (before after : Told) (faults faults' : ℕ) (tail tail' : SenderSeat ConnEntry) (count : ℕ) (cause : EndCause) (note note' : Note) : Type 0 where
-  -- the records that it accepted: the first of those that were to come
-  pub lines : List Record
-  pub first : AreFirst lines before
-  pub counted : count ≡ length lines
-  -- it put them, numbered from 0, and behind them the end mark, but where memory was refused
-  pub put : tail'.put ≡ entries_of lines ++ mark (is_closed cause)
-  pub seat : seat_of tail' ≡ seat_of tail
-  pub means : Means cause before after lines faults faults' note'
-  pub cell : note'.cell ≡ note.cell

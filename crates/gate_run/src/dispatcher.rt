@@ -3,9 +3,9 @@ ghost use Rattle.std.specs.Prelude.{◌≡◌, ◌==◌, ◌+◌, ◌<◌, ◌�
 ghost use Rattle.gate_config.specs.Lookups.{pipelines_of};
 ghost use Rattle.gate_queue.specs.Seats.{IsHeadOf};
 ghost use Rattle.gate_tenant.specs.States.{config_of, has_ended, reserved_of, room_of, state_of, tenant_of};
-ghost use Rattle.gate_run.specs.Dispatchers.{Continues, GivenInOrder, HasDispatched, IsDispatching};
-ghost use Rattle.gate_run.specs.Seats.{seat_of};
-ghost use Rattle.gate_run.specs.Steps.{GoesOn};
+ghost use Rattle.gate_run.specs.Inner.Dispatchers.{Continues, GivenInOrder, HasDispatched, IsDispatching};
+ghost use Rattle.gate_run.specs.Inner.Seats.{seat_of};
+ghost use Rattle.gate_run.specs.Inner.Steps.{GoesOn};
 
 use crate::owed::Owed;
 use crate::putting::{PassedOn, put_at};
@@ -38,7 +38,7 @@ pub(crate) struct Dispatcher<'a> {
 }
 
 impl<'a> Work<PassedOn<FreeHead<TenantItem>, PipelineItem>> for Dispatcher<'a> {
-    ghost use Rattle.gate_run.specs.Dispatchers.{CanDispatch};
+    ghost use Rattle.gate_run.specs.Inner.Dispatchers.{CanDispatch};
 
     ghost ready = { λ w. CanDispatch w.config.now w.tenant.0 w.source.now w.targets.now w.head w.tails.items };
 

@@ -3,9 +3,9 @@ ghost use Rattle.std.specs.Prelude.{◌≡◌, [], length, map, None};
 ghost use Rattle.gate_config.specs.Lookups.{tenants_of};
 ghost use Rattle.gate_forward.specs.Hands.{config_of, conn_of, hand_of};
 ghost use Rattle.gate_queue.specs.Seats.{IsHeadOf};
-ghost use Rattle.gate_run.specs.Forwarders.{HasForwarded, IsForwarding, PutInOrder};
-ghost use Rattle.gate_run.specs.Seats.{seat_of};
-ghost use Rattle.gate_run.specs.Steps.{GoesOn};
+ghost use Rattle.gate_run.specs.Inner.Forwarders.{HasForwarded, IsForwarding, PutInOrder};
+ghost use Rattle.gate_run.specs.Inner.Seats.{seat_of};
+ghost use Rattle.gate_run.specs.Inner.Steps.{GoesOn};
 
 use crate::owed::Owed;
 use crate::putting::{PassedOn, put_at};
@@ -42,7 +42,7 @@ pub(crate) struct Forwarder<'a> {
 }
 
 impl<'a> Work<PassedOn<Head<ConnEntry>, TenantItem>> for Forwarder<'a> {
-    ghost use Rattle.gate_run.specs.Forwarders.{CanForward};
+    ghost use Rattle.gate_run.specs.Inner.Forwarders.{CanForward};
 
     ghost ready = { λ w. CanForward w.config.now w.conn.0 w.source.now w.targets.now w.head w.tails.items };
 

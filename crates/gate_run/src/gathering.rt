@@ -1,8 +1,9 @@
 //! What threads handed back, by what becomes of it.
 ghost use Rattle.std.specs.Prelude.{◌≡◌, ◌++◌, ◌∷◌, [], IfOk, OnOk, map};
 ghost use Rattle.gate_source.specs.Stops.{IsNoteOf};
-ghost use Rattle.gate_run.specs.Gatherings.{knows_as_much, report_of_reader, inbox_back, report_of_pipeline};
-ghost use Rattle.gate_run.specs.Lists.{Each};
+ghost use Rattle.gate_run.specs.Gatherings.{report_of_pipeline};
+ghost use Rattle.gate_run.specs.Inner.Gatherings.{knows_as_much, report_of_reader, inbox_back};
+ghost use Rattle.gate_run.specs.Inner.Lists.{Each};
 ghost use Rattle.gate_run.specs.PipelineEnds.{inbox_of};
 
 use crate::lists::push;

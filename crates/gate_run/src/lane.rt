@@ -2,8 +2,9 @@
 ghost use Rattle.std.specs.Prelude.{◌≡◌, ◌<◌, ◌∷◌, [], IfOk, OnOk, map};
 ghost use Rattle.gate_queue.specs.Seats.{IsHeadOf};
 ghost use Rattle.gate_queue.specs.States.{AreFrom};
-ghost use Rattle.gate_run.specs.Seats.{fresh_head, fresh_tail, seat_in, seat_of};
-ghost use Rattle.gate_run.specs.Stages.{IsOpenStage, IsSettled, IsStageSettled};
+ghost use Rattle.gate_run.specs.Seats.{fresh_head, fresh_tail};
+ghost use Rattle.gate_run.specs.Inner.Seats.{seat_in, seat_of};
+ghost use Rattle.gate_run.specs.Inner.Stages.{IsOpenStage, IsSettled, IsStageSettled};
 
 use crate::lists::next_of;
 use gate_queue::{EventQueue, Head, Tail, open};

@@ -1,7 +1,7 @@
 //! Lists that are used up side by side, and tables of lists.
 ghost use Rattle.std.specs.Prelude.{◌≡◌, ◌<◌, ◌∷◌, ◌++◌, [], IfOk, OnOk, length, map};
 ghost use Rattle.std.specs.Vec.Iter.{into_iter_items};
-ghost use Rattle.gate_run.specs.Tables.{dealt, dealt_all, empties};
+ghost use Rattle.gate_run.specs.Inner.Tables.{dealt, dealt_all, empties};
 
 use gate_record::Memory;
 use std::alloc::Global;

@@ -1,6 +1,6 @@
 //! Threads that put into several queues.
 ghost use Rattle.std.specs.Prelude.{◌≡◌, ℕ, map, IfErr, OnOk};
-ghost use Rattle.gate_run.specs.Seats.{PutAt, seat_of};
+ghost use Rattle.gate_run.specs.Inner.Seats.{PutAt, seat_of};
 
 use gate_queue::{FreeQueue, FreeTail, Memory};
 use std::sync::Wait;

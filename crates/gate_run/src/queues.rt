@@ -2,9 +2,9 @@
 ghost use Rattle.std.specs.Prelude.{◌≡◌, ◌<◌, ◌∷◌, [], IfOk, length, map};
 ghost use Rattle.gate_config.specs.Lookups.{connections_of, tenants_of};
 ghost use Rattle.gate_run.specs.Ports.{pipeline_counts};
-ghost use Rattle.gate_run.specs.Queues.{AreOpen};
+ghost use Rattle.gate_run.specs.Inner.Queues.{AreOpen};
 ghost use Rattle.gate_run.specs.Seats.{fresh_head, fresh_tail};
-ghost use Rattle.gate_run.specs.Stages.{IsOpenStage};
+ghost use Rattle.gate_run.specs.Inner.Stages.{IsOpenStage};
 
 use crate::lane::{Lane, open_lane};
 use crate::stage::{Stage, open_stage};

@@ -4,7 +4,7 @@ ghost use Rattle.gate_queue.specs.Seats.{IsTailOf};
 ghost use Rattle.gate_source.specs.Sources.{accepted};
 ghost use Rattle.gate_source.specs.Stops.{IsNoteOf};
 ghost use Rattle.gate_core.specs.declared.report.EndCause.TheVariants as cause;
-ghost use Rattle.gate_run.specs.Readers.{CanRead, Closes, CutsShort, HasRead};
+ghost use Rattle.gate_run.specs.Inner.Readers.{CanRead, Closes, CutsShort, HasRead};
 
 use crate::naps::Naps;
 use crate::signals::Signals;

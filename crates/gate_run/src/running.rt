@@ -4,8 +4,8 @@ ghost use Rattle.gate_config.specs.Lookups.{connections_of};
 ghost use Rattle.gate_run.specs.Lists.{Pairwise};
 ghost use Rattle.gate_run.specs.PipelineEnds.{inbox_of};
 ghost use Rattle.gate_run.specs.Ports.{pipeline_counts};
-ghost use Rattle.gate_run.specs.Queues.{AreOpen};
-ghost use Rattle.gate_run.specs.Works.{Dispatched, Forwarded, HaveRun, Read, ReadyToDispatch, ReadyToForward, ReadyToRead, ReadyToWork, Worked};
+ghost use Rattle.gate_run.specs.Inner.Queues.{AreOpen};
+ghost use Rattle.gate_run.specs.Inner.Works.{Dispatched, Forwarded, HaveRun, Read, ReadyToDispatch, ReadyToForward, ReadyToRead, ReadyToWork, Worked};
 
 use crate::crossing::{config_crosses, is_shared};
 use crate::dispatcher::Dispatcher;

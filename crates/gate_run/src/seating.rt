@@ -2,10 +2,10 @@
 ghost use Rattle.std.specs.Prelude.{◌≡◌, ◌-◌, ◌<◌, ◌^◌, All, IfOk, length, map};
 ghost use Rattle.std.specs.List.{range_with_len};
 ghost use Rattle.gate_config.specs.Lookups.{connections_of, pipelines_of, tenants_of};
-ghost use Rattle.gate_run.specs.Lists.{EachAt};
+ghost use Rattle.gate_run.specs.Inner.Lists.{EachAt};
 ghost use Rattle.gate_run.specs.PipelineEnds.{inbox_of};
 ghost use Rattle.gate_run.specs.Ports.{pipeline_counts};
-ghost use Rattle.gate_run.specs.Seatings.{AreWorkersOf, IsDispatcherOf, IsForwarderOf, IsReaderOf, IsWorkerOf};
+ghost use Rattle.gate_run.specs.Inner.Seatings.{AreWorkersOf, IsDispatcherOf, IsForwarderOf, IsReaderOf, IsWorkerOf};
 ghost use Rattle.gate_run.specs.Seats.{fresh_head, fresh_tail};
 
 use crate::dispatcher::Dispatcher;

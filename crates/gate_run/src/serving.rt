@@ -3,12 +3,13 @@ ghost use Rattle.std.specs.Prelude.{◌≡◌, ◌∷◌, ◌-◌, ◌<◌, ◌^
 ghost use Rattle.std.specs.List.{range_with_len};
 ghost use Rattle.gate_config.specs.Lookups.{connections_of};
 ghost use Rattle.gate_source.specs.Stops.{IsNoteOf};
-ghost use Rattle.gate_run.specs.Gatherings.{inbox_back, knows_as_much, report_of_pipeline, report_of_reader};
-ghost use Rattle.gate_run.specs.Lists.{Each};
+ghost use Rattle.gate_run.specs.Gatherings.{report_of_pipeline};
+ghost use Rattle.gate_run.specs.Inner.Gatherings.{inbox_back, knows_as_much, report_of_reader};
+ghost use Rattle.gate_run.specs.Inner.Lists.{Each};
 ghost use Rattle.gate_run.specs.Ports.{IsInboxFor};
-ghost use Rattle.gate_run.specs.Seats.{seat_in, seat_of};
+ghost use Rattle.gate_run.specs.Inner.Seats.{seat_in, seat_of};
 ghost use Rattle.gate_run.specs.Serving.{Serves};
-ghost use Rattle.gate_run.specs.Stages.{AreLanesSettled, IsStageSettled};
+ghost use Rattle.gate_run.specs.Inner.Stages.{AreLanesSettled, IsStageSettled};
 
 use crate::fault::RunFault;
 use crate::gate::Gate;

@@ -1,8 +1,8 @@
 //! The queues without a bound between threads of two kinds.
 ghost use Rattle.std.specs.Prelude.{◌≡◌, ◌∷◌, [], IfOk, OnOk, length, map};
 ghost use Rattle.std.specs.List.{range_with_len};
-ghost use Rattle.gate_run.specs.Seats.{seat_in, seat_of};
-ghost use Rattle.gate_run.specs.Stages.{AreLanesSettled, AreSettled, IsOpenStage, IsStageSettled, seats_in};
+ghost use Rattle.gate_run.specs.Inner.Seats.{seat_in, seat_of};
+ghost use Rattle.gate_run.specs.Inner.Stages.{AreLanesSettled, AreSettled, IsOpenStage, IsStageSettled, seats_in};
 
 use crate::lists::{columns_of, next_of};
 use gate_queue::{FreeHead, FreeQueue, FreeTail, open_free};

@@ -2,7 +2,7 @@
 ghost use Rattle.std.specs.Prelude.{◌≡◌, true};
 ghost use Rattle.gate_queue.specs.Seats.{IsHeadOf};
 ghost use Rattle.gate_pipeline.specs.States.{asked, found_empty, is_taking, next_of};
-ghost use Rattle.gate_run.specs.Workers.{CanWork, Continues, HasWorked, MayProcess};
+ghost use Rattle.gate_run.specs.Inner.Workers.{CanWork, Continues, HasWorked, MayProcess};
 
 use crate::gate::Gate;
 use crate::posts::InboxSeat;

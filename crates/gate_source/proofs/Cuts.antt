@@ -14,7 +14,7 @@ use Rattle.std.proofs.lemmas.List.Elements.{All-nil, All-cons, filter_map-append
 use Rattle.std.proofs.lemmas.List.Splits.{slice_split_at, slice_split_none, length-slice_split}
 use Rattle.gate_record.specs.declared.record.Record.{Record}
 use Rattle.gate_record.specs.Lines.{all_but_last, ended_lines, ended_records, is_line_feed, last_of, record_of_line, records_of, unfinished_line}
-use Rattle.gate_source.specs.Splitting.{HasNoFeed}
+use Rattle.gate_source.specs.Inner.Splitting.{HasNoFeed}
 
 -- ---- one line
 

@@ -10,7 +10,8 @@ use Rattle.gate_record.specs.declared.record.Record.{Record}
 use Rattle.gate_record.specs.declared.record.Record.TheVariants.{Line, Oversize}
 use Rattle.gate_record.specs.Limits.{longest_line}
 use Rattle.gate_record.specs.Lines.{ended_records, is_line_feed, record_of_line, unfinished_line}
-use Rattle.gate_source.specs.Splitting.{Feeds, Finishes, HasNoFeed, kept_of, kept_with, record_left, record_with}
+use Rattle.gate_source.specs.Splitting.{Feeds, Finishes, kept_of}
+use Rattle.gate_source.specs.Inner.Splitting.{HasNoFeed, kept_with, record_left, record_with}
 use Rattle.gate_source.proofs.Cuts.{all_unfinished, ended_more, last_unfinished, no_feed, none_recorded, records_are, records_onward, unfinished_more}
 
 -- ---- a line that is too long

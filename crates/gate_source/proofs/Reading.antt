@@ -14,11 +14,13 @@ use Rattle.gate_record.specs.declared.record.Record.{Record}
 use Rattle.gate_record.specs.declared.record.Record.TheVariants.{Oversize}
 use Rattle.gate_record.specs.Limits.{longest_line}
 use Rattle.gate_record.specs.Lines.{ended_records, is_line_feed, record_of_line, records_of, unfinished_line}
-use Rattle.gate_source.specs.Splitting.{Feeds, Finishes, HasNoFeed, IsFed, kept_of}
+use Rattle.gate_source.specs.Splitting.{Feeds, Finishes, IsFed, kept_of}
+use Rattle.gate_source.specs.Inner.Splitting.{HasNoFeed}
 use Rattle.gate_source.specs.declared.feed.FeedStep.{FeedStep}
 use Rattle.gate_source.specs.declared.feed.FeedStep.TheVariants as step
 use Rattle.gate_source.specs.Feeds.{Steps, Told}
-use Rattle.gate_source.specs.Streams.{IsOfLine, StepsOver, still_of, still_told, told_of}
+use Rattle.gate_source.specs.Streams.{still_of, still_told, told_of}
+use Rattle.gate_source.specs.Inner.Streams.{IsOfLine, StepsOver}
 use Rattle.gate_source.proofs.Cuts.{Cut, all_unfinished, cut, ended_more, ends, follows, last_unfinished, no_feed, none_recorded, nothing, one_more, records_are, records_onward, unfinished_more}
 use Rattle.gate_source.proofs.Kept.{above, longer, none_kept, oversize, too_long}
 

@@ -33,8 +33,3 @@ AreFirst lines (Some all) = (rest : List Record) × (lines ++ rest ≡ all)
 abbrev pub AreAll : List Record → (before after : Told) → Type 0
 AreAll lines None after = Unit {0}
 AreAll lines (Some all) after = (lines ≡ all) × (after ≡ Some [])
-
--- these came, and what is left is still to come
-abbrev pub Leaves : Told → List Record → Told → Type 0
-Leaves None lines after = Unit {0}
-Leaves (Some all) lines after = (rest : List Record) × (after ≡ Some rest) × (lines ++ rest ≡ all)

@@ -1,5 +1,6 @@
 pub mod Cuttings
 pub mod Feeds
+pub mod Inner
 pub mod Sources
 pub mod Splitting
 pub mod Stops

@@ -1,11 +1,9 @@
 -- What a splitter keeps of the stream that it was fed, and what its calls promise.
-use Rattle.std.specs.Prelude.{◌≡◌, ◌+◌, ℕ, List, ◌++◌, All, false, length, nat_lt, Option, Some, None, if◌then◌else◌}
+use Rattle.std.specs.Prelude.{◌≡◌, ◌+◌, ℕ, List, ◌++◌, length, nat_lt, Option, Some, None, if◌then◌else◌}
 use Rattle.std.specs.Option.{option_to_list}
-use Rattle.std.specs.Str.Lines.{strip_carriage_return}
 use Rattle.gate_record.specs.declared.record.Record.{Record}
-use Rattle.gate_record.specs.declared.record.Record.TheVariants.{Oversize}
 use Rattle.gate_record.specs.Limits.{longest_line}
-use Rattle.gate_record.specs.Lines.{ended_records, is_line_feed, record_of_line, records_of, unfinished_line}
+use Rattle.gate_record.specs.Lines.{ended_records, records_of, unfinished_line}
 
 -- What is kept of a line that hasn't ended: its bytes, up to one above the limit (a CR may belong to the line's end), and
 -- nothing of a longer one.
@@ -25,23 +23,3 @@ Feeds kept piece records kept' =
 -- whatever was fed before, the records so far and this one are those of the whole text
 abbrev pub Finishes : Option (List ℕ) → Option Record → Type 0
 Finishes kept last = (bytes : List ℕ) → IsFed bytes kept → ended_records bytes ++ option_to_list last ≡ records_of bytes
-
--- ---- the steps of a call
-
-abbrev pub HasNoFeed : List ℕ → Type 0
-HasNoFeed bytes = All (λ byte. is_line_feed byte ≡ false) bytes
-
--- what is kept with more of the line
-abbrev pub kept_with : Option (List ℕ) → List ℕ → Option (List ℕ)
-kept_with None more = None
-kept_with (Some line) more = kept_of (line ++ more)
-
--- the record of the line, once this ends it
-abbrev pub record_with : Option (List ℕ) → List ℕ → Option Record
-record_with None end = Some Oversize
-record_with (Some line) end = record_of_line (strip_carriage_return (line ++ end))
-
--- the record of the line, where the stream ends in it
-abbrev pub record_left : Option (List ℕ) → Option Record
-record_left None = Some Oversize
-record_left (Some line) = record_of_line line

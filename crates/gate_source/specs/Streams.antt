@@ -1,12 +1,10 @@
 -- What a stream still has to tell while it is cut.
-use Rattle.std.specs.Prelude.{◌≡◌, ℕ, List, [], ◌∷◌, ◌++◌, Bool, Option, Some, None, if◌then◌else◌}
+use Rattle.std.specs.Prelude.{ℕ, List, [], ◌∷◌, ◌++◌, Bool, Option, Some, None, if◌then◌else◌}
 use Rattle.std.specs.List.{after_first}
 use Rattle.gate_record.specs.declared.record.Record.{Record}
 use Rattle.gate_record.specs.declared.record.Record.TheVariants.{Oversize}
 use Rattle.gate_record.specs.Lines.{is_line_feed, records_of}
-use Rattle.gate_source.specs.declared.feed.FeedStep.{FeedStep}
-use Rattle.gate_source.specs.Feeds.{Steps, Told}
-use Rattle.gate_source.specs.Splitting.{IsFed}
+use Rattle.gate_source.specs.Feeds.{Told}
 
 -- The records that are still to come of a stream, where the splitter keeps this of the line that hasn't ended, and these bytes
 -- follow. A line that is too long already is one record, and the others are those behind its LF.
@@ -24,11 +22,3 @@ still_told waiting has_ended kept (Some rest) = Some (waiting ++ (if has_ended t
 abbrev pub told_of : Option (List ℕ) → Told
 told_of None = None
 told_of (Some bytes) = Some (records_of bytes)
-
--- the line that a splitter keeps is one that it may have been fed alone
-abbrev pub IsOfLine : Option (List ℕ) → Type 0
-IsOfLine kept = (line : List ℕ) → kept ≡ Some line → IsFed line kept
-
--- what a piece brings is told of it, whatever follows
-abbrev pub StepsOver : Option (List ℕ) → (piece : List ℕ) → FeedStep → (waiting : List Record) → Option (List ℕ) → Type 0
-StepsOver kept piece step waiting kept' = (rest : List ℕ) → Steps (Some (still_of kept (piece ++ rest))) step (Some (waiting ++ still_of kept' rest))

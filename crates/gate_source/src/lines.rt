@@ -2,7 +2,7 @@
 ghost use Rattle.std.specs.Prelude.{◌≡◌, ◌++◌, ◌∷◌, IfNone, IfOk, IfSome, OnOk, option_to_list, position};
 ghost use Rattle.std.specs.Str.Lines.{strip_carriage_return};
 ghost use Rattle.gate_record.specs.Lines.{ended_records, is_line_feed, record_of_line, unfinished_line};
-ghost use Rattle.gate_source.specs.Splitting.{HasNoFeed};
+ghost use Rattle.gate_source.specs.Inner.Splitting.{HasNoFeed};
 
 use gate_record::{MAX_LINE, Memory, Record, Sequence};
 use memchr::memchr;

@@ -28,12 +28,13 @@ pub struct ReaderFeed<R> {
 }
 
 ghost use Rattle.std.specs.Prelude.{◌<◌, vec_len};
-ghost use Rattle.gate_source.specs.Streams.{IsOfLine};
+ghost use Rattle.gate_source.specs.Inner.Streams.{IsOfLine};
 
 impl<R: Read + Drop> ReaderFeed<R> {
     ghost use Rattle.std.specs.Prelude.{◌-◌, ◌<◌, ◌≤◌, ◌^◌, [], false, Some, take, true, vec_len};
     ghost use Rattle.gate_source.specs.Feeds.{Steps, faults_after};
-    ghost use Rattle.gate_source.specs.Streams.{StepsOver, still_of, still_told, told_of};
+    ghost use Rattle.gate_source.specs.Streams.{still_of, still_told, told_of};
+    ghost use Rattle.gate_source.specs.Inner.Streams.{StepsOver};
 
     /// A feed over a reader of which nothing was read. `Memory` where its buffer finds no room.
     pub fn new(alloc: Global, reader: R) -> Result<ReaderFeed<R>, Memory>

@@ -29,7 +29,8 @@ impl Model for LineSplit {
 }
 
 impl LineSplit {
-    ghost use Rattle.gate_source.specs.Splitting.{Feeds, Finishes, IsFed, kept_with, record_with};
+    ghost use Rattle.gate_source.specs.Splitting.{Feeds, Finishes, IsFed};
+    ghost use Rattle.gate_source.specs.Inner.Splitting.{kept_with, record_with};
 
     /// A splitter that was fed nothing. It takes no memory.
     pub fn new(alloc: Global) -> LineSplit
@@ -96,7 +97,8 @@ ghost use Rattle.std.specs.Prelude.{◌+◌, ◌++◌, ◌<◌, ◌^◌, length,
 ghost use Rattle.std.specs.Str.Lines.{strip_carriage_return};
 ghost use Rattle.gate_record.specs.Lines.{record_of_line};
 ghost use Rattle.gate_record.specs.Limits.{longest_line};
-ghost use Rattle.gate_source.specs.Splitting.{kept_of, record_left};
+ghost use Rattle.gate_source.specs.Splitting.{kept_of};
+ghost use Rattle.gate_source.specs.Inner.Splitting.{record_left};
 
 // Whether a line of so many bytes, and so many more, is too long, even if its last byte is a CR that belongs to its end.
 fn is_too_long(kept: usize, more: usize) -> bool

@@ -12,7 +12,8 @@ use Rattle.gate_run.specs.Ports.{PostsView}
 use Rattle.gate_status.specs.declared.fault.SessionEnd.{SessionEnd}
 use Rattle.gate_status.specs.declared.reply.Reply.{Reply}
 use Rattle.gate_status.specs.Replies.{MayReply, NoteAfter, asked_by, end_of, posted_by, reply_text}
-use Rattle.gate_status.specs.Talks.{AreEndedBy, AreHeard, Exchange, GoesOn, MayBe, Talk, Talks, post_in, text_of}
+use Rattle.gate_status.specs.Talks.{AreEndedBy, Exchange, GoesOn, MayBe, Talk, post_in, text_of}
+use Rattle.gate_status.specs.Inner.Talks.{AreHeard, Talks}
 
 abbrev lines_of : List Exchange → List Record
 lines_of exchanges = map (λ (exchange : Exchange). exchange.line) exchanges

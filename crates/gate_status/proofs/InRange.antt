@@ -19,7 +19,8 @@ use Rattle.gate_run.specs.declared.posts.PostFault.{PostFault}
 use Rattle.gate_run.specs.declared.posts.PostFault.TheVariants.{NoPipeline, Full}
 use Rattle.gate_run.specs.PipelineEnds.{Judges}
 use Rattle.gate_run.specs.Ports.{PostEnd}
-use Rattle.gate_status.specs.Replies.{ArePostsFor, IsMissing, IsThere, MayReply, addressed, end_of, posted_by, refusal_of, with_posted}
+use Rattle.gate_status.specs.Replies.{ArePostsFor, IsMissing, IsThere, MayReply, addressed, end_of, posted_by, with_posted}
+use Rattle.gate_status.specs.Inner.Replies.{refusal_of}
 
 the_same : {X : Type 0} (x y : X) → Some x ≡ Some y → x ≡ y
 the_same x y e = cc

@@ -11,7 +11,8 @@ use Rattle.gate_status.specs.declared.command.Command.{Command}
 use Rattle.gate_status.specs.declared.command.CommandFault.{CommandFault}
 use Rattle.gate_status.specs.declared.command.CommandFault.TheVariants.{Arguments, Number}
 use Rattle.gate_status.specs.Commands.{change_of, command_named, command_of, ended_of, key_of, keyed_of, manage_of, plain_of, posted_of, ref_of, result_of, success_of}
-use Rattle.gate_status.specs.Fields.{◌>>=◌, IsOwn, Rest, at_end, field, is_space, last_text, number_below, number_field, rest_of, text_field, text_of, word_of}
+use Rattle.gate_status.specs.Fields.{◌>>=◌, Rest, at_end, field, is_space, last_text, number_below, number_field, rest_of, text_field, text_of, word_of}
+use Rattle.gate_status.specs.Inner.Fields.{IsOwn}
 
 record Own {A : Type 0} (asked : Result A CommandFault) : Type 0 where
   own : IfErr asked IsOwn

@@ -15,9 +15,10 @@ use Rattle.gate_status.specs.declared.fault.SessionEnd.TheVariants as end
 use Rattle.gate_status.specs.Limits.{longest_session}
 use Rattle.gate_status.specs.declared.reply.Reply.{Reply}
 use Rattle.gate_status.specs.declared.reply.Reply.TheVariants as reply
-use Rattle.gate_status.specs.Listened.{Hears}
+use Rattle.gate_status.specs.Inner.Listened.{Hears}
 use Rattle.gate_status.specs.Replies.{end_of}
-use Rattle.gate_status.specs.Talks.{Answers, AreFirst, Exchange, Heard, Talk, Talks, made_by_reply}
+use Rattle.gate_status.specs.Talks.{Answers, AreFirst, Exchange, Heard, Talk, made_by_reply}
+use Rattle.gate_status.specs.Inner.Talks.{Talks}
 use Rattle.gate_status.proofs.Exchanges.{consumes_on, talks_none, talks_on}
 
 abbrev lines_of : List Exchange → List Record

@@ -1,7 +1,6 @@
 -- What a line of a status session asks for.
 use Rattle.std.specs.Prelude.{◌≡◌, ℕ, ◌^◌, List, Bool, true, false, Option, Some, None, Result, Ok, Err, option_and_then, ok_or, codes, IsTrue, if◌then◌else◌}
 use Rattle.std.specs.List.{list_all}
-use Rattle.std.specs.Borrow.{Bor}
 use Rattle.std.specs.Str.{bytes_eq}
 use Rattle.gate_record.specs.declared.ids.PipelineId.{PipelineId}
 use Rattle.gate_record.specs.declared.ids.TenantId.{TenantId}
@@ -15,7 +14,7 @@ use Rattle.gate_status.specs.declared.command.Command.{Command}
 use Rattle.gate_status.specs.declared.command.Command.TheVariants as command
 use Rattle.gate_status.specs.declared.command.CommandFault.{CommandFault}
 use Rattle.gate_status.specs.declared.command.CommandFault.TheVariants.{Empty, Unknown, Arguments, Number, Memory}
-use Rattle.gate_status.specs.Fields.{◌>>=◌, Rest, is_space, word_of, rest_of, text_of, field, number_field, text_field, last_text, at_end}
+use Rattle.gate_status.specs.Fields.{Rest, is_space, word_of, rest_of, text_of, field, number_field, text_field, last_text, at_end}
 
 -- ---- keys
 
@@ -111,12 +110,6 @@ abbrev pub key_has_texts : Key → Bool
 key_has_texts (Change conn number) = false
 key_has_texts (Ref conn project refname newrev) = true
 
-abbrev pub keyed_has_texts : TenantId × PipelineId × Key → Bool
-keyed_has_texts keyed = key_has_texts keyed.2
-
-abbrev pub ended_has_texts : JobResult → Bool
-ended_has_texts ended = true
-
 abbrev pub manage_has_texts : Manage → Bool
 manage_has_texts (Dequeue key) = key_has_texts key
 manage_has_texts (Reset key) = key_has_texts key
@@ -138,18 +131,3 @@ IsFaultOf texts asked Empty = asked ≡ Err Empty
 IsFaultOf texts asked Unknown = asked ≡ Err Unknown
 IsFaultOf texts asked Arguments = asked ≡ Err Arguments
 IsFaultOf texts asked Number = asked ≡ Err Number
-
--- what is answered where this is asked for
-abbrev pub Answers : {A : Type 0} → (A → Bool) → Result A CommandFault → Result A CommandFault → Type 0
-Answers texts asked (Ok value) = asked ≡ Ok value
-Answers texts asked (Err fault) = IsFaultOf texts asked fault
-
--- ---- what readers give, their borrowed texts as lists
-
-abbrev pub seen_ref : Result (ℕ × Bor (List ℕ) × Bor (List ℕ) × Bor (List ℕ)) CommandFault → Result Key CommandFault
-seen_ref (Ok parts) = Ok (Ref (record { 0 = parts.0 }) parts.3.now parts.2.now parts.1.now)
-seen_ref (Err fault) = Err fault
-
-abbrev pub seen_ended : Result (ℕ × Bool × Bor (List ℕ)) CommandFault → Result JobResult CommandFault
-seen_ended (Ok parts) = Ok (record { set = parts.0; job = parts.2.now; success = parts.1 })
-seen_ended (Err fault) = Err fault

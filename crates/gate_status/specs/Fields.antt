@@ -1,16 +1,10 @@
 -- The fields of a line, from left to right. The first that is missing or wrong is the fault.
-use Rattle.std.specs.Prelude.{ℕ, List, nat_lt, length, Option, Some, None, Result, Ok, Err, option_and_then, option_copied, ok_or, if◌then◌else◌}
-use Rattle.std.specs.Borrow.{Bor}
-pub use Rattle.gate_core.specs.Script.{is_space, word_of, rest_of, is_digit, value_of, number_below, text_of}
+use Rattle.std.specs.Prelude.{ℕ, List, nat_lt, length, Option, Some, None, Result, Ok, Err, option_and_then, ok_or, if◌then◌else◌}
 use Rattle.gate_status.specs.declared.command.CommandFault.{CommandFault}
-use Rattle.gate_status.specs.declared.command.CommandFault.TheVariants.{Empty, Unknown, Arguments, Number, Memory}
+use Rattle.gate_status.specs.declared.command.CommandFault.TheVariants.{Arguments, Number}
+pub use Rattle.gate_core.specs.Script.{is_space, word_of, rest_of, is_digit, value_of, number_below, text_of}
 
 -- ---- fields
-
--- a fault of the line itself
-abbrev pub IsOwn : CommandFault → Type 0
-IsOwn Memory = ⊥
-IsOwn other = Unit {0}
 
 -- what stands behind a field: nothing where the line ends with it, else what stands behind its space
 abbrev pub Rest : Type 0
@@ -49,8 +43,3 @@ last_text rest = ok_or (option_and_then text_of rest) Arguments
 abbrev pub at_end : {A : Type 0} → Rest → A → Result A CommandFault
 at_end None value = Ok value
 at_end (Some more) value = Err Arguments
-
--- what a reader of a field gives, its borrowed texts as lists
-abbrev pub seen : {A B : Type 0} → (A → B) → Result (A × Option (Bor (List ℕ))) CommandFault → Result (B × Rest) CommandFault
-seen view (Ok read) = Ok (view read.0, option_copied read.1)
-seen view (Err fault) = Err fault

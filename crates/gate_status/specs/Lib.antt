@@ -2,6 +2,7 @@ pub mod Boards
 pub mod Commands
 pub mod Counts
 pub mod Fields
+pub mod Inner
 pub mod Limits
 pub mod Listened
 pub mod Replies

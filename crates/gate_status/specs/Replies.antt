@@ -6,8 +6,6 @@ use Rattle.gate_config.specs.declared.config.Config.{Config}
 use Rattle.gate_config.specs.Lookups.{pipelines_of}
 use Rattle.gate_source.specs.declared.stop.StopCause.{StopCause}
 use Rattle.gate_source.specs.Stops.{Learns, Note}
-use Rattle.gate_run.specs.declared.posts.PostFault.{PostFault}
-use Rattle.gate_run.specs.declared.posts.PostFault.TheVariants.{NoPipeline, Full}
 use Rattle.gate_run.specs.Ports.{PostEnds, PostsView, changed_at, pipeline_counts, posted}
 use Rattle.gate_status.specs.declared.command.Command.{Command}
 use Rattle.gate_status.specs.declared.command.Command.TheVariants as command
@@ -44,11 +42,6 @@ abbrev pub end_of : Reply → Option SessionEnd
 end_of reply.Stopping = Some end.Stop
 end_of reply.Bye = Some end.Quit
 end_of other = None
-
--- the reply where nothing was posted
-abbrev pub refusal_of : {T : Type 0} → PostFault T → Reply
-refusal_of (NoPipeline value) = reply.NoPipeline
-refusal_of (Full value) = reply.Full
 
 -- ---- which reply may be given
 

@@ -71,13 +71,3 @@ pub record Answers (config : Config) (how : SessionEnd) (told told' written writ
   pub read : Consumes told told' bytes
   pub heard : Heard how bytes told' (map (λ (exchange : Exchange). exchange.line) exchanges)
   pub talk : Talk config (made_by_reply how) exchanges written written' posts posts'
-
--- some of the first of these lines were answered, all of them where the session goes on
-abbrev pub AreHeard : Option SessionEnd → List Record → List Exchange → Type 0
-AreHeard None lines exchanges = map (λ (exchange : Exchange). exchange.line) exchanges ≡ lines
-AreHeard (Some how) lines exchanges = IsPrefixOf (map (λ (exchange : Exchange). exchange.line) exchanges) lines
-
-pub record Talks (config : Config) (lines : List Record) (how : Option SessionEnd) (written written' : Option (List ℕ)) (posts posts' : PostsView) : Type 0 where
-  pub exchanges : List Exchange
-  pub heard : AreHeard how lines exchanges
-  pub talk : Talk config how exchanges written written' posts posts'

@@ -108,7 +108,7 @@ fn post_result<X: Wait>(
     }
 }
 
-ghost use Rattle.gate_status.specs.Replies.{refusal_of};
+ghost use Rattle.gate_status.specs.Inner.Replies.{refusal_of};
 
 fn refusal<T: Drop>(fault: PostFault<T>) -> Reply
     ensures { result ≡ refusal_of fault }

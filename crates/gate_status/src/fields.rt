@@ -1,7 +1,8 @@
 //! The fields of a line, read from left to right. What stands behind a field is `None` where the line ends with it, and
 //! else what stands behind its space.
 ghost use Rattle.std.specs.Prelude.{◌≡◌, ◌^◌, IfErr, option_copied};
-ghost use Rattle.gate_status.specs.Fields.{IsOwn, field, last_text, number_field, seen, text_field};
+ghost use Rattle.gate_status.specs.Fields.{field, last_text, number_field, text_field};
+ghost use Rattle.gate_status.specs.Inner.Fields.{IsOwn, seen};
 
 use crate::command::CommandFault;
 use crate::words::{number_of, set_of, split_word, text_of};

@@ -1,7 +1,8 @@
 //! The keys of queue items.
 ghost use Rattle.std.specs.Prelude.{◌≡◌, IfErr, IfOk, IsOkUnless, option_copied};
-ghost use Rattle.gate_status.specs.Commands.{Answers, change_of, key_has_texts, key_of, ref_of};
-ghost use Rattle.gate_status.specs.Fields.{IsOwn};
+ghost use Rattle.gate_status.specs.Commands.{change_of, key_has_texts, key_of, ref_of};
+ghost use Rattle.gate_status.specs.Inner.Commands.{Answers};
+ghost use Rattle.gate_status.specs.Inner.Fields.{IsOwn};
 
 use crate::command::CommandFault;
 use crate::fields::{field, last_text, number_field, text_field};
@@ -66,7 +67,7 @@ fn ref_of(alloc: Global, rest: Option<&[u8]>) -> Result<Key, CommandFault>
     })
 }
 
-ghost use Rattle.gate_status.specs.Commands.{seen_ref};
+ghost use Rattle.gate_status.specs.Inner.Commands.{seen_ref};
 
 // The number of the connection, the revision, the ref and the project, which is the whole rest.
 fn ref_parts(rest: Option<&[u8]>) -> Result<(u32, &str, &str, &str), CommandFault>

@@ -1,7 +1,7 @@
 //! What a session reads: bytes in pieces, up to its limit, and the records of the lines that end in them.
 ghost use Rattle.std.specs.Prelude.{◌≡◌, ◌+◌, ◌<◌, ◌≤◌, ◌-◌, ◌^◌, [], IfErr, IfOk, OnOk, nat_lt, take, vec_len};
 ghost use Rattle.gate_source.specs.Splitting.{Feeds, Finishes, IsFed};
-ghost use Rattle.gate_status.specs.Listened.{Hears, ReadRises};
+ghost use Rattle.gate_status.specs.Inner.Listened.{Hears, ReadRises};
 ghost use Rattle.gate_status.specs.Limits.{longest_session};
 
 use crate::counted::Counted;

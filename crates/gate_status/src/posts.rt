@@ -1,6 +1,7 @@
 //! What is posted to a pipeline.
 ghost use Rattle.std.specs.Prelude.{◌≡◌, option_copied};
-ghost use Rattle.gate_status.specs.Commands.{Answers, ended_of, ended_has_texts, has_texts, keyed_has_texts, keyed_of, manage_of, posted_of, result_of, success_of};
+ghost use Rattle.gate_status.specs.Commands.{ended_of, has_texts, keyed_of, manage_of, posted_of, result_of, success_of};
+ghost use Rattle.gate_status.specs.Inner.Commands.{Answers, ended_has_texts, keyed_has_texts};
 
 use crate::command::{Command, CommandFault};
 use crate::fields::{field, last_text, number_field, set_field};
@@ -79,8 +80,8 @@ fn ended_of(alloc: Global, rest: Option<&[u8]>) -> Result<JobResult, CommandFaul
 }
 
 ghost use Rattle.std.specs.Prelude.{IfErr};
-ghost use Rattle.gate_status.specs.Commands.{seen_ended};
-ghost use Rattle.gate_status.specs.Fields.{IsOwn};
+ghost use Rattle.gate_status.specs.Inner.Commands.{seen_ended};
+ghost use Rattle.gate_status.specs.Inner.Fields.{IsOwn};
 
 // The number of the build set, whether the job has succeeded, and its name, which is the whole rest.
 fn ended_parts(rest: Option<&[u8]>) -> Result<(u64, bool, &str), CommandFault>

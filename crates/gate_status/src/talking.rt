@@ -3,9 +3,10 @@ ghost use Rattle.std.specs.Prelude.{◌≡◌, ◌≢◌, ◌∷◌, ◌<◌, �
 ghost use Rattle.std.specs.Io.KnownBytes.{Appends};
 ghost use Rattle.std.specs.Option.{option_to_list};
 ghost use Rattle.gate_status.specs.Counts.{counted};
-ghost use Rattle.gate_status.specs.Listened.{WriteRises};
+ghost use Rattle.gate_status.specs.Inner.Listened.{WriteRises};
 ghost use Rattle.gate_status.specs.Replies.{ArePostsFor, reply_text};
-ghost use Rattle.gate_status.specs.Talks.{Talks, made_by_reply};
+ghost use Rattle.gate_status.specs.Talks.{made_by_reply};
+ghost use Rattle.gate_status.specs.Inner.Talks.{Talks};
 
 use crate::answering::answer;
 use crate::board::Board;

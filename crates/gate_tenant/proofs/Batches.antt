@@ -14,7 +14,7 @@ use Rattle.gate_config.specs.declared.config.Config.{Config}
 use Rattle.gate_config.specs.Lookups.{pipelines_of}
 use Rattle.gate_config.specs.Selection.{selects_event}
 use Rattle.gate_match.specs.Selecting.{mask_of, masks_of}
-use Rattle.gate_tenant.specs.Batches.{by_masks, conns_in, events_in, given_by, marked_item, row_in, rows_of, word_of}
+use Rattle.gate_tenant.specs.Inner.Batches.{by_masks, conns_in, events_in, given_by, marked_item, row_in, rows_of, word_of}
 use Rattle.gate_tenant.specs.Dispatching.{by_pipeline, chosen_item, for_pipeline}
 use Rattle.gate_tenant.proofs.Getting.{end_mark}
 

@@ -1,5 +1,5 @@
-pub mod Batches
 pub mod Dispatching
 pub mod Histories
+pub mod Inner
 pub mod Limits
 pub mod States

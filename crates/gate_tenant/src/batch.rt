@@ -1,5 +1,5 @@
 ghost use Rattle.std.specs.Prelude.{◌≡◌, ◌++◌, IfOk, OnOk, flat_map};
-ghost use Rattle.gate_tenant.specs.Batches.{conns_in, events_in};
+ghost use Rattle.gate_tenant.specs.Inner.Batches.{conns_in, events_in};
 
 use gate_record::{Event, Memory, Shared, TenantItem};
 use std::alloc::Global;

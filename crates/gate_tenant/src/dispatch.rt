@@ -98,7 +98,7 @@ impl<'c> Dispatch<'c> {
         if !self.hand.is_empty() {
             return 0;
         }
-        MAX_GATHERED.saturating_sub(self.gathered.len())
+        MAX_GATHERED - self.gathered.len()
     }
 
     /// Whether something is gathered, and so can be matched.

@@ -6,7 +6,7 @@ ghost use Rattle.gate_config.specs.Lookups.{pipelines_of};
 ghost use Rattle.gate_lanes.specs.declared.TheConstants.{MARKED};
 ghost use Rattle.gate_match.specs.Selecting.{config_of, masks_of, tenant_of};
 ghost use Rattle.gate_tenant.specs.Limits.{most_gathered};
-ghost use Rattle.gate_tenant.specs.Batches.{by_masks, given_by, marked_item, row_in, rows_of, word_of};
+ghost use Rattle.gate_tenant.specs.Inner.Batches.{by_masks, given_by, marked_item, row_in, rows_of, word_of};
 ghost use Rattle.gate_tenant.specs.Dispatching.{all_marked, by_pipeline, end_marks, is_event};
 
 use crate::batch::Batch;

@@ -5,7 +5,8 @@ ghost use Rattle.crossbeam_queue.specs.SegBatches.{Holds};
 ghost use Rattle.crossbeam_queue.specs.SegTies.{IsSegPassOf};
 ghost use Rattle.gate_queue.specs.States.{AreFrom};
 ghost use Rattle.gate_queue.specs.declared.known.Known.TheVariants.{Taker};
-ghost use Rattle.gate_queue.specs.Views.{as_taker, with_more};
+ghost use Rattle.gate_queue.specs.Views.{as_taker};
+ghost use Rattle.gate_queue.specs.Inner.Views.{with_more};
 ghost use Rattle.gate_queue.specs.FreeViews.{known_by};
 
 use super::known::{Blocks, FreeRight};

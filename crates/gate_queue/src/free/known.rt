@@ -10,7 +10,7 @@ use crossbeam_queue::{RuledSegQueue, SegPass};
 pub struct FreeSharing;
 
 impl<T> Protocol<Tagged<T>, Known<T>> for FreeSharing {
-    ghost use Rattle.gate_queue.specs.FreeSharing.{SharesFree};
+    ghost use Rattle.gate_queue.specs.Inner.FreeSharing.{SharesFree};
     ghost use Rattle.gate_queue.specs.declared.known.Known.TheVariants.{Nothing};
 
     ghost holds = { SharesFree };
@@ -22,8 +22,8 @@ impl<T> Protocol<Tagged<T>, Known<T>> for FreeSharing {
 pub struct Begins;
 
 impl<T> Split<Known<T>> for Begins {
-    ghost use Rattle.gate_queue.specs.Sharing.{nothing};
-    ghost use Rattle.gate_queue.specs.FreeSharing.{begun};
+    ghost use Rattle.gate_queue.specs.Inner.Sharing.{nothing};
+    ghost use Rattle.gate_queue.specs.Inner.FreeSharing.{begun};
 
     ghost left = { begun };
 
@@ -34,7 +34,7 @@ impl<T> Split<Known<T>> for Begins {
 pub struct Parts;
 
 impl<T> Split<Known<T>> for Parts {
-    ghost use Rattle.gate_queue.specs.FreeSharing.{parted, first_joined};
+    ghost use Rattle.gate_queue.specs.Inner.FreeSharing.{parted, first_joined};
 
     ghost left = { parted };
 

@@ -3,8 +3,8 @@ ghost use Rattle.std.specs.Prelude.{◌≡◌, ◌≤◌, [], All, IfOk, vec_len
 ghost use Rattle.std.specs.Vec.{vec_capacity};
 ghost use Rattle.crossbeam_queue.specs.SegTies.{IsSegPassOf};
 ghost use Rattle.gate_queue.specs.Seats.{in_blocks, IsHeadOf, AreAllTailsOf};
-ghost use Rattle.gate_queue.specs.Sharing.{opening};
-ghost use Rattle.gate_queue.specs.Views.{AreNew};
+ghost use Rattle.gate_queue.specs.Inner.Sharing.{opening};
+ghost use Rattle.gate_queue.specs.Inner.Views.{AreNew};
 ghost use Rattle.gate_queue.specs.FreeViews.{known_by};
 
 use super::batch::BLOCK;

@@ -5,9 +5,10 @@ ghost use Rattle.crossbeam_queue.specs.Fifo.{Held};
 ghost use Rattle.crossbeam_queue.specs.SegTies.{IsSegPassOf};
 ghost use Rattle.gate_queue.specs.Seats.{in_blocks, IsHeadOf, AreAllTailsOf};
 ghost use Rattle.gate_queue.specs.States.{AreFrom, IsDelivered};
-ghost use Rattle.gate_queue.specs.Sharing.{CanWait};
+ghost use Rattle.gate_queue.specs.Inner.Sharing.{CanWait};
 ghost use Rattle.gate_queue.specs.declared.known.Known.TheVariants.{Taker};
-ghost use Rattle.gate_queue.specs.Views.{as_taker, with_joined, seats_from, AreSeats, KnowsTaker};
+ghost use Rattle.gate_queue.specs.Views.{as_taker, KnowsTaker};
+ghost use Rattle.gate_queue.specs.Inner.Views.{with_joined, seats_from, AreSeats};
 ghost use Rattle.gate_queue.specs.FreeViews.{known_by};
 
 use super::fault::UnsettledFree;

@@ -1,7 +1,7 @@
 use Rattle.std.proofs.Common.{◌≡◌, map, take}
 use Rattle.serde_json.specs.View.{view}
 use Rattle.gate_config.specs.Document.{picked, tenant_at}
-use Rattle.gate_config.specs.Entry.{entry_view}
+use Rattle.gate_config.specs.Inner.Entry.{entry_view}
 use Rattle.gate_config.proofs.document.tenant_entries.Given as goal
 
 abbrev pub invariant-loop-position : goal.invariant-loop-position

@@ -3,7 +3,7 @@ use Rattle.serde_json.specs.Data.{Data}
 use Rattle.serde_json.specs.View.{view}
 use Rattle.gate_config.proofs.Faults.{exit, fault_front, fault_rest, passed_both}
 use Rattle.gate_config.specs.Document.{PipelineTexts, name_of, pipeline_items, pipeline_names, pipeline_texts}
-use Rattle.gate_config.specs.Lookups.{names_of}
+use Rattle.gate_config.specs.Inner.Lookups.{names_of}
 use Rattle.gate_config.specs.Texts.{texts_of_pipeline}
 use Rattle.gate_config.specs.declared.config.PipelineSpec.{PipelineSpec}
 use Rattle.gate_config.proofs.pipelines.read_all_items.Goals as goal

@@ -2,7 +2,7 @@ use Rattle.std.proofs.Common.{◌≡◌, ◌∙◌, ap, map}
 use Rattle.serde_json.specs.View.{view}
 use Rattle.gate_config.proofs.Faults.{exit, fault_front, after}
 use Rattle.gate_config.specs.Document.{pipeline_items}
-use Rattle.gate_config.specs.Entry.{entry_view}
+use Rattle.gate_config.specs.Inner.Entry.{entry_view}
 use Rattle.gate_config.proofs.pipelines.read_items.Goals as goal
 
 pub returns-in_err-check_each_item : goal.returns-in_err-check_each_item

@@ -1,7 +1,7 @@
 use Rattle.gate_config.proofs.Along.{ReadAlong}
 use Rattle.gate_config.specs.Checks.{pipeline_checks}
 use Rattle.gate_config.specs.Document.{pipeline_texts}
-use Rattle.gate_config.specs.Entry.{entry_view}
+use Rattle.gate_config.specs.Inner.Entry.{entry_view}
 use Rattle.gate_config.specs.Texts.{texts_of_pipeline}
 use Rattle.gate_config.proofs.pipelines.read_pipelines.Given as goal
 

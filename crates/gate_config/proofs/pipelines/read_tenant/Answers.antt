@@ -3,7 +3,8 @@ use Rattle.serde_json.specs.Data.{Data}
 use Rattle.serde_json.specs.View.{view}
 use Rattle.gate_config.specs.Checks.{all_items_checks}
 use Rattle.gate_config.specs.Document.{config_items, jobs_in, pipeline_items, pipeline_names, pipeline_texts, project_items, projects_under, tenant_name}
-use Rattle.gate_config.specs.Faults.{Check, Asks, HasFault, HasPassed}
+use Rattle.gate_config.specs.Faults.{Check, Asks}
+use Rattle.gate_config.specs.Inner.Faults.{HasFault, HasPassed}
 use Rattle.gate_config.specs.Parts.{is_fine, is_list, items_of, optional}
 use Rattle.gate_config.specs.Places.{below}
 use Rattle.gate_config.specs.Texts.{texts_of_pipeline}

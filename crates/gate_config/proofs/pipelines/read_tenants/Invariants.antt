@@ -3,7 +3,7 @@ use Rattle.serde_json.specs.View.{view}
 use Rattle.gate_config.proofs.Each.{ReadSoFar}
 use Rattle.gate_config.specs.Checks.{config_checks}
 use Rattle.gate_config.specs.Document.{tenant_texts}
-use Rattle.gate_config.specs.Entry.{entry_view}
+use Rattle.gate_config.specs.Inner.Entry.{entry_view}
 use Rattle.gate_config.specs.Texts.{texts_of_tenant}
 use Rattle.gate_config.proofs.pipelines.read_tenants.Given as goal
 

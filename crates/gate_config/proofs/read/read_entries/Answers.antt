@@ -1,6 +1,6 @@
 use Rattle.std.proofs.Common.{◌∙◌, map}
 use Rattle.gate_config.proofs.Faults.{exit, fault_later, fault_front, fault_rest, passed_more, passed_both}
-use Rattle.gate_config.specs.Entry.{entry_view}
+use Rattle.gate_config.specs.Inner.Entry.{entry_view}
 use Rattle.gate_config.specs.Texts.{texts_of_tenant}
 use Rattle.gate_config.proofs.WithinLimits.{few_connections, few_tenants}
 use Rattle.gate_config.proofs.read.read_entries.Goals as goal

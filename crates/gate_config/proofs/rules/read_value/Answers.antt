@@ -6,7 +6,7 @@ use Rattle.gate_rule.specs.declared.rule.Rule.{Rule}
 use Rattle.gate_config.specs.declared.fault.ConfigFault.{ConfigFault}
 use Rattle.gate_config.specs.Checks.{rule_checks_at, rule_list_checks}
 use Rattle.gate_config.specs.Document.{rule_texts}
-use Rattle.gate_config.specs.Faults.{Reads}
+use Rattle.gate_config.specs.Inner.Faults.{Reads}
 use Rattle.gate_config.specs.Parts.{by_kind}
 use Rattle.gate_config.specs.Texts.{texts_of_rule}
 use Rattle.gate_config.proofs.rules.read_value.Goals as goal

@@ -1,7 +1,7 @@
 use Rattle.gate_config.proofs.Each.{TestedSoFar}
 use Rattle.gate_config.specs.Checks.{stanza_checks}
-use Rattle.gate_config.specs.Entry.{entry_view}
-use Rattle.gate_config.specs.Lookups.{names_of}
+use Rattle.gate_config.specs.Inner.Entry.{entry_view}
+use Rattle.gate_config.specs.Inner.Lookups.{names_of}
 use Rattle.gate_config.proofs.stanzas.check_stanzas.Given as goal
 
 abbrev pub invariant-loop-entry : goal.invariant-loop-entry

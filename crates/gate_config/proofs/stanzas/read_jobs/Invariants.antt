@@ -1,7 +1,8 @@
 use Rattle.std.proofs.Common.{◌≡◌, map, take}
 use Rattle.gate_config.specs.Document.{jobs_in}
-use Rattle.gate_config.specs.Entry.{entry_view}
-use Rattle.gate_config.specs.Lookups.{jobs_under, names_of}
+use Rattle.gate_config.specs.Inner.Entry.{entry_view}
+use Rattle.gate_config.specs.Lookups.{jobs_under}
+use Rattle.gate_config.specs.Inner.Lookups.{names_of}
 use Rattle.gate_config.proofs.stanzas.read_jobs.Given as goal
 
 abbrev pub invariant-loop-pipeline : goal.invariant-loop-pipeline

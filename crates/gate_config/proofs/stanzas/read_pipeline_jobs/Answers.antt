@@ -1,6 +1,6 @@
 use Rattle.gate_config.proofs.JobLists.{stanza_more}
 use Rattle.gate_config.specs.Document.{jobs_for}
-use Rattle.gate_config.specs.Entry.{entry_view}
+use Rattle.gate_config.specs.Inner.Entry.{entry_view}
 use Rattle.gate_config.proofs.stanzas.read_pipeline_jobs.Goals as goal
 
 pub loop-entry-preserved : goal.loop-entry-preserved

@@ -1,6 +1,6 @@
 use Rattle.std.proofs.Common.{◌≡◌, ℕ, List, map, take}
 use Rattle.gate_config.specs.Document.{jobs_in}
-use Rattle.gate_config.specs.Entry.{entry_view}
+use Rattle.gate_config.specs.Inner.Entry.{entry_view}
 use Rattle.gate_config.specs.Lookups.{jobs_under}
 use Rattle.gate_config.proofs.stanzas.read_pipeline_jobs.Given as goal
 

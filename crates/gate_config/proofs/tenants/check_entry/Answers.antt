@@ -2,8 +2,8 @@ use Rattle.std.proofs.Common.{◌≡◌, ◌∙◌, ap, subst, map, codes}
 use Rattle.serde_json.specs.View.{view}
 use Rattle.gate_config.specs.Checks.{named_checks, tenant_place}
 use Rattle.gate_config.specs.Document.{sources_of}
-use Rattle.gate_config.specs.Entry.{entry_view}
-use Rattle.gate_config.specs.Faults.{Reads}
+use Rattle.gate_config.specs.Inner.Entry.{entry_view}
+use Rattle.gate_config.specs.Inner.Faults.{Reads}
 use Rattle.gate_config.specs.Names.{with_names}
 use Rattle.gate_config.specs.Places.{nth}
 use Rattle.gate_config.proofs.Faults.{exit, fault_front, after}

@@ -1,7 +1,7 @@
 use Rattle.std.proofs.Common.{◌∙◌, option_map, subst}
 use Rattle.serde_json.specs.View.{view}
 use Rattle.gate_config.specs.Checks.{listing_checks}
-use Rattle.gate_config.specs.Faults.{Tests}
+use Rattle.gate_config.specs.Inner.Faults.{Tests}
 use Rattle.gate_config.specs.Places.{below}
 use Rattle.gate_config.proofs.Faults.{after_one, room, saying}
 use Rattle.gate_config.proofs.tenants.check_source.Goals as goal

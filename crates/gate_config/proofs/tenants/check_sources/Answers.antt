@@ -2,8 +2,8 @@ use Rattle.std.proofs.Common.{◌≡◌, ◌∙◌, ap, map, codes, option_map, 
 use Rattle.serde_json.specs.View.{view}
 use Rattle.gate_config.specs.Checks.{along, source_checks}
 use Rattle.gate_config.specs.Document.{sources_of}
-use Rattle.gate_config.specs.Entry.{key_view}
-use Rattle.gate_config.specs.Faults.{Reads}
+use Rattle.gate_config.specs.Inner.Entry.{key_view}
+use Rattle.gate_config.specs.Inner.Faults.{Reads}
 use Rattle.gate_config.specs.Names.{with_names}
 use Rattle.gate_config.specs.Parts.{keys_of, optional}
 use Rattle.gate_config.specs.Places.{below}

@@ -2,7 +2,8 @@ use Rattle.std.proofs.Common.{◌≡◌, ◌∙◌, ap, arith, length, map}
 use Rattle.std.specs.List.{range_with_len}
 use Rattle.gate_config.specs.Lookups.{connections_of}
 use Rattle.gate_core.specs.Steps.{new_connection}
-use Rattle.gate_core.specs.Views.{IsConnection, connection_view}
+use Rattle.gate_core.specs.Views.{connection_view}
+use Rattle.gate_core.specs.Inner.Views.{IsConnection}
 use Rattle.gate_core.proofs.Makings.{one_made, same_for_each}
 use Rattle.gate_core.proofs.making.new_connections.Goals as goal
 

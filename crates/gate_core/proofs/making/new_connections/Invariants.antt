@@ -1,5 +1,6 @@
 use Rattle.gate_core.specs.Steps.{new_connection}
-use Rattle.gate_core.specs.Views.{IsConnection, connection_view}
+use Rattle.gate_core.specs.Views.{connection_view}
+use Rattle.gate_core.specs.Inner.Views.{IsConnection}
 use Rattle.gate_core.proofs.Makings.{AreMade}
 use Rattle.gate_core.proofs.making.new_connections.Given as goal
 

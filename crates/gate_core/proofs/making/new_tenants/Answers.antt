@@ -1,5 +1,6 @@
 use Rattle.gate_core.specs.Steps.{new_tenant}
-use Rattle.gate_core.specs.Views.{IsTenant, tenant_view}
+use Rattle.gate_core.specs.Views.{tenant_view}
+use Rattle.gate_core.specs.Inner.Views.{IsTenant}
 use Rattle.gate_core.proofs.Makings.{one_made}
 use Rattle.gate_core.proofs.making.new_tenants.Goals as goal
 

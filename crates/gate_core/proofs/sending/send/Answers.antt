@@ -4,7 +4,8 @@ use Rattle.std.proofs.lemmas.Option.{slice_get_past}
 use Rattle.gate_record.specs.declared.ids.TenantId.{TenantId}
 use Rattle.gate_record.specs.declared.transit.TenantItem.{TenantItem}
 use Rattle.gate_forward.specs.Hands.{Hand, hand_of, put_back}
-use Rattle.gate_core.specs.Views.{IsTenant, connection_view, tenant_view}
+use Rattle.gate_core.specs.Views.{connection_view, tenant_view}
+use Rattle.gate_core.specs.Inner.Views.{IsTenant}
 use Rattle.gate_core.proofs.Elements.{each_set, lent, seen, seen_same, unseen}
 use Rattle.gate_core.proofs.Hands.{came_back, is_out, refuses, sends_item, sends_nothing, sends_nowhere, was_empty}
 use Rattle.gate_core.proofs.sending.send.Goals as goal

@@ -1,6 +1,6 @@
 use Rattle.std.proofs.Common.{◌≡◌, ◌+◌, ◌++◌, take, drop}
 use Rattle.std.specs.VecDeque.{deque_len}
-use Rattle.gate_items.specs.Ring.{renumbered}
+use Rattle.gate_items.specs.Inner.Ring.{renumbered}
 use Rattle.gate_items.proofs.build_set.renew_from.Given as goal
 
 abbrev pub invariant-loop-place : goal.invariant-loop-place

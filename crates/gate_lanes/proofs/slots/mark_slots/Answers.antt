@@ -4,7 +4,7 @@ use Rattle.std.proofs.lemmas.Simd.{splat_is_map}
 use Rattle.std.specs.List.{range_with_len}
 use Rattle.std.specs.Simd.Lanes.{zip2}
 use Rattle.gate_lanes.proofs.Rows.{cell_of_slot, one_slot_more, slot_is_inside}
-use Rattle.gate_lanes.specs.Masks.{marked_too}
+use Rattle.gate_lanes.specs.Inner.Masks.{marked_too}
 use Rattle.gate_lanes.proofs.slots.mark_slots.Goals as goal
 
 pub loop-slot-init : goal.loop-slot-init

@@ -1,6 +1,6 @@
 use Rattle.std.proofs.Common.{◌∙◌, ap, Bor, ℕ, List, map}
 use Rattle.gate_intern.specs.Columns.{texts_of}
-use Rattle.gate_match.specs.Finding.{finds, reach_of, rows_where}
+use Rattle.gate_match.specs.Inner.Finding.{finds, reach_of, rows_where}
 use Rattle.gate_match.proofs.Ids.{rows_pass}
 use Rattle.gate_match.proofs.Results.{if_ok}
 use Rattle.gate_match.proofs.answers.rows.Goals as goal

@@ -1,5 +1,5 @@
 use Rattle.std.proofs.Common.{◌≡◌, take}
-use Rattle.gate_match.specs.Compiling.{rules_in}
+use Rattle.gate_match.specs.Inner.Compiling.{rules_in}
 use Rattle.gate_match.proofs.compiling.compile.Given as goal
 
 abbrev pub invariant-loop-rule : goal.invariant-loop-rule

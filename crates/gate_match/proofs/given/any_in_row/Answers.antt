@@ -2,7 +2,7 @@ use Rattle.std.proofs.Common.{◌∙◌, ap, sym, ℕ, false, map, take, replica
 use Rattle.std.specs.List.{list_any, range_with_len}
 use Rattle.std.proofs.lemmas.List.FromFn.{length-range_with_len}
 use Rattle.gate_lanes.specs.Masks.{is_in_row}
-use Rattle.gate_match.specs.Marks.{either}
+use Rattle.gate_match.specs.Inner.Marks.{either}
 use Rattle.gate_match.proofs.Rows.{any_begins, any_more}
 use Rattle.gate_match.proofs.given.any_in_row.Goals as goal
 

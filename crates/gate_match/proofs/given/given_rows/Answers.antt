@@ -2,7 +2,7 @@ use Rattle.std.proofs.Common.{◌∙◌, ap, ℕ, List, Bool, map, length}
 use Rattle.std.specs.List.{list_any, range_with_len}
 use Rattle.gate_intern.specs.Columns.{approval_cells_of, is_same_vote}
 use Rattle.gate_lanes.specs.Masks.{is_in_row}
-use Rattle.gate_match.specs.Finding.{ids_where}
+use Rattle.gate_match.specs.Inner.Finding.{ids_where}
 use Rattle.gate_match.proofs.Votes.{given_is}
 use Rattle.gate_match.proofs.Results.{if_ok}
 use Rattle.gate_match.proofs.given.given_rows.Goals as goal

@@ -1,6 +1,6 @@
 use Rattle.std.proofs.Common.{◌≡◌, ◌++◌, ◌+◌, map, drop}
 use Rattle.gate_intern.specs.Columns.{is_same_vote}
-use Rattle.gate_match.specs.Finding.{ids_from, ids_where}
+use Rattle.gate_match.specs.Inner.Finding.{ids_from, ids_where}
 use Rattle.gate_match.proofs.given.ids_of.Given as goal
 
 -- what was found, and what will be found of the votes that are left, is all that is to be found

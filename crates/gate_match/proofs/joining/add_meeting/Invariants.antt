@@ -1,9 +1,9 @@
 use Rattle.std.proofs.Common.{◌≡◌, length, map, take}
 use Rattle.std.specs.List.{list_any}
 use Rattle.gate_rule.specs.Rule.{meets}
-use Rattle.gate_match.specs.Compiling.{rule_of}
-use Rattle.gate_match.specs.Knowing.{AreRight}
-use Rattle.gate_match.specs.Marks.{both, either}
+use Rattle.gate_match.specs.Inner.Compiling.{rule_of}
+use Rattle.gate_match.specs.Inner.Knowing.{AreRight}
+use Rattle.gate_match.specs.Inner.Marks.{both, either}
 use Rattle.gate_match.proofs.joining.add_meeting.Given as goal
 
 -- the rows that were added are those that meet one of the rules so far

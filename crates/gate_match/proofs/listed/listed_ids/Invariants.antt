@@ -1,6 +1,6 @@
 use Rattle.std.proofs.Common.{◌≡◌, ◌++◌, ◌+◌, map, drop}
 use Rattle.gate_config.specs.Lookups.{belongs}
-use Rattle.gate_match.specs.Finding.{ids_from, ids_where}
+use Rattle.gate_match.specs.Inner.Finding.{ids_from, ids_where}
 use Rattle.gate_match.proofs.listed.listed_ids.Given as goal
 
 -- what was found, and what will be found of the projects that are left, is all that is to be found

@@ -6,7 +6,7 @@ use Rattle.gate_config.specs.Selection.{is_listed}
 use Rattle.gate_lanes.specs.Masks.{is_among}
 use Rattle.gate_intern.specs.Columns.{texts_of}
 use Rattle.gate_intern.specs.declared.field.Field.TheVariants.{Project}
-use Rattle.gate_match.specs.Finding.{ids_where, passes, rows_where}
+use Rattle.gate_match.specs.Inner.Finding.{ids_where, passes, rows_where}
 use Rattle.gate_match.proofs.Ids.{map_alike, rows_pass}
 use Rattle.gate_match.proofs.Results.{if_ok}
 use Rattle.gate_match.proofs.listed.listed_rows.Goals as goal

@@ -4,9 +4,9 @@ use Rattle.gate_record.specs.declared.event.Event.{Event}
 use Rattle.gate_intern.specs.declared.field.Field.{Field}
 use Rattle.gate_intern.specs.Columns.{field_of}
 use Rattle.gate_match.specs.declared.asked.Asked.{Asked}
-use Rattle.gate_match.specs.Finding.{finds, found_in, passes, reach_of}
-use Rattle.gate_match.specs.Marks.{either}
-use Rattle.gate_match.specs.Narrowing.{patterns_of}
+use Rattle.gate_match.specs.Inner.Finding.{finds, found_in, passes, reach_of}
+use Rattle.gate_match.specs.Inner.Marks.{either}
+use Rattle.gate_match.specs.Inner.Narrowing.{patterns_of}
 use Rattle.gate_match.proofs.Ids.{map_alike}
 use Rattle.gate_match.proofs.Rows.{any_begins, any_done, any_more, list_any_map}
 use Rattle.gate_match.proofs.narrowing.any_found.Goals as goal

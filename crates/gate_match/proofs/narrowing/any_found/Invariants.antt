@@ -1,8 +1,8 @@
 use Rattle.std.proofs.Common.{◌≡◌, map, take}
 use Rattle.std.specs.List.{list_any}
 use Rattle.gate_intern.specs.Columns.{field_of}
-use Rattle.gate_match.specs.Finding.{finds, passes, reach_of}
-use Rattle.gate_match.specs.Knowing.{AreRight}
+use Rattle.gate_match.specs.Inner.Finding.{finds, passes, reach_of}
+use Rattle.gate_match.specs.Inner.Knowing.{AreRight}
 use Rattle.gate_match.proofs.narrowing.any_found.Given as goal
 
 -- what is known stays right, and the rows are those of the patterns so far

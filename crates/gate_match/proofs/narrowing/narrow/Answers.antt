@@ -4,7 +4,7 @@ use Rattle.gate_record.specs.Events.{is_delete}
 use Rattle.gate_rule.specs.declared.rule.Rule.{Rule}
 use Rattle.gate_rule.specs.Pattern.{front, within}
 use Rattle.gate_rule.specs.Rule.{is_approved, is_met, meets}
-use Rattle.gate_match.specs.Compiling.{rule_of}
+use Rattle.gate_match.specs.Inner.Compiling.{rule_of}
 use Rattle.gate_match.proofs.Narrowed.{go, on_ok, regroup, stop}
 use Rattle.gate_match.proofs.Rows.{both_alike}
 use Rattle.gate_match.proofs.narrowing.narrow.Goals as goal

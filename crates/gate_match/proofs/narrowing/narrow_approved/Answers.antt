@@ -2,8 +2,8 @@ use Rattle.std.proofs.Common.{◌∙◌, ap, ℕ, ℤ, List, Bool, map, take}
 use Rattle.std.specs.List.{list_all}
 use Rattle.gate_record.specs.declared.event.Event.{Event}
 use Rattle.gate_rule.specs.Rule.{is_given}
-use Rattle.gate_match.specs.Marks.{both}
-use Rattle.gate_match.specs.Narrowing.{given_to}
+use Rattle.gate_match.specs.Inner.Marks.{both}
+use Rattle.gate_match.specs.Inner.Narrowing.{given_to}
 use Rattle.gate_match.proofs.Rows.{all_begins, all_more}
 use Rattle.gate_match.proofs.narrowing.narrow_approved.Goals as goal
 

@@ -1,7 +1,7 @@
 use Rattle.std.proofs.Common.{◌≡◌, length, map, take}
 use Rattle.std.specs.List.{list_all}
 use Rattle.gate_rule.specs.Rule.{is_given}
-use Rattle.gate_match.specs.Marks.{both}
+use Rattle.gate_match.specs.Inner.Marks.{both}
 use Rattle.gate_match.proofs.narrowing.narrow_approved.Given as goal
 
 -- the rows that are left are those to which the categories so far are given

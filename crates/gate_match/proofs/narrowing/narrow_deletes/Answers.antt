@@ -1,7 +1,7 @@
 use Rattle.std.proofs.Common.{◌∙◌, ap, sym, map}
 use Rattle.gate_record.specs.Events.{is_delete}
-use Rattle.gate_match.specs.Marks.{both, without}
-use Rattle.gate_match.specs.Narrowing.{not_ignored}
+use Rattle.gate_match.specs.Inner.Marks.{both, without}
+use Rattle.gate_match.specs.Inner.Narrowing.{not_ignored}
 use Rattle.gate_match.proofs.Masks.{marks_are, words_of_map}
 use Rattle.gate_match.proofs.Rows.{both_all, without_is}
 use Rattle.gate_match.proofs.narrowing.narrow_deletes.Goals as goal

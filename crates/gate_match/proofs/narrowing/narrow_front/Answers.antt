@@ -4,9 +4,9 @@ use Rattle.gate_rule.specs.declared.rule.Rule.{Rule}
 use Rattle.gate_rule.specs.Pattern.{front}
 use Rattle.gate_rule.specs.Rule.{is_met}
 use Rattle.gate_intern.specs.declared.field.Field.TheVariants.{Kind, Branch, Refname}
-use Rattle.gate_match.specs.Compiling.{rule_of}
-use Rattle.gate_match.specs.Marks.{both}
-use Rattle.gate_match.specs.Narrowing.{meeting_in, patterns_of}
+use Rattle.gate_match.specs.Inner.Compiling.{rule_of}
+use Rattle.gate_match.specs.Inner.Marks.{both}
+use Rattle.gate_match.specs.Inner.Narrowing.{meeting_in, patterns_of}
 use Rattle.gate_match.proofs.Narrowed.{go, on_ok, stop}
 use Rattle.gate_match.proofs.narrowing.narrow_front.Goals as goal
 

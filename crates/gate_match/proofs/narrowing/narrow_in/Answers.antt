@@ -1,5 +1,5 @@
 use Rattle.std.proofs.Common.{◌∙◌, ap, sym}
-use Rattle.gate_match.specs.Marks.{both}
+use Rattle.gate_match.specs.Inner.Marks.{both}
 use Rattle.gate_match.proofs.Attributes.{none_asked, some_asked}
 use Rattle.gate_match.proofs.narrowing.narrow_in.Goals as goal
 

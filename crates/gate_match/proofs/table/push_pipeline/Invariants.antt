@@ -1,4 +1,4 @@
-use Rattle.gate_match.specs.Tables.{AreOfConfig}
+use Rattle.gate_match.specs.Inner.Tables.{AreOfConfig}
 use Rattle.gate_match.proofs.table.push_pipeline.Given as goal
 
 abbrev pub invariant-loop-conn : goal.invariant-loop-conn

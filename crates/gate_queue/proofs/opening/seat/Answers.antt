@@ -1,6 +1,6 @@
 use Rattle.std.proofs.Common.{◌∙◌, ap, arith, refl}
 use Rattle.gate_queue.specs.Seats.{in_table}
-use Rattle.gate_queue.specs.Sharing.{seated}
+use Rattle.gate_queue.specs.Inner.Sharing.{seated}
 use Rattle.gate_queue.proofs.Lists.{new_one_more, new_seat_is}
 use Rattle.gate_queue.proofs.Parts.{seats}
 use Rattle.gate_queue.proofs.opening.seat.Goals as goal

@@ -2,8 +2,8 @@ use Rattle.std.proofs.Common.{◌≡◌, ◌≤◌, vec_len}
 use Rattle.std.specs.Vec.{vec_capacity}
 use Rattle.crossbeam_queue.specs.Passes.{view, IsPassOf}
 use Rattle.gate_queue.specs.Seats.{in_table}
-use Rattle.gate_queue.specs.Sharing.{opening}
-use Rattle.gate_queue.specs.Views.{AreNew}
+use Rattle.gate_queue.specs.Inner.Sharing.{opening}
+use Rattle.gate_queue.specs.Inner.Views.{AreNew}
 use Rattle.gate_queue.proofs.opening.seat.Given as goal
 
 abbrev pub invariant-loop-sender : goal.invariant-loop-sender

@@ -2,7 +2,8 @@ use Rattle.std.proofs.Common.{◌≡◌, ◌≤◌, ◌-◌, vec_len}
 use Rattle.std.specs.Vec.{vec_capacity}
 use Rattle.crossbeam_queue.specs.Passes.{view, IsPassOf, ruled_capacity}
 use Rattle.gate_queue.specs.declared.known.Known.TheVariants.{Taker}
-use Rattle.gate_queue.specs.Views.{as_taker, with_more}
+use Rattle.gate_queue.specs.Views.{as_taker}
+use Rattle.gate_queue.specs.Inner.Views.{with_more}
 use Rattle.gate_queue.proofs.settle.drain.Given as goal
 
 abbrev pub invariant-loop-item : goal.invariant-loop-item

@@ -2,7 +2,8 @@ use Rattle.std.proofs.Common.{◌≡◌, ◌++◌, List, map, vec_len}
 use Rattle.crossbeam_queue.specs.Passes.{view, IsPassOf}
 use Rattle.gate_queue.specs.declared.known.Known.TheVariants.{Taker}
 use Rattle.gate_queue.specs.Seats.{SenderSeat}
-use Rattle.gate_queue.specs.Views.{as_taker, with_joined}
+use Rattle.gate_queue.specs.Views.{as_taker}
+use Rattle.gate_queue.specs.Inner.Views.{with_joined}
 use Rattle.gate_queue.proofs.settle.join.Given as goal
 
 abbrev pub invariant-loop-tail : goal.invariant-loop-tail

@@ -1,7 +1,7 @@
 use Rattle.std.proofs.Common.{◌≡◌, ◌∙◌, ℕ, List, [], ◌∷◌, Option, Some, None, codes, option_and_then, refl}
 use Rattle.serde_json.specs.Data.{Data}
 use Rattle.serde_json.specs.Find.{as_str, get}
-use Rattle.gate_record.specs.Fields.{account_in}
+use Rattle.gate_record.specs.Inner.Fields.{account_in}
 use Rattle.gate_record.specs.Json.{text_at}
 use Rattle.gate_record.specs.Numbers.{number_of}
 use Rattle.gate_record.specs.Reading.{account_of, account_text}

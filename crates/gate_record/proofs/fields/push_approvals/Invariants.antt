@@ -2,7 +2,7 @@ use Rattle.std.proofs.Common.{◌≡◌, ◌≤◌, ◌++◌, List, length, take
 use Rattle.std.specs.List.{filter_map}
 use Rattle.serde_json.specs.Data.{Data}
 use Rattle.gate_record.specs.Approvals.{approval_of}
-use Rattle.gate_record.specs.Tapes.{GoesOn}
+use Rattle.gate_record.specs.Inner.Tapes.{GoesOn}
 use Rattle.gate_record.specs.Limits.{most_approvals}
 use Rattle.gate_record.proofs.fields.push_approvals.Given as goal
 

@@ -1,7 +1,7 @@
 use Rattle.std.proofs.Common.{◌∙◌, ◌+◌, drop, map, sym}
 use Rattle.std.proofs.lemmas.List.{at_drop_more}
 use Rattle.json.specs.Tape.{node_token}
-use Rattle.gate_record.specs.Tapes.{fit}
+use Rattle.gate_record.specs.Inner.Tapes.{fit}
 use Rattle.gate_record.proofs.limits.fit.Goals as goal
 
 pub returns-in-None : goal.returns-in-None

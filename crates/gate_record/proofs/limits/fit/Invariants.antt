@@ -1,6 +1,6 @@
 use Rattle.std.proofs.Common.{◌≡◌, drop, map}
 use Rattle.json.specs.Tape.{node_token}
-use Rattle.gate_record.specs.Tapes.{fit}
+use Rattle.gate_record.specs.Inner.Tapes.{fit}
 use Rattle.gate_record.proofs.limits.fit.Given as goal
 
 -- what is left decides

@@ -4,7 +4,7 @@ use Rattle.json.specs.Find.{BeginsWith}
 use Rattle.json.specs.Lex.{tokens}
 use Rattle.json.proofs.Found.{document-BeginsWith}
 use Rattle.gate_record.specs.Reading.{reading_of_json}
-use Rattle.gate_record.specs.Tapes.{fit}
+use Rattle.gate_record.specs.Inner.Tapes.{fit}
 use Rattle.gate_record.proofs.Fitting.{read_is, unfit}
 use Rattle.gate_record.proofs.Readings.{some_is}
 use Rattle.gate_record.proofs.reader.read_tape.Goals as goal

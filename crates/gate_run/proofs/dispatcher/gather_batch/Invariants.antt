@@ -2,7 +2,7 @@ use Rattle.std.specs.Prelude.{◌≡◌, ◌≤◌, false, None}
 use Rattle.gate_queue.specs.Batches.{batch_head, batch_lender, batch_left}
 use Rattle.gate_queue.specs.Seats.{IsHeadOf}
 use Rattle.gate_tenant.specs.States.{config_of, has_ended, reserved_of, room_of, state_of, tenant_of}
-use Rattle.gate_run.specs.Dispatchers.{Continues}
+use Rattle.gate_run.specs.Inner.Dispatchers.{Continues}
 use Rattle.gate_run.proofs.dispatcher.gather_batch.Given as goal
 
 abbrev pub invariant-loop-taken : goal.invariant-loop-taken

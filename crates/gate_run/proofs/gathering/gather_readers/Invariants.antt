@@ -1,8 +1,8 @@
 use Rattle.std.specs.Prelude.{◌≡◌, ◌++◌, map, vec_items}
 use Rattle.std.specs.Vec.Iter.{into_iter_items}
 use Rattle.gate_source.specs.Stops.{IsNoteOf, Note}
-use Rattle.gate_run.specs.Gatherings.{knows_as_much, report_of_reader}
-use Rattle.gate_run.specs.Lists.{Each}
+use Rattle.gate_run.specs.Inner.Gatherings.{knows_as_much, report_of_reader}
+use Rattle.gate_run.specs.Inner.Lists.{Each}
 use Rattle.gate_run.proofs.gathering.gather_readers.Given as goal
 
 -- what was gathered, with what is left, is all; and a note that knows as much as this one and those that are left knows as much as

@@ -1,7 +1,7 @@
 use Rattle.std.proofs.Common.{rules, ◌≡◌, ◌∙◌, sym, ap, subst, ◌∷◌, [], length, map}
 use Rattle.std.specs.Vec.Iter.{into_iter_items}
-use Rattle.gate_run.specs.Seats.{seat_in, seat_of}
-use Rattle.gate_run.specs.Stages.{AreSettled}
+use Rattle.gate_run.specs.Inner.Seats.{seat_in, seat_of}
+use Rattle.gate_run.specs.Inner.Stages.{AreSettled}
 use Rattle.gate_run.proofs.Places.{head_same, tail_same}
 use Rattle.gate_run.proofs.Seated.{as_many}
 use Rattle.gate_run.proofs.Staged.{lane_settled, none_settled}

@@ -1,7 +1,7 @@
 use Rattle.std.proofs.Common.{rules, ◌≡◌, ◌∙◌, sym, ap, [], ◌∷◌, length, map}
 use Rattle.std.specs.List.{range_with_len}
 use Rattle.std.specs.Vec.Iter.{into_iter_items}
-use Rattle.gate_run.specs.Tables.{dealt_all}
+use Rattle.gate_run.specs.Inner.Tables.{dealt_all}
 use Rattle.gate_run.proofs.Paired.{map_length}
 use Rattle.gate_run.proofs.Places.{head_same, tail_same}
 use Rattle.gate_run.proofs.Staged.{range_length}

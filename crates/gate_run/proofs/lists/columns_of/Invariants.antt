@@ -1,6 +1,6 @@
 use Rattle.std.specs.Prelude.{◌≡◌, length, map, vec_items}
 use Rattle.std.specs.Vec.Iter.{into_iter_items}
-use Rattle.gate_run.specs.Tables.{dealt_all, empties}
+use Rattle.gate_run.specs.Inner.Tables.{dealt_all, empties}
 use Rattle.gate_run.proofs.lists.columns_of.Given as goal
 
 abbrev pub invariant-loop-row : goal.invariant-loop-row

@@ -1,6 +1,6 @@
 use Rattle.std.specs.Prelude.{◌≡◌, ◌++◌, length, map, vec_items}
 use Rattle.std.specs.Vec.Iter.{into_iter_items}
-use Rattle.gate_run.specs.Tables.{dealt}
+use Rattle.gate_run.specs.Inner.Tables.{dealt}
 use Rattle.gate_run.proofs.lists.deal.Given as goal
 
 abbrev pub invariant-loop-column : goal.invariant-loop-column

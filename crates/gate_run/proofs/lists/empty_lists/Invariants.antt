@@ -1,5 +1,5 @@
 use Rattle.std.specs.Prelude.{◌≡◌, map, vec_items}
-use Rattle.gate_run.specs.Tables.{empties}
+use Rattle.gate_run.specs.Inner.Tables.{empties}
 use Rattle.gate_run.proofs.lists.empty_lists.Given as goal
 
 abbrev pub invariant-loop-list : goal.invariant-loop-list

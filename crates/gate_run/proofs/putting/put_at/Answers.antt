@@ -1,5 +1,5 @@
 use Rattle.std.proofs.Common.{rules, ◌<◌, length}
-use Rattle.gate_run.specs.Seats.{seat_of}
+use Rattle.gate_run.specs.Inner.Seats.{seat_of}
 use Rattle.gate_run.proofs.Paired.{same_at, set_alike, set_itself}
 use Rattle.gate_run.proofs.putting.put_at.Goals as goal
 

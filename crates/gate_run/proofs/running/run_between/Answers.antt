@@ -1,8 +1,8 @@
 use Rattle.std.proofs.Common.{◌∙◌, subst, map}
 use Rattle.gate_run.specs.PipelineEnds.{inbox_of}
-use Rattle.gate_run.specs.Lists.{EachAt}
-use Rattle.gate_run.specs.Seatings.{AreWorkersOf, IsDispatcherOf, IsForwarderOf, IsReaderOf, IsWorkerOf}
-use Rattle.gate_run.specs.Works.{ReadyToDispatch, ReadyToForward, ReadyToRead, ReadyToWork}
+use Rattle.gate_run.specs.Inner.Lists.{EachAt}
+use Rattle.gate_run.specs.Inner.Seatings.{AreWorkersOf, IsDispatcherOf, IsForwarderOf, IsReaderOf, IsWorkerOf}
+use Rattle.gate_run.specs.Inner.Works.{ReadyToDispatch, ReadyToForward, ReadyToRead, ReadyToWork}
 use Rattle.gate_run.proofs.Paired.{map_length}
 use Rattle.gate_run.proofs.Places.{all_of_at}
 use Rattle.gate_run.proofs.Returning.{all_ready}

@@ -4,7 +4,7 @@ use Rattle.std.specs.List.{range_with_len}
 use Rattle.std.proofs.lemmas.Option.{slice_get_read}
 use Rattle.std.specs.Vec.Iter.{into_iter_items}
 use Rattle.gate_config.specs.Lookups.{pipelines_of, tenants_of}
-use Rattle.gate_run.specs.Seatings.{IsDispatcherOf}
+use Rattle.gate_run.specs.Inner.Seatings.{IsDispatcherOf}
 use Rattle.gate_run.specs.Seats.{fresh_tail}
 use Rattle.gate_run.proofs.Places.{left_is, next_is, some_left}
 use Rattle.gate_run.proofs.Seated.{map_map}

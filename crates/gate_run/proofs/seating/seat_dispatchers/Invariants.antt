@@ -1,7 +1,7 @@
 use Rattle.std.specs.Prelude.{◌≡◌, drop, length, map, vec_items}
 use Rattle.std.specs.Vec.Iter.{into_iter_items}
-use Rattle.gate_run.specs.Lists.{EachAt}
-use Rattle.gate_run.specs.Seatings.{IsDispatcherOf}
+use Rattle.gate_run.specs.Inner.Lists.{EachAt}
+use Rattle.gate_run.specs.Inner.Seatings.{IsDispatcherOf}
 use Rattle.gate_run.proofs.seating.seat_dispatchers.Given as goal
 
 abbrev pub invariant-loop-number : goal.invariant-loop-number

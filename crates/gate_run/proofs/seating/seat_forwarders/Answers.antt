@@ -3,7 +3,7 @@ use Rattle.std.specs.Prelude.{slice_get}
 use Rattle.std.proofs.lemmas.Option.{slice_get_read}
 use Rattle.std.specs.Vec.Iter.{into_iter_items}
 use Rattle.gate_config.specs.Lookups.{connections_of}
-use Rattle.gate_run.specs.Seatings.{IsForwarderOf}
+use Rattle.gate_run.specs.Inner.Seatings.{IsForwarderOf}
 use Rattle.std.specs.List.{range_with_len}
 use Rattle.gate_run.specs.Seats.{fresh_tail}
 use Rattle.gate_run.proofs.Places.{left_is, next_is, some_left}

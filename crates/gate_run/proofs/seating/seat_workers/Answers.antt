@@ -6,7 +6,7 @@ use Rattle.std.proofs.lemmas.Option.{slice_get_read}
 use Rattle.std.specs.Vec.Iter.{into_iter_items}
 use Rattle.gate_config.specs.Lookups.{pipelines_of, tenants_of}
 use Rattle.gate_run.specs.PipelineEnds.{inbox_of}
-use Rattle.gate_run.specs.Seatings.{AreWorkersOf}
+use Rattle.gate_run.specs.Inner.Seatings.{AreWorkersOf}
 use Rattle.gate_run.specs.Seats.{fresh_head}
 use Rattle.gate_run.proofs.Paired.{map_length}
 use Rattle.gate_run.proofs.Places.{left_is, next_is, some_left}

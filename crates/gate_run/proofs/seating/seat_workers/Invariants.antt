@@ -1,8 +1,8 @@
 use Rattle.std.specs.Prelude.{◌≡◌, drop, length, map, vec_items}
 use Rattle.std.specs.Vec.Iter.{into_iter_items}
-use Rattle.gate_run.specs.Lists.{EachAt}
+use Rattle.gate_run.specs.Inner.Lists.{EachAt}
 use Rattle.gate_run.specs.PipelineEnds.{inbox_of}
-use Rattle.gate_run.specs.Seatings.{AreWorkersOf}
+use Rattle.gate_run.specs.Inner.Seatings.{AreWorkersOf}
 use Rattle.gate_run.proofs.seating.seat_workers.Given as goal
 
 abbrev pub invariant-loop-number : goal.invariant-loop-number

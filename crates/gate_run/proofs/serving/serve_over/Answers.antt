@@ -1,7 +1,8 @@
 use Rattle.std.proofs.Common.{◌∙◌, sym, ap, subst, length, map}
 use Rattle.gate_source.specs.Stops.{IsNoteOf}
-use Rattle.gate_run.specs.Gatherings.{inbox_back, report_of_pipeline}
-use Rattle.gate_run.specs.Lists.{Each}
+use Rattle.gate_run.specs.Gatherings.{report_of_pipeline}
+use Rattle.gate_run.specs.Inner.Gatherings.{inbox_back}
+use Rattle.gate_run.specs.Inner.Lists.{Each}
 use Rattle.gate_run.specs.PipelineEnds.{inbox_of}
 use Rattle.gate_run.specs.Ports.{InboxView}
 use Rattle.gate_run.proofs.Paired.{map_length}

@@ -1,7 +1,7 @@
 use Rattle.std.proofs.Common.{rules, ◌∙◌, ap, arith, length, map}
 use Rattle.std.specs.List.{range_with_len}
 use Rattle.gate_run.specs.Seats.{fresh_head, fresh_tail}
-use Rattle.gate_run.specs.Tables.{dealt_all, empties}
+use Rattle.gate_run.specs.Inner.Tables.{dealt_all, empties}
 use Rattle.gate_run.proofs.Paired.{map_length}
 use Rattle.gate_run.proofs.Staged.{alike_more, as_wide, fresh_row, made_alike, one_longer, range_length}
 use Rattle.gate_run.proofs.Turned.{table_turned}

@@ -1,7 +1,7 @@
 use Rattle.std.proofs.Common.{rules, ◌≡◌, ◌∙◌, sym, ap, subst, ◌∷◌, map}
 use Rattle.std.specs.Vec.Iter.{into_iter_items}
-use Rattle.gate_run.specs.Seats.{seat_of}
-use Rattle.gate_run.specs.Stages.{AreSettled, seats_in}
+use Rattle.gate_run.specs.Inner.Seats.{seat_of}
+use Rattle.gate_run.specs.Inner.Stages.{AreSettled, seats_in}
 use Rattle.gate_run.proofs.Places.{head_same, tail_same}
 use Rattle.gate_run.proofs.Staged.{all_seated, settled_here}
 use Rattle.gate_run.proofs.stage.settle_all.Goals as goal

@@ -1,7 +1,7 @@
 use Rattle.std.proofs.Common.{rules, ◌≡◌, ◌∙◌, sym, ap, subst, map}
 use Rattle.std.specs.Vec.Iter.{into_iter_items}
-use Rattle.gate_run.specs.Seats.{seat_in, seat_of}
-use Rattle.gate_run.specs.Stages.{AreLanesSettled}
+use Rattle.gate_run.specs.Inner.Seats.{seat_in, seat_of}
+use Rattle.gate_run.specs.Inner.Stages.{AreLanesSettled}
 use Rattle.gate_run.proofs.stage.settle_lanes.Goals as goal
 
 pub loop-queues-init : goal.loop-queues-init

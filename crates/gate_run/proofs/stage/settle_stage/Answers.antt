@@ -1,7 +1,7 @@
 use Rattle.std.proofs.Common.{rules, ◌≡◌, ◌∙◌, sym, ap, length, map}
 use Rattle.std.specs.List.{range_with_len}
-use Rattle.gate_run.specs.Seats.{seat_in, seat_of}
-use Rattle.gate_run.specs.Tables.{dealt_all, empties}
+use Rattle.gate_run.specs.Inner.Seats.{seat_in, seat_of}
+use Rattle.gate_run.specs.Inner.Tables.{dealt_all, empties}
 use Rattle.gate_run.proofs.Paired.{map_length}
 use Rattle.gate_run.proofs.Places.{each_alike}
 use Rattle.gate_run.proofs.Seated.{map_map}

@@ -1,8 +1,8 @@
 use Rattle.std.proofs.Common.{rules, ◌≡◌, ◌∙◌, ◌<◌, List, Option, Some, None, refl, subst}
 use Rattle.gate_record.specs.declared.record.Record.{Record}
 use Rattle.gate_status.specs.declared.fault.SessionEnd.{SessionEnd}
-use Rattle.gate_status.specs.Listened.{Hears}
-use Rattle.gate_status.specs.Talks.{Talks}
+use Rattle.gate_status.specs.Inner.Listened.{Hears}
+use Rattle.gate_status.specs.Inner.Talks.{Talks}
 use Rattle.gate_status.proofs.Sessions.{closes_so, ends_by_reply, so_far_none, so_far_on}
 use Rattle.gate_status.proofs.port.session.Goals as goal
 

@@ -1,7 +1,7 @@
 use Rattle.std.proofs.Common.{◌≡◌, ◌∙◌, ◌++◌, ◌∷◌, [], List, Option, Some, None, refl, sym, ap, subst, append_assoc}
 use Rattle.gate_record.specs.declared.record.Record.{Record}
 use Rattle.gate_status.specs.declared.fault.SessionEnd.{SessionEnd}
-use Rattle.gate_status.specs.Talks.{Talks}
+use Rattle.gate_status.specs.Inner.Talks.{Talks}
 use Rattle.gate_status.proofs.Exchanges.{talks_more, talks_none, talks_on}
 use Rattle.gate_status.proofs.talking.answer_all.Goals as goal
 

@@ -1,7 +1,7 @@
 use Rattle.std.proofs.Common.{◌≡◌, ◌++◌, List, length, None}
 use Rattle.gate_record.specs.declared.record.Record.{Record}
 use Rattle.gate_status.specs.Replies.{ArePostsFor}
-use Rattle.gate_status.specs.Talks.{Talks}
+use Rattle.gate_status.specs.Inner.Talks.{Talks}
 use Rattle.gate_status.proofs.talking.answer_all.Given as goal
 
 -- some lines have their answers, and the session goes on

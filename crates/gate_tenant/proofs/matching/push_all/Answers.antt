@@ -3,7 +3,7 @@ use Rattle.std.proofs.lemmas.List.{take-append-drop, take_more}
 use Rattle.std.proofs.lemmas.Grind.{flat_map-append}
 use Rattle.std.proofs.Math.ListN.{length-append}
 use Rattle.gate_match.specs.Selecting.{masks_of}
-use Rattle.gate_tenant.specs.Batches.{given_by, row_in, rows_of}
+use Rattle.gate_tenant.specs.Inner.Batches.{given_by, row_in, rows_of}
 use Rattle.gate_tenant.specs.Dispatching.{by_pipeline}
 use Rattle.gate_tenant.proofs.Batches.{given_is, one_row}
 use Rattle.gate_tenant.proofs.matching.push_all.Goals as goal

@@ -1,5 +1,5 @@
 use Rattle.std.proofs.Common.{◌≡◌, ◌≤◌, flat_map, length, take}
-use Rattle.gate_tenant.specs.Batches.{rows_of}
+use Rattle.gate_tenant.specs.Inner.Batches.{rows_of}
 use Rattle.gate_tenant.specs.Dispatching.{by_pipeline}
 use Rattle.gate_tenant.proofs.matching.push_all.Given as goal
 

@@ -1,6 +1,6 @@
 use Rattle.std.proofs.Common.{◌∙◌, ◌++◌, ap, map}
 use Rattle.std.specs.Option.{option_to_list}
-use Rattle.gate_tenant.specs.Batches.{marked_item}
+use Rattle.gate_tenant.specs.Inner.Batches.{marked_item}
 use Rattle.gate_tenant.proofs.Ranges.{one_more_behind}
 use Rattle.gate_tenant.proofs.matching.push_event.Goals as goal
 

@@ -1,6 +1,6 @@
 use Rattle.std.proofs.Common.{◌≡◌, ◌++◌, map}
 use Rattle.std.specs.List.{filter_map, range_with_len}
-use Rattle.gate_tenant.specs.Batches.{marked_item}
+use Rattle.gate_tenant.specs.Inner.Batches.{marked_item}
 use Rattle.gate_tenant.proofs.matching.push_event.Given as goal
 
 -- what the pipelines so far get

@@ -6,7 +6,7 @@ use Rattle.std.specs.Str.{bytes_eq}
 use Rattle.std.proofs.lemmas.Map.Text.{btree_map_updates_text}
 use Rattle.serde_json.specs.View.{view}
 use Rattle.gate_config.specs.Document.{name_in}
-use Rattle.gate_config.specs.Jobs.{with_jobs}
+use Rattle.gate_config.specs.Inner.Jobs.{with_jobs}
 use Rattle.gate_config.proofs.JobLists.{added, on_ok}
 use Rattle.gate_config.proofs.jobs.Jobs.add.Goals as goal
 

@@ -1,7 +1,8 @@
 use Rattle.std.specs.Prelude.{◌≡◌, ◌+◌, ◌≤◌}
 use Rattle.gate_tenant.specs.States.{reserved_of}
 use Rattle.gate_core.specs.States.{with_gathered}
-use Rattle.gate_core.specs.Views.{config_of_tenant, number_of_tenant, tenant_view}
+use Rattle.gate_core.specs.Views.{tenant_view}
+use Rattle.gate_core.specs.Inner.Views.{config_of_tenant, number_of_tenant}
 use Rattle.gate_core.proofs.tenant.Tenant.fetch.Given as goal
 
 -- so many were gathered, and for the others room was made

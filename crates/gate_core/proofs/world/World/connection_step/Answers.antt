@@ -2,9 +2,10 @@ use Rattle.std.proofs.Common.{map, subst, sym, OnErr, ℕ, Option}
 use Rattle.std.proofs.lemmas.Option.{slice_get_past}
 use Rattle.gate_config.specs.declared.config.Config.{Config}
 use Rattle.gate_core.specs.Answers.{Does}
-use Rattle.gate_core.specs.Needs.{ConnectionNeeds, IsThere}
+use Rattle.gate_core.specs.Needs.{IsThere}
+use Rattle.gate_core.specs.Inner.Needs.{ConnectionNeeds}
 use Rattle.gate_core.specs.States.{ConnectionState}
-use Rattle.gate_core.specs.Steps.{connection_step}
+use Rattle.gate_core.specs.Inner.Steps.{connection_step}
 use Rattle.gate_core.specs.Views.{connection_view, tenant_view}
 use Rattle.gate_core.proofs.Elements.{lent, seen}
 use Rattle.gate_core.proofs.Wholes.{connection_does, connection_idles, known, still_connections}

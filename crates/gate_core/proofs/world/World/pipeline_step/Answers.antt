@@ -2,8 +2,9 @@ use Rattle.std.proofs.Common.{◌∙◌, map, ap, refl, subst, sym, OnErr, Optio
 use Rattle.std.proofs.lemmas.Option.{slice_get_past}
 use Rattle.gate_core.specs.declared.answer.Answer.TheVariants.{Idle}
 use Rattle.gate_core.specs.declared.pipeline.Pipeline.{Pipeline}
-use Rattle.gate_core.specs.Needs.{IsThere, PipelineNeeds}
-use Rattle.gate_core.specs.Pipelines.{pipeline_step}
+use Rattle.gate_core.specs.Needs.{IsThere}
+use Rattle.gate_core.specs.Inner.Needs.{PipelineNeeds}
+use Rattle.gate_core.specs.Inner.Pipelines.{pipeline_step}
 use Rattle.gate_core.specs.Steps.{on_pipeline, with_pipeline}
 use Rattle.gate_core.specs.Views.{connection_view, tenant_view}
 use Rattle.gate_core.proofs.Elements.{lent}

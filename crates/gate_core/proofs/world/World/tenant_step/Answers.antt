@@ -2,7 +2,7 @@ use Rattle.std.proofs.Common.{map, ℕ}
 use Rattle.std.proofs.lemmas.Option.{slice_get_past}
 use Rattle.gate_config.specs.declared.config.Config.{Config}
 use Rattle.gate_core.specs.Answers.{Does}
-use Rattle.gate_core.specs.Steps.{tenant_step}
+use Rattle.gate_core.specs.Inner.Steps.{tenant_step}
 use Rattle.gate_core.specs.Views.{connection_view, tenant_view}
 use Rattle.gate_core.proofs.Elements.{lent}
 use Rattle.gate_core.proofs.Wholes.{tenant_does, tenant_idles, known, still_tenants}

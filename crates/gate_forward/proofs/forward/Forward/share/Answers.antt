@@ -2,7 +2,8 @@ use Rattle.std.proofs.Common.{arith, ◌≡◌, ◌∙◌, ◌<◌, ap, length}
 use Rattle.gate_config.specs.Lookups.{tenants_of}
 use Rattle.gate_config.specs.Limits.{most_tenants}
 use Rattle.gate_record.specs.declared.reading.Reading.TheVariants as reading
-use Rattle.gate_forward.specs.Forwarding.{forwarded_reading, sends_reading}
+use Rattle.gate_forward.specs.Forwarding.{forwarded_reading}
+use Rattle.gate_forward.specs.Inner.Forwarding.{sends_reading}
 use Rattle.gate_forward.specs.Hands.{config_of, conn_of}
 use Rattle.gate_forward.proofs.Held.{all_filled, one_more}
 use Rattle.gate_forward.proofs.forward.Forward.share.Goals as goal

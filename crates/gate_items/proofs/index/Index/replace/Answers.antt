@@ -4,7 +4,7 @@ use Rattle.std.specs.BTreeMap.{BTreeMap, get, is_at}
 use Rattle.std.specs.Map.{lookup, remove_entry}
 use Rattle.std.specs.Ordering.{nat_cmp}
 use Rattle.std.specs.Prelude.{IfSome}
-use Rattle.gate_items.specs.Agreement.{Placed}
+use Rattle.gate_items.specs.Inner.Agreement.{Placed}
 use Rattle.gate_items.specs.KeyOrder.{key_cmp}
 use Rattle.gate_items.specs.declared.key.Key.{Key}
 use Rattle.gate_items.proofs.index.Index.replace.Goals as goal

@@ -3,7 +3,7 @@ use Rattle.std.specs.BTreeMap.{get, values}
 use Rattle.std.specs.List.{find}
 use Rattle.std.specs.Ordering.{nat_cmp}
 use Rattle.gate_record.specs.declared.ids.ManagerKind.TheVariants.{Independent}
-use Rattle.gate_items.specs.Agreement.{Agrees}
+use Rattle.gate_items.specs.Inner.Agreement.{Agrees}
 use Rattle.gate_items.specs.KeyOrder.{key_cmp}
 use Rattle.gate_items.specs.Machine.{State, after_plan, dequeued, is_of}
 use Rattle.gate_items.specs.declared.action.Discard.TheVariants.{NoItem}

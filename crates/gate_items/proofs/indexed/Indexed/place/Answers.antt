@@ -2,14 +2,14 @@ use Rattle.std.proofs.Common.{◌≡◌, ◌∙◌, ◌+◌, ap, arith, length, 
 use Rattle.std.specs.BTreeMap.{get}
 use Rattle.std.specs.List.{find}
 use Rattle.std.specs.Ordering.{nat_cmp}
-use Rattle.gate_items.specs.Agreement.{Agrees}
+use Rattle.gate_items.specs.Inner.Agreement.{Agrees}
 use Rattle.gate_items.specs.KeyOrder.{key_cmp}
 use Rattle.gate_items.specs.declared.item.QueueItem.{QueueItem}
 use Rattle.std.proofs.Common.{refl, w64}
 use Rattle.std.proofs.lemmas.Int.{to_z-of_z}
 use Rattle.std.specs.BTreeMap.{values}
 use Rattle.gate_record.specs.declared.ids.ManagerKind.TheVariants.{Independent}
-use Rattle.gate_items.specs.Agreement.{Placed, cause, standing}
+use Rattle.gate_items.specs.Inner.Agreement.{Placed, cause, standing}
 use Rattle.gate_items.specs.Machine.{State, after_plan, is_of, new_item, placing}
 use Rattle.gate_items.specs.declared.action.Discard.TheVariants.{Numbers}
 use Rattle.gate_items.specs.declared.action.Outcome.TheVariants.{Applied, Discarded}

@@ -2,7 +2,7 @@ use Rattle.std.proofs.Common.{◌≡◌, ◌∙◌, ap, arith, length, subst, sy
 use Rattle.std.specs.BTreeMap.{BTreeMap, get}
 use Rattle.std.specs.List.{find}
 use Rattle.std.specs.Ordering.{nat_cmp}
-use Rattle.gate_items.specs.Agreement.{Agrees}
+use Rattle.gate_items.specs.Inner.Agreement.{Agrees}
 use Rattle.gate_items.specs.KeyOrder.{key_cmp}
 use Rattle.gate_items.specs.declared.item.QueueItem.{QueueItem}
 use Rattle.gate_items.specs.declared.key.Key.{Key}

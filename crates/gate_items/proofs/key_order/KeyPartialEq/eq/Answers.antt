@@ -1,5 +1,5 @@
 use Rattle.std.proofs.Common.{◌∙◌}
-use Rattle.gate_items.specs.KeyOrder.{same_by_cmp}
+use Rattle.gate_items.specs.Inner.KeyOrder.{same_by_cmp}
 use Rattle.gate_items.proofs.key_order.KeyPartialEq.eq.Goals as goal
 
 pub returns : goal.returns

@@ -1,7 +1,7 @@
 use Rattle.std.proofs.Common.{◌∙◌, ap, sym}
 use Rattle.std.specs.List.{position}
 use Rattle.gate_items.specs.Machine.{State, is_of}
-use Rattle.gate_items.specs.Steps.{changed}
+use Rattle.gate_items.specs.Inner.Steps.{changed}
 use Rattle.gate_items.proofs.Plans.{dequeues_at, dequeues_nothing}
 use Rattle.gate_items.proofs.ordered.Ordered.dequeue.Goals as goal
 

@@ -2,7 +2,7 @@ use Rattle.std.proofs.Common.{◌≡◌, ◌∙◌, Some, ap, get_or, of_z, sym,
 use Rattle.std.specs.List.{position}
 use Rattle.std.proofs.lemmas.Int.{to_z-of_z}
 use Rattle.gate_items.specs.Machine.{State, is_of}
-use Rattle.gate_items.specs.Steps.{why_not}
+use Rattle.gate_items.specs.Inner.Steps.{why_not}
 use Rattle.gate_items.specs.declared.item.QueueItem.{QueueItem}
 use Rattle.gate_items.proofs.Plans.{is_inside, is_newer, is_refused, places_last}
 use Rattle.gate_items.proofs.ordered.Ordered.older_place.Goals as goal

@@ -1,8 +1,8 @@
 use Rattle.std.proofs.Common.{◌≡◌, ◌∙◌, ◌+◌, ◌<◌, ap, arith, drop, get_or, length, refl, set, subst, sym}
 use Rattle.gate_record.specs.declared.ids.ManagerKind.TheVariants.{Dependent}
-use Rattle.gate_items.specs.Ring.{RingState}
+use Rattle.gate_items.specs.Inner.Ring.{RingState}
 use Rattle.gate_items.specs.Machine.{State, with_outcome}
-use Rattle.gate_items.specs.Steps.{changed, recorded_at}
+use Rattle.gate_items.specs.Inner.Steps.{changed, recorded_at}
 use Rattle.gate_items.specs.declared.action.Outcome.TheVariants.{Applied}
 use Rattle.gate_items.specs.declared.item.QueueItem.{QueueItem}
 use Rattle.gate_items.proofs.Parts.{rest_written}

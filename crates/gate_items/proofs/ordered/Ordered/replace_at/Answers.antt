@@ -1,6 +1,6 @@
 use Rattle.std.proofs.Common.{◌≡◌, ◌∙◌, ◌+◌, Some, ap, get_or, drop, sym}
 use Rattle.std.specs.List.{position}
-use Rattle.gate_items.specs.Ring.{RingState}
+use Rattle.gate_items.specs.Inner.Ring.{RingState}
 use Rattle.gate_items.specs.Machine.{State, is_of, renewed}
 use Rattle.gate_items.specs.declared.item.QueueItem.{QueueItem}
 use Rattle.gate_items.proofs.Parts.{read_front}

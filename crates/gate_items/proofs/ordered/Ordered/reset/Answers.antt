@@ -1,7 +1,7 @@
 use Rattle.std.proofs.Common.{◌≡◌, ◌∙◌, Some, ap, sym}
 use Rattle.std.specs.List.{position}
 use Rattle.gate_items.specs.Machine.{State, is_of}
-use Rattle.gate_items.specs.Steps.{changed}
+use Rattle.gate_items.specs.Inner.Steps.{changed}
 use Rattle.gate_items.specs.declared.item.QueueItem.{QueueItem}
 use Rattle.gate_items.proofs.Plans.{found_at, resets_at, resets_nothing}
 use Rattle.gate_items.proofs.ordered.Ordered.reset.Goals as goal

@@ -1,7 +1,7 @@
 use Rattle.std.proofs.Common.{◌≡◌, ◌∙◌, Some, ap, sym}
 use Rattle.std.specs.List.{position}
 use Rattle.gate_items.specs.Machine.{State, has_set}
-use Rattle.gate_items.specs.Steps.{changed}
+use Rattle.gate_items.specs.Inner.Steps.{changed}
 use Rattle.gate_items.specs.declared.item.QueueItem.{QueueItem}
 use Rattle.gate_items.proofs.Plans.{found_at, results_at, results_nothing}
 use Rattle.gate_items.proofs.ordered.Ordered.result.Goals as goal

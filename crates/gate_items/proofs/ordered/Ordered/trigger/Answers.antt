@@ -2,7 +2,7 @@ use Rattle.std.proofs.Common.{◌≡◌, ◌∙◌, None, Some, ap, of_z, sym, t
 use Rattle.std.specs.Prelude.{Err, Ok}
 use Rattle.std.proofs.lemmas.Int.{to_z-of_z}
 use Rattle.gate_items.specs.Machine.{Plan, Refuses, triggered}
-use Rattle.gate_items.specs.Steps.{changed, placed_last, replaced_at}
+use Rattle.gate_items.specs.Inner.Steps.{changed, placed_last, replaced_at}
 use Rattle.gate_items.proofs.Plans.{does_by, judged_as, refused_by_plan, triggers_by}
 use Rattle.gate_items.proofs.ordered.Ordered.trigger.Goals as goal
 

@@ -3,7 +3,7 @@ use Rattle.std.specs.List.{position}
 use Rattle.std.specs.BTreeMap.{get}
 use Rattle.std.proofs.lemmas.List.Sorted.{answers_always}
 use Rattle.gate_items.specs.KeyOrder.{key_cmp}
-use Rattle.gate_items.specs.Ring.{RingState}
+use Rattle.gate_items.specs.Inner.Ring.{RingState}
 use Rattle.gate_items.specs.Machine.{is_of}
 use Rattle.gate_items.specs.declared.ring.Numbered.{Numbered}
 use Rattle.gate_items.proofs.RingSteps.{key_absent, key_found, key_nowhere}

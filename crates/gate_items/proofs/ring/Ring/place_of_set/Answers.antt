@@ -3,7 +3,7 @@ use Rattle.std.specs.List.{position}
 use Rattle.std.specs.BTreeMap.{get}
 use Rattle.std.proofs.lemmas.List.Sorted.{answers_always}
 use Rattle.gate_items.specs.KeyOrder.{key_cmp}
-use Rattle.gate_items.specs.Ring.{RingState, set_of}
+use Rattle.gate_items.specs.Inner.Ring.{RingState, set_of}
 use Rattle.gate_items.specs.Machine.{has_set}
 use Rattle.gate_items.proofs.RingSteps.{set_found, set_nowhere}
 use Rattle.gate_items.proofs.ring.Ring.place_of_set.Goals as goal

@@ -3,7 +3,7 @@ use Rattle.std.specs.BTreeMap.{get, is_at}
 use Rattle.std.specs.List.{position}
 use Rattle.std.specs.Map.{lookup}
 use Rattle.gate_items.specs.KeyOrder.{key_cmp}
-use Rattle.gate_items.specs.Ring.{IsRing, RingState}
+use Rattle.gate_items.specs.Inner.Ring.{IsRing, RingState}
 use Rattle.gate_items.specs.Machine.{is_of}
 use Rattle.gate_items.specs.declared.key.Key.{Key}
 use Rattle.gate_items.specs.declared.ring.Numbered.{Numbered}

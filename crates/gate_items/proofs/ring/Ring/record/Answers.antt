@@ -2,7 +2,8 @@ use Rattle.std.proofs.Common.{◌≡◌, ap, arith, get_or, length, set, subst}
 use Rattle.std.specs.BTreeMap.{get}
 use Rattle.std.proofs.lemmas.List.{length-map}
 use Rattle.gate_items.specs.KeyOrder.{key_cmp}
-use Rattle.gate_items.specs.Ring.{RingState, after_ring, item_of, items_of}
+use Rattle.gate_items.specs.Ring.{item_of, items_of}
+use Rattle.gate_items.specs.Inner.Ring.{RingState, after_ring}
 use Rattle.gate_items.specs.Machine.{with_outcome}
 use Rattle.gate_items.proofs.RingSteps.{recorded_items, recorded_ring}
 use Rattle.gate_items.proofs.ring.Ring.record.Goals as goal

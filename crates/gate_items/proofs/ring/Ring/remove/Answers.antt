@@ -1,7 +1,8 @@
 use Rattle.std.proofs.Common.{◌≡◌, ◌∙◌, ◌+◌, ◌++◌, Some, ap, arith, drop, refl, slice_get, subst, sym, take}
 use Rattle.std.specs.BTreeMap.{get}
 use Rattle.gate_items.specs.KeyOrder.{key_cmp}
-use Rattle.gate_items.specs.Ring.{IsRing, RingState, after_ring, items_of}
+use Rattle.gate_items.specs.Ring.{items_of}
+use Rattle.gate_items.specs.Inner.Ring.{IsRing, RingState, after_ring}
 use Rattle.gate_items.proofs.RingSteps.{at_it, item_is, removed_items, removed_ring}
 use Rattle.gate_items.proofs.ring.Ring.remove.Goals as goal
 

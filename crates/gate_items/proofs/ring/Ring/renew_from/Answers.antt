@@ -2,7 +2,8 @@ use Rattle.std.proofs.Common.{◌≡◌, ◌∙◌, ◌+◌, ◌++◌, ap, drop,
 use Rattle.std.specs.BTreeMap.{get}
 use Rattle.std.proofs.lemmas.List.{drop-map, length-map}
 use Rattle.gate_items.specs.KeyOrder.{key_cmp}
-use Rattle.gate_items.specs.Ring.{IsRing, RingState, after_ring, item_of, items_of}
+use Rattle.gate_items.specs.Ring.{item_of, items_of}
+use Rattle.gate_items.specs.Inner.Ring.{IsRing, RingState, after_ring}
 use Rattle.gate_items.specs.Machine.{renewed}
 use Rattle.gate_items.proofs.RingSteps.{renewed_items, renewed_ring}
 use Rattle.gate_items.proofs.ring.Ring.renew_from.Goals as goal

@@ -3,7 +3,8 @@ use Rattle.std.specs.BTreeMap.{get}
 use Rattle.std.proofs.lemmas.List.{length-map, map-append}
 use Rattle.gate_items.specs.KeyOrder.{key_cmp}
 use Rattle.gate_items.specs.Keys.{is_same}
-use Rattle.gate_items.specs.Ring.{IsRing, RingState, after_ring, item_of, items_of}
+use Rattle.gate_items.specs.Ring.{item_of, items_of}
+use Rattle.gate_items.specs.Inner.Ring.{IsRing, RingState, after_ring}
 use Rattle.gate_items.specs.declared.item.QueueItem.{QueueItem}
 use Rattle.gate_items.specs.declared.ring.Numbered.{Numbered}
 use Rattle.gate_items.proofs.RingSteps.{Spot, as_found, known, removed_items, replaced_ring, spot}

@@ -2,7 +2,7 @@ use Rattle.std.proofs.Common.{eqb, replicate, sym, subst, ◌≡◌, w32}
 use Rattle.gate_lanes.proofs.Chosen.{chosen}
 use Rattle.std.proofs.lemmas.Simd.{tops_compared}
 use Rattle.std.specs.Simd.Lanes.{sel_l, zip2}
-use Rattle.gate_lanes.specs.Masks.{marked_too}
+use Rattle.gate_lanes.specs.Inner.Masks.{marked_too}
 use Rattle.gate_lanes.specs.declared.TheConstants.{MARKED}
 use Rattle.gate_lanes.proofs.slots.HoldsJoin.group.Goals as goal
 

@@ -1,7 +1,7 @@
 use Rattle.std.proofs.Common.{◌∙◌, refl, sym, ap, length}
 use Rattle.std.proofs.lemmas.List.{length-map}
 use Rattle.gate_intern.specs.Columns.{field_of}
-use Rattle.gate_match.specs.Finding.{finds, passes, reach_of}
+use Rattle.gate_match.specs.Inner.Finding.{finds, passes, reach_of}
 use Rattle.gate_match.proofs.answers.Answers.add.Goals as goal
 
 pub or-requires-2 : goal.or-requires-2

@@ -4,7 +4,7 @@ use Rattle.std.specs.Map.{values_of}
 use Rattle.std.specs.Ordering.{nat_cmp}
 use Rattle.std.proofs.lemmas.Map.Views.{All-values-insert_entry}
 use Rattle.gate_match.specs.declared.answers.Answer.{Answer}
-use Rattle.gate_match.specs.Knowing.{IsRight}
+use Rattle.gate_match.specs.Inner.Knowing.{IsRight}
 use Rattle.gate_match.proofs.answers.Answers.keep.Goals as goal
 
 pub returns : goal.returns

@@ -1,6 +1,6 @@
 use Rattle.std.proofs.Common.{◌∙◌, ap, sym}
 use Rattle.gate_rule.specs.Pattern.{finds_at_front, finds_within, tree_in, tree_of}
-use Rattle.gate_match.specs.Finding.{finds}
+use Rattle.gate_match.specs.Inner.Finding.{finds}
 use Rattle.gate_match.proofs.Truncated.{same_test}
 use Rattle.gate_match.proofs.kept.Kept.finds.Goals as goal
 

@@ -1,7 +1,7 @@
 use Rattle.std.proofs.Common.{◌≡◌, ◌∙◌, sym, ap, Bor, ℕ, List, [], ◌++◌, ◌+◌, map, drop, Vec, Global}
 use Rattle.gate_rule.specs.Pattern.{text_of}
 use Rattle.gate_rule.specs.declared.pattern.Pattern.{Pattern}
-use Rattle.gate_match.specs.Finding.{finds, ids_from, ids_where}
+use Rattle.gate_match.specs.Inner.Finding.{finds, ids_from, ids_where}
 use Rattle.gate_match.proofs.Finding.{found_more, missed_more, none_more}
 use Rattle.gate_match.proofs.kept.Kept.ids.Goals as goal
 use Rattle.gate_match.proofs.kept.Kept.ids.Goals.{then-finds+in_ok-push, else-finds}

@@ -1,6 +1,6 @@
 use Rattle.std.proofs.Common.{◌≡◌, ◌++◌, ◌+◌, map, drop}
 use Rattle.gate_rule.specs.Pattern.{text_of}
-use Rattle.gate_match.specs.Finding.{HoldsOfText, finds, ids_from, ids_where}
+use Rattle.gate_match.specs.Inner.Finding.{HoldsOfText, finds, ids_from, ids_where}
 use Rattle.gate_match.proofs.kept.Kept.ids.Given as goal
 
 -- what was found, and what will be found of the texts that are left, is all that is to be found

@@ -2,7 +2,7 @@ use Rattle.std.proofs.Common.{◌≡◌, ◌∙◌, ◌&&◌, bit_and, sym, ap, 
 use Rattle.std.proofs.lemmas.List.{length-map}
 use Rattle.std.specs.Simd.Lanes.{zip2}
 use Rattle.std.proofs.lemmas.Simd.{length-zip2}
-use Rattle.gate_match.specs.Marks.{both, is_marked, marks_of}
+use Rattle.gate_match.specs.Inner.Marks.{both, is_marked, marks_of}
 use Rattle.gate_match.proofs.Masks.{and_marks, are_marks, joined, marks_are}
 use Rattle.gate_match.proofs.mask.Mask.and.Goals as goal
 

@@ -3,7 +3,7 @@ use Rattle.std.proofs.lemmas.List.{length-map}
 use Rattle.std.specs.Simd.Lanes.{zip2}
 use Rattle.std.proofs.lemmas.Simd.{length-zip2}
 use Rattle.gate_lanes.specs.Masks.{cleared_if}
-use Rattle.gate_match.specs.Marks.{is_marked, marks_of, without}
+use Rattle.gate_match.specs.Inner.Marks.{is_marked, marks_of, without}
 use Rattle.gate_match.proofs.Masks.{are_marks, cleared, marks_are}
 use Rattle.gate_match.proofs.mask.Mask.clear.Goals as goal
 

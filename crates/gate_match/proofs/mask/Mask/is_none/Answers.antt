@@ -1,6 +1,6 @@
 use Rattle.std.proofs.Common.{◌∙◌, ◌==◌, ap, not}
 use Rattle.gate_lanes.specs.Masks.{count_marked}
-use Rattle.gate_match.specs.Marks.{marks_any}
+use Rattle.gate_match.specs.Inner.Marks.{marks_any}
 use Rattle.gate_match.proofs.Masks.{none_counted}
 use Rattle.gate_match.proofs.mask.Mask.is_none.Goals as goal
 

@@ -2,7 +2,7 @@ use Rattle.std.proofs.Common.{◌≡◌, ◌∙◌, ◌||◌, bit_or, sym, ap, l
 use Rattle.std.proofs.lemmas.List.{length-map}
 use Rattle.std.specs.Simd.Lanes.{zip2}
 use Rattle.std.proofs.lemmas.Simd.{length-zip2}
-use Rattle.gate_match.specs.Marks.{either, is_marked, marks_of}
+use Rattle.gate_match.specs.Inner.Marks.{either, is_marked, marks_of}
 use Rattle.gate_match.proofs.Masks.{or_marks, are_marks, joined, marks_are}
 use Rattle.gate_match.proofs.mask.Mask.or.Goals as goal
 

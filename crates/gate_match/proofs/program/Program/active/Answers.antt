@@ -1,5 +1,5 @@
 use Rattle.std.proofs.Common.{◌∙◌, ap₂}
-use Rattle.gate_match.specs.Marks.{both}
+use Rattle.gate_match.specs.Inner.Marks.{both}
 use Rattle.gate_match.proofs.Chosen.{active_is}
 use Rattle.gate_match.proofs.program.Program.active.Goals as goal
 

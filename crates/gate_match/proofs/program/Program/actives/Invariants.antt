@@ -1,6 +1,6 @@
 use Rattle.std.proofs.Common.{◌≡◌, take, true}
 use Rattle.std.specs.List.{zip}
-use Rattle.gate_match.specs.Choosing.{AreActive, has_all}
+use Rattle.gate_match.specs.Inner.Choosing.{AreActive, has_all}
 use Rattle.gate_match.proofs.program.Program.actives.Given as goal
 
 -- each has its rows, and the connections so far are there

@@ -1,6 +1,6 @@
 use Rattle.std.proofs.Common.{◌≡◌, drop, false, length, replicate}
-use Rattle.gate_match.specs.Choosing.{chosen}
-use Rattle.gate_match.specs.Knowing.{AreRight}
+use Rattle.gate_match.specs.Inner.Choosing.{chosen}
+use Rattle.gate_match.specs.Inner.Knowing.{AreRight}
 use Rattle.gate_match.proofs.program.Program.chosen.Given as goal
 
 -- what was chosen, and what will be of the connections that are left, is all that is chosen

@@ -5,8 +5,8 @@ use Rattle.std.proofs.lemmas.Slice.Zip.{seconds-zip}
 use Rattle.gate_record.specs.declared.event.Event.{Event}
 use Rattle.gate_config.specs.declared.config.Config.{Config}
 use Rattle.gate_config.specs.Selection.{is_listed, selects_event}
-use Rattle.gate_match.specs.Choosing.{active_in}
-use Rattle.gate_match.specs.Marks.{words_of}
+use Rattle.gate_match.specs.Inner.Choosing.{active_in}
+use Rattle.gate_match.specs.Inner.Marks.{words_of}
 use Rattle.gate_match.proofs.Chosen.{chosen_rows}
 use Rattle.gate_match.proofs.Masks.{words_of_map}
 use Rattle.gate_match.proofs.program.Program.mask.Goals as goal

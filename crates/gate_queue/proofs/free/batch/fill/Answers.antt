@@ -1,7 +1,7 @@
 use Rattle.std.proofs.Common.{◌≡◌, ◌<◌, ◌≤◌, List, [], ◌∙◌}
 use Rattle.crossbeam_queue.specs.SegBatches.{Holds}
 use Rattle.gate_queue.specs.declared.tagged.Tagged.{Tagged}
-use Rattle.gate_queue.specs.Sharing.{CanWait, HasTakenAll}
+use Rattle.gate_queue.specs.Inner.Sharing.{CanWait, HasTakenAll}
 use Rattle.gate_queue.specs.FreeViews.{known_by}
 use Rattle.gate_queue.proofs.FreeKeeps.{free_take_many_keeps}
 use Rattle.gate_queue.proofs.FreeHeads.{some_of, taken_from}

@@ -1,6 +1,6 @@
 use Rattle.std.proofs.Common.{◌≡◌}
 use Rattle.crossbeam_queue.specs.SegTies.{IsSegPassOf}
-use Rattle.gate_queue.specs.Sharing.{opening}
+use Rattle.gate_queue.specs.Inner.Sharing.{opening}
 use Rattle.gate_queue.specs.FreeViews.{known_by}
 use Rattle.gate_queue.proofs.free.opening.plan.Given as goal
 

@@ -1,6 +1,6 @@
 use Rattle.std.proofs.Common.{◌∙◌, ap, arith, refl}
 use Rattle.gate_queue.specs.Seats.{in_blocks}
-use Rattle.gate_queue.specs.Sharing.{seated}
+use Rattle.gate_queue.specs.Inner.Sharing.{seated}
 use Rattle.gate_queue.proofs.Lists.{new_one_more, new_seat_is}
 use Rattle.gate_queue.proofs.FreeKeeps.{free_seats}
 use Rattle.gate_queue.proofs.free.opening.seat.Goals as goal

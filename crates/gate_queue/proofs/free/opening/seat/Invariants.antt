@@ -2,8 +2,8 @@ use Rattle.std.proofs.Common.{◌≡◌, ◌≤◌, vec_len}
 use Rattle.std.specs.Vec.{vec_capacity}
 use Rattle.crossbeam_queue.specs.SegTies.{IsSegPassOf}
 use Rattle.gate_queue.specs.Seats.{in_blocks}
-use Rattle.gate_queue.specs.Sharing.{opening}
-use Rattle.gate_queue.specs.Views.{AreNew}
+use Rattle.gate_queue.specs.Inner.Sharing.{opening}
+use Rattle.gate_queue.specs.Inner.Views.{AreNew}
 use Rattle.gate_queue.specs.FreeViews.{known_by}
 use Rattle.gate_queue.proofs.free.opening.seat.Given as goal
 

@@ -3,7 +3,8 @@ use Rattle.std.specs.Vec.{vec_capacity}
 use Rattle.crossbeam_queue.specs.SegTies.{IsSegPassOf}
 use Rattle.gate_queue.specs.declared.tagged.Tagged.{Tagged}
 use Rattle.gate_queue.specs.declared.known.Known.TheVariants.{Taker}
-use Rattle.gate_queue.specs.Views.{as_taker, with_more}
+use Rattle.gate_queue.specs.Views.{as_taker}
+use Rattle.gate_queue.specs.Inner.Views.{with_more}
 use Rattle.gate_queue.specs.FreeViews.{known_by}
 use Rattle.gate_queue.proofs.free.settle.drain.Given as goal
 

@@ -3,7 +3,8 @@ use Rattle.std.specs.Vec.{vec_capacity}
 use Rattle.crossbeam_queue.specs.SegTies.{IsSegPassOf}
 use Rattle.gate_queue.specs.declared.known.Known.TheVariants.{Taker}
 use Rattle.gate_queue.specs.Seats.{SenderSeat}
-use Rattle.gate_queue.specs.Views.{as_taker, with_joined}
+use Rattle.gate_queue.specs.Views.{as_taker}
+use Rattle.gate_queue.specs.Inner.Views.{with_joined}
 use Rattle.gate_queue.specs.FreeViews.{known_by}
 use Rattle.gate_queue.proofs.free.settle.join.Given as goal
 

@@ -3,7 +3,8 @@ use Rattle.std.specs.Vec.{vec_capacity}
 use Rattle.crossbeam_queue.specs.SegTies.{IsSegPassOf}
 use Rattle.gate_queue.specs.declared.known.Known.TheVariants.{Taker}
 use Rattle.gate_queue.specs.Seats.{in_blocks}
-use Rattle.gate_queue.specs.Views.{as_taker, with_joined, seats_from}
+use Rattle.gate_queue.specs.Views.{as_taker}
+use Rattle.gate_queue.specs.Inner.Views.{with_joined, seats_from}
 use Rattle.gate_queue.specs.FreeViews.{known_by}
 use Rattle.gate_queue.proofs.free.settle.part.Given as goal
 

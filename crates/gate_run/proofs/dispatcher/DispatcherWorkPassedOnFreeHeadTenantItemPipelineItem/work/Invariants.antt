@@ -1,7 +1,7 @@
 use Rattle.std.specs.Prelude.{◌≡◌, map}
 use Rattle.gate_queue.specs.Seats.{IsHeadOf}
-use Rattle.gate_run.specs.Dispatchers.{IsDispatching}
-use Rattle.gate_run.specs.Seats.{seat_in, seat_of}
+use Rattle.gate_run.specs.Inner.Dispatchers.{IsDispatching}
+use Rattle.gate_run.specs.Inner.Seats.{seat_in, seat_of}
 use Rattle.gate_run.proofs.dispatcher.DispatcherWorkPassedOnFreeHeadTenantItemPipelineItem.work.Given as goal
 
 abbrev pub invariant-loop : goal.invariant-loop

@@ -1,7 +1,7 @@
 use Rattle.std.specs.Prelude.{◌≡◌, None, map}
 use Rattle.gate_queue.specs.Seats.{IsHeadOf}
-use Rattle.gate_run.specs.Forwarders.{IsForwarding}
-use Rattle.gate_run.specs.Seats.{seat_in, seat_of}
+use Rattle.gate_run.specs.Inner.Forwarders.{IsForwarding}
+use Rattle.gate_run.specs.Inner.Seats.{seat_in, seat_of}
 use Rattle.gate_run.proofs.forwarder.ForwarderWorkPassedOnHeadConnEntryTenantItem.work.Given as goal
 
 abbrev pub invariant-loop : goal.invariant-loop

@@ -1,5 +1,5 @@
 use Rattle.std.specs.Prelude.{◌≡◌}
-use Rattle.gate_run.specs.Readers.{IsReading}
+use Rattle.gate_run.specs.Inner.Readers.{IsReading}
 use Rattle.gate_run.proofs.reader.ReaderWorkReaderEnd.work.Given as goal
 
 abbrev pub invariant-loop : goal.invariant-loop

@@ -1,6 +1,6 @@
 use Rattle.std.specs.Prelude.{None}
 use Rattle.gate_queue.specs.Seats.{IsHeadOf}
-use Rattle.gate_run.specs.Workers.{IsWorking}
+use Rattle.gate_run.specs.Inner.Workers.{IsWorking}
 use Rattle.gate_run.proofs.worker.WorkerWorkWorkerEnd.work.Given as goal
 
 abbrev pub invariant-loop : goal.invariant-loop

@@ -3,7 +3,8 @@ use Rattle.std.specs.Prelude.{option_map}
 use Rattle.std.specs.Option.{option_to_list}
 use Rattle.gate_record.specs.declared.record.Record.{Record}
 use Rattle.gate_record.specs.Lines.{ended_records}
-use Rattle.gate_source.specs.Splitting.{Feeds, kept_of, record_with}
+use Rattle.gate_source.specs.Splitting.{Feeds, kept_of}
+use Rattle.gate_source.specs.Inner.Splitting.{record_with}
 use Rattle.gate_source.proofs.Kept.{feeds_lines, feeds_more}
 use Rattle.gate_source.proofs.split.LineSplit.feed.Goals as goal
 

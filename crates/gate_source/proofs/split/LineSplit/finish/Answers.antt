@@ -1,5 +1,5 @@
 use Rattle.std.proofs.Common.{◌∙◌, ap}
-use Rattle.gate_source.specs.Splitting.{record_left}
+use Rattle.gate_source.specs.Inner.Splitting.{record_left}
 use Rattle.gate_source.proofs.Kept.{finishes}
 use Rattle.gate_source.proofs.split.LineSplit.finish.Goals as goal
 

@@ -1,5 +1,5 @@
 use Rattle.std.proofs.Common.{◌≡◌, flat_map, take}
-use Rattle.gate_tenant.specs.Batches.{conns_in, events_in}
+use Rattle.gate_tenant.specs.Inner.Batches.{conns_in, events_in}
 use Rattle.gate_tenant.proofs.batch.Batch.of.Given as goal
 
 -- the rows of the items so far

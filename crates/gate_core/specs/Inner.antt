@@ -1,0 +1,8 @@
+-- What only private contracts and proofs cite: no public contract rests on it.
+pub mod Faults
+pub mod Needs
+pub mod Pipelines
+pub mod Replays
+pub mod Sends
+pub mod Steps
+pub mod Views

@@ -1,0 +1,69 @@
+-- The works of a run: what each asks for before it begins, and what it comes to.
+use Rattle.std.specs.Prelude.{◌≡◌, ℕ, List, length, map}
+use Rattle.gate_record.specs.declared.transit.ConnEntry.{ConnEntry}
+use Rattle.gate_record.specs.declared.transit.PipelineItem.{PipelineItem}
+use Rattle.gate_record.specs.declared.transit.TenantItem.{TenantItem}
+use Rattle.gate_config.specs.declared.config.Config.{Config}
+use Rattle.gate_config.specs.Lookups.{connections_of, tenants_of}
+use Rattle.gate_queue.specs.Seats.{TakerSeat}
+use Rattle.gate_run.specs.declared.dispatcher.Dispatcher.{Dispatcher}
+use Rattle.gate_run.specs.declared.forwarder.Forwarder.{Forwarder}
+use Rattle.gate_run.specs.declared.gathering.Ends.{Ends}
+use Rattle.gate_run.specs.declared.putting.PassedOn.{PassedOn}
+use Rattle.gate_run.specs.declared.queues.Queues.{Queues}
+use Rattle.gate_run.specs.declared.reader.Reader.{Reader}
+use Rattle.gate_run.specs.declared.reader.ReaderEnd.{ReaderEnd}
+use Rattle.gate_run.specs.declared.worker.Worker.{Worker}
+use Rattle.gate_run.specs.declared.worker.WorkerEnd.{WorkerEnd}
+use Rattle.gate_run.specs.Inner.Dispatchers.{CanDispatch, HasDispatched}
+use Rattle.gate_source.specs.Feeds.{Told}
+use Rattle.gate_run.specs.Inner.Forwarders.{CanForward, HasForwarded}
+use Rattle.gate_run.specs.Lists.{Pairwise}
+use Rattle.gate_run.specs.Inner.Lists.{EachAt}
+use Rattle.gate_run.specs.Ports.{InboxEnds}
+use Rattle.gate_run.specs.Inner.Readers.{CanRead, HasRead}
+use Rattle.gate_run.specs.Inner.Seatings.{AreWorkersOf, IsDispatcherOf, IsForwarderOf, IsReaderOf}
+use Rattle.gate_run.specs.Inner.Workers.{CanWork, HasWorked}
+
+abbrev pub ReadyToRead : {F : Type 0} → (F → ℕ) → Reader F → Type 0
+ReadyToRead faults w = CanRead w.queue.now w.tail w.cell.now w.note (faults w.feed)
+
+abbrev pub ReadyToForward : Forwarder → Type 0
+ReadyToForward w = CanForward w.config.now w.conn.0 w.source.now w.targets.now w.head w.tails.items
+
+abbrev pub ReadyToDispatch : Dispatcher → Type 0
+ReadyToDispatch w = CanDispatch w.config.now w.tenant.0 w.source.now w.targets.now w.head w.tails.items
+
+abbrev pub ReadyToWork : {G : Type 0} → Worker G → Type 0
+ReadyToWork w = CanWork w.config.now w.tenant.0 w.pipeline.0 w.state w.source.now w.head
+
+abbrev pub Read : {F : Type 0} → (F → Told) → (F → ℕ) → Reader F → ReaderEnd F → Type 0
+Read to_come faults w end = HasRead (to_come w.feed) (to_come end.feed) (faults w.feed) (faults end.feed) w.tail end.tail end.count end.cause w.note end.note
+
+abbrev pub Forwarded : Forwarder → PassedOn (TakerSeat ConnEntry) TenantItem → Type 0
+Forwarded w end = HasForwarded w.config.now w.conn.0 w.source.now w.targets.now end.head end.tails.items
+
+abbrev pub Dispatched : Dispatcher → PassedOn (TakerSeat TenantItem) PipelineItem → Type 0
+Dispatched w end = HasDispatched w.config.now w.tenant.0 w.source.now w.targets.now end.head end.tails.items
+
+abbrev pub Worked : {G : Type 0} → Worker G → WorkerEnd → Type 0
+Worked w end = HasWorked w.config.now w.tenant.0 w.pipeline.0 w.head end.head w.management end.management w.results end.results end.state
+
+-- What the threads of a run handed back, each of them seated between its queues.
+pub record HaveRun {F : Type 0} (G : Type 0) (config : Config) (to_come : F → Told) (faults : F → ℕ) (feeds : List F) (inbox : List (List InboxEnds)) (cell : ℕ) (queues : Queues) (ends : Ends F) : Type 0 where
+  pub readers : List (Reader F)
+  pub forwarders : List Forwarder
+  pub dispatchers : List Dispatcher
+  pub workers : List (List (Worker G))
+  pub reader_count : length readers ≡ length (connections_of config)
+  pub forwarder_count : length forwarders ≡ length (connections_of config)
+  pub dispatcher_count : length dispatchers ≡ length (tenants_of config)
+  pub worker_count : length workers ≡ length (tenants_of config)
+  pub are_readers : EachAt (IsReaderOf faults feeds queues.records.items cell) readers
+  pub are_forwarders : EachAt (IsForwarderOf config queues.records.items queues.items.items) forwarders
+  pub are_dispatchers : EachAt (IsDispatcherOf config queues.items.items (map (λ lane. lane.items) queues.triggers.items)) dispatchers
+  pub are_workers : EachAt (AreWorkersOf config (map (λ lane. lane.items) queues.triggers.items) inbox) workers
+  pub have_read : Pairwise (Read to_come faults) readers ends.readers.items
+  pub have_forwarded : Pairwise Forwarded forwarders ends.forwarders.items
+  pub have_dispatched : Pairwise Dispatched dispatchers ends.dispatchers.items
+  pub have_worked : Pairwise (Pairwise Worked) workers (map (λ list. list.items) ends.workers.items)

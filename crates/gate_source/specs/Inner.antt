@@ -1,0 +1,4 @@
+-- What only private contracts and proofs cite: no public contract rests on it.
+pub mod Feeds
+pub mod Splitting
+pub mod Streams

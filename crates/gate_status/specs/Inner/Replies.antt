@@ -1,0 +1,11 @@
+-- Beside `Replies`: what private contracts and proofs cite.
+use Rattle.gate_run.specs.declared.posts.PostFault.{PostFault}
+use Rattle.gate_run.specs.declared.posts.PostFault.TheVariants.{NoPipeline, Full}
+use Rattle.gate_run.specs.Ports.{posted}
+use Rattle.gate_status.specs.declared.reply.Reply.{Reply}
+use Rattle.gate_status.specs.declared.reply.Reply.TheVariants as reply
+
+-- the reply where nothing was posted
+abbrev pub refusal_of : {T : Type 0} → PostFault T → Reply
+refusal_of (NoPipeline value) = reply.NoPipeline
+refusal_of (Full value) = reply.Full
