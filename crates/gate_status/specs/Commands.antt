@@ -14,7 +14,7 @@ use Rattle.gate_status.specs.declared.command.Command.{Command}
 use Rattle.gate_status.specs.declared.command.Command.TheVariants as command
 use Rattle.gate_status.specs.declared.command.CommandFault.{CommandFault}
 use Rattle.gate_status.specs.declared.command.CommandFault.TheVariants.{Empty, Unknown, Arguments, Number, Memory}
-use Rattle.gate_status.specs.Fields.{Rest, is_space, word_of, rest_of, text_of, field, number_field, text_field, last_text, at_end}
+use Rattle.gate_status.specs.Fields.{◌>>=◌, Rest, is_space, word_of, rest_of, text_of, field, number_field, text_field, last_text, at_end}
 
 -- ---- keys
 
