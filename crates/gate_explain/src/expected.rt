@@ -84,12 +84,13 @@ fn push_vote(out: &mut String, approval: &Value) -> Result<(), Memory> {
 
 fn push_limit(out: &mut String, seen: &Seen<'_>) -> Result<(), Memory> {
     let most = seen.spot.most();
-    write!(out, "Expected at most {most}; found more: ")?;
+    write!(out, "Expected at most {most}; found more")?;
     match seen.spot {
-        Spot::Source | Spot::Item => out.push_str("this is the first that is too many.")?,
+        Spot::Source | Spot::Item => out.push_str(": this is the first that is too many.")?,
+        Spot::Approvals => out.push_str(".")?,
         _ => {
             let found = Found(seen.value);
-            write!(out, "{found}.")?;
+            write!(out, ": {found}.")?;
         }
     }
     Ok(())
@@ -137,7 +138,7 @@ fn push_pattern(out: &mut String, seen: &Seen<'_>) -> Result<(), Memory> {
     let found = Found(seen.value);
     write!(
         out,
-        "Expected a pattern in the syntax of `regex`, which has no look-around and no references back; found {found}."
+        "Expected a pattern that `regex` builds: it has no look-around and no references back, and what is built isn't too large; found {found}."
     )?;
     Ok(())
 }

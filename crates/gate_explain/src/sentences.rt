@@ -55,7 +55,7 @@ fn write_approvals<W: fmt::Write>(
     Ok(())
 }
 
-// What the rule says of deletions, where it may ask for updates of refs at all.
+// What the rule says of deletions, where updates of refs may be among what it asks for.
 fn write_deletes<W: fmt::Write>(f: &mut fmt::Formatter<W>, rule: &Rule) -> fmt::Result {
     if !rule.ignore_deletes {
         return f.write_str("; deletions of refs count, too");
@@ -72,8 +72,14 @@ fn write_deletes<W: fmt::Write>(f: &mut fmt::Formatter<W>, rule: &Rule) -> fmt::
     Ok(())
 }
 
+// A pattern of small letters and dashes alone matches at the front of a type that begins with it; of any other it isn't worked out.
 fn is_of_refs(pattern: &Pattern) -> bool {
-    pattern.text().contains("ref-updated")
+    let text = pattern.text();
+    !text.as_bytes().iter().all(|byte| is_plain(*byte)) || "ref-updated".starts_with(text)
+}
+
+fn is_plain(byte: u8) -> bool {
+    byte == b'-' || byte.is_ascii_lowercase()
 }
 
 /// Patterns, of which one is to match.

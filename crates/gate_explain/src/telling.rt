@@ -100,6 +100,14 @@ fn push_connection(
     number: PipelineId,
     listing: &Listing<'_>,
 ) -> Result<(), Memory> {
+    if listing.projects.is_empty() {
+        let connection = Quoted(listing.name);
+        writeln!(
+            out,
+            "    From {connection} nothing enters: no project is listed there."
+        )?;
+        return Ok(());
+    }
     let rules = config.rules(tenant.number, number, listing.connection);
     push_rules(out, listing.name, rules)?;
     if rules.is_empty() {

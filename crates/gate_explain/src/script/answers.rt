@@ -64,9 +64,11 @@ fn said(config: &Config, asked: Asked, answer: &Answer) -> &'static str {
 
 fn said_of_idle(asked: Asked) -> &'static str {
     match asked {
-        Asked::Take(_) => "nothing to take",
+        Asked::Take(_) => "nothing waits, or what was taken is still to be sent",
         Asked::Send(_) => "nothing to send",
-        Asked::Fetch(_) => "nothing to gather",
+        Asked::Fetch(_) => {
+            "nothing waits or is asked for, or there is no room before what is gathered or matched is done with"
+        }
         Asked::Match(_) => "nothing to match",
         Asked::Give(_) => "nothing to give",
         Asked::Turn(..) => "finished before, so nothing changed",

@@ -4,8 +4,8 @@ ghost use Rattle.std.specs.Iterator.{at_most};
 use gate_record::Memory;
 use std::alloc::Global;
 
-// How many bytes of a line are looked at, and how many letters of it are written.
-const BYTES: usize = 160;
+// How many bytes of a line are looked at, which are those of one letter more than are written.
+const BYTES: usize = 164;
 
 const LETTERS: usize = 40;
 
@@ -67,13 +67,23 @@ pub fn is_skipped(line: &[u8]) -> bool {
 
 /// Adds the number of a line, and as much of it as there is room for.
 pub fn push_line(out: &mut String, alloc: Global, number: u64, line: &[u8]) -> Result<(), Memory> {
-    let text = shortened(alloc, line)?;
+    let front = shortened(alloc, line)?;
+    let text = with_spaces(alloc, front.as_str())?;
     let text = text.as_str();
     write!(out, "{number:>6}  {text:<42}  ")?;
     Ok(())
 }
 
-/// The front of a line as a text, with a space for each control character.
+// A text with a space for each control character.
+fn with_spaces(alloc: Global, text: &str) -> Result<String, Memory> {
+    let mut plain = String::new(alloc);
+    for letter in text.chars() {
+        plain.push(visible(letter))?;
+    }
+    Ok(plain)
+}
+
+/// The front of a line as a text.
 pub fn shortened(alloc: Global, line: &[u8]) -> Result<String, Memory> {
     let text = String::from_utf8_lossy(alloc, line.get(..BYTES).unwrap_or(line))?;
     let mut short = String::new(alloc);
@@ -83,7 +93,7 @@ pub fn shortened(alloc: Global, line: &[u8]) -> Result<String, Memory> {
             short.push_str("..")?;
             return Ok(short);
         }
-        short.push(visible(letter))?;
+        short.push(letter)?;
         letters = letters.saturating_add(1);
     }
     Ok(short)

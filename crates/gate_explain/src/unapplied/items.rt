@@ -58,11 +58,11 @@ fn push_tenant(
     config: &Config,
     tenant: &Tenant<'_>,
 ) -> Result<(), Memory> {
-    if tenant.list.is_none() {
+    if config.pipelines(tenant.number).is_empty() {
         let name = Quoted(tenant.name);
         writeln!(
             out,
-            "  config: there is no list for tenant {name}, so it has no pipelines"
+            "  config: there is no pipeline for tenant {name}, so no event is selected"
         )?;
     }
     for (position, item) in items(tenant.list).iter().enumerate() {

@@ -170,14 +170,12 @@ fn push_setting(out: &mut String, place: &str, key: &str, value: &Value) -> Resu
                 "the job is in each build set of the project",
             )
         }
-        ("dependencies" | "soft-dependencies", _) => {
-            push_line(
-                out,
-                place,
-                key,
-                "the jobs of a build set stand side by side, in no order",
-            )
-        }
+        ("dependencies", _) => push_line(
+            out,
+            place,
+            key,
+            "the jobs of a build set stand side by side, in no order",
+        ),
         _ => push_line(
             out,
             place,

@@ -21,6 +21,9 @@ const NO_TEMPLATE: &str =
 
 const ALL_BRANCHES: &str = "the jobs are those of every branch";
 
+const EVERY_BRANCH_ENTERS: &str =
+    "events of every branch enter, and the jobs are those of every branch";
+
 const NO_LIMIT: &str = "the tenant isn't limited by it: it isn't read";
 
 const FOR_READERS: &str = "it is for its readers alone, and nothing follows";
@@ -64,20 +67,24 @@ pub const TENANT: Known = Known {
             follows: NO_LIMIT,
         },
         Setting {
+            name: "max-changes-per-pipeline",
+            follows: NO_LIMIT,
+        },
+        Setting {
             name: "exclude-unprotected-branches",
-            follows: ALL_BRANCHES,
+            follows: EVERY_BRANCH_ENTERS,
         },
         Setting {
             name: "exclude-locked-branches",
-            follows: ALL_BRANCHES,
+            follows: EVERY_BRANCH_ENTERS,
         },
         Setting {
             name: "include-branches",
-            follows: ALL_BRANCHES,
+            follows: EVERY_BRANCH_ENTERS,
         },
         Setting {
             name: "exclude-branches",
-            follows: ALL_BRANCHES,
+            follows: EVERY_BRANCH_ENTERS,
         },
         Setting {
             name: "default-parent",
@@ -126,7 +133,7 @@ pub const ITEM: Known = Known {
     settings: &[
         Setting {
             name: "job",
-            follows: "a job is known by its name alone: each one that a stanza names is in each build set",
+            follows: "a job is known by its name alone: each one that a stanza names is in each build set, and its failure fails the item, also with `voting: false`",
         },
         Setting {
             name: "project-template",
@@ -150,7 +157,7 @@ pub const ITEM: Known = Known {
         },
         Setting {
             name: "pragma",
-            follows: NO_JOBS_RUN,
+            follows: ALL_BRANCHES,
         },
         Setting {
             name: "image",
@@ -348,7 +355,7 @@ pub const STANZA: Known = Known {
         },
         Setting {
             name: "default-branch",
-            follows: ALL_BRANCHES,
+            follows: NO_JOBS_RUN,
         },
         Setting {
             name: "branches",

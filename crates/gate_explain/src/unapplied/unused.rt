@@ -65,7 +65,7 @@ fn push_project(
     let project = Quoted(project);
     writeln!(
         out,
-        "  {place}: {project} has no job in any pipeline, so its events are discarded (no-jobs)"
+        "  {place}: {project} has no job in any pipeline, so each of its events that enters one is discarded (no-jobs)"
     )?;
     Ok(())
 }
