@@ -38,7 +38,7 @@ fn dispatch_two(
     match_and_give(log, alloc, dispatch)?;
     let call = "gate_tenant Dispatch::make_room";
     log.kept(call, dispatch, make_room)?;
-    gather_events(log, alloc, dispatch)?;
+    gather_with_room(log, alloc, dispatch)?;
     gather_marks(log, dispatch)?;
     match_and_give(log, alloc, dispatch)
 }
@@ -60,10 +60,30 @@ fn gather_event(
     dispatch: &mut Dispatch<'_>,
     line: &str,
 ) -> Result<(), Elsewhere> {
+    let item = item_of(alloc, line)?;
+    gather_item(log, dispatch, item)
+}
+
+fn item_of(alloc: Global, line: &str) -> Result<TenantItem, Elsewhere> {
     let event = event_of(alloc, line)?;
     let conn = ConnId(0);
     let stamp = Stamp { conn, number: 7 };
-    gather_item(log, dispatch, TenantItem::Event(Stamped { stamp, event }))
+    Ok(TenantItem::Event(Stamped { stamp, event }))
+}
+
+// Where room was made, no item is refused.
+fn gather_with_room(
+    log: &mut Log,
+    alloc: Global,
+    dispatch: &mut Dispatch<'_>,
+) -> Result<(), Elsewhere> {
+    for line in [UPLOADED, APPROVED, MADE, UPLOADED, APPROVED, UPLOADED] {
+        let item = item_of(alloc, line)?;
+        if gather(dispatch, item).is_err() {
+            return Err(log.unexpected("refusal where room was made"));
+        }
+    }
+    Ok(())
 }
 
 fn gather_marks(log: &mut Log, dispatch: &mut Dispatch<'_>) -> Result<(), Elsewhere> {
@@ -147,6 +167,7 @@ fn give_all(text: &mut String, dispatch: &mut Dispatch<'_>) -> Result<(), Elsewh
 
 fn give(text: &mut String, dispatch: &mut Dispatch<'_>) -> Result<(), Elsewhere> {
     if dispatch.is_out() {
+        text.push_str("unexpected item out\n")?;
         return Err(Elsewhere);
     }
     if let Some((pipeline, item)) = dispatch.next() {

@@ -66,6 +66,7 @@ fn send_all(text: &mut String, forward: &mut Forward<'_>) -> Result<(), Elsewher
 
 fn send(text: &mut String, forward: &mut Forward<'_>) -> Result<(), Elsewhere> {
     if forward.is_out() {
+        text.push_str("unexpected item out\n")?;
         return Err(Elsewhere);
     }
     if let Some((tenant, item)) = forward.next() {

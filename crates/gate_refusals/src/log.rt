@@ -16,6 +16,7 @@ const SEEN: usize = 65_536;
 /// - `thread CALL`: the refusal was one of what a thread needs to start
 /// - `partial LINE`: the report of a run that gave up has this line
 /// - `elsewhere`: memory was refused to the scenario itself
+/// - `unexpected WHAT`: a call answered what it never does here; no undisturbed run has such a line
 ///
 /// There is room for them from the beginning, so that no line takes memory.
 #[derive(Drop)]
@@ -108,7 +109,8 @@ impl Log {
     /// What is seen of it after a refusal has to be the same.
     pub(crate) fn see_after<S: Shown>(&mut self, call: &str, state: &S) {
         self.after.clear();
-        let _ = state.show(&mut self.after);
+        let seen = state.show(&mut self.after);
+        self.tell_elsewhere(seen.is_err());
         self.compare(call);
     }
 
@@ -143,6 +145,17 @@ impl Log {
         if is_refused {
             let _ = write!(self.told, "twice {call}\n");
         }
+    }
+
+    /// Ends a scenario in which a call answered what it never does here.
+    pub(crate) fn unexpected(&mut self, what: &str) -> Elsewhere {
+        let _ = write!(self.told, "unexpected {what}\n");
+        Elsewhere
+    }
+
+    /// Whether more was told than there was room for, so that a line may be missing.
+    pub(crate) fn is_overfull(&self) -> bool {
+        self.told.len() > TOLD
     }
 
     pub(crate) fn tell_thread(&mut self, call: &str) {

@@ -62,6 +62,9 @@ fn tell_scenario<R: Print + AllocGlobal + Threads + Wait + Clock + Sync>(
     word: &str,
 ) -> u8 {
     let ended = run(rt, log, word);
+    if log.is_overfull() {
+        return 2;
+    }
     match (rt.print(log.told.as_str()), ended) {
         (Ok(()), Ok(())) => 0,
         (Ok(()), Err(Elsewhere)) => tell_early(rt),

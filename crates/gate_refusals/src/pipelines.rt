@@ -29,8 +29,6 @@ const SCRIPT: [&str; 9] = [
     "end",
 ];
 
-// What a worker makes of a taking.
-
 pub(crate) fn run(log: &mut Log, alloc: Global) -> Result<(), Elsewhere> {
     let config = config_of(log, alloc, PLAIN)?;
     for pipeline in 0..2 {
@@ -47,7 +45,7 @@ fn play(
 ) -> Result<(), Elsewhere> {
     let mut worker = Pipeline::new(alloc, config, TenantId(0), pipeline);
     for line in SCRIPT {
-        turn_to(&mut worker, wanted_for(line))?;
+        turn_to(log, &mut worker, wanted_for(line))?;
         play_line(log, alloc, config, &mut worker, line)?;
     }
     Ok(())
@@ -63,14 +61,14 @@ fn wanted_for(line: &str) -> Which {
 }
 
 // Finds queues empty until the worker wants this one.
-fn turn_to(worker: &mut Pipeline, wanted: Which) -> Result<(), Elsewhere> {
+fn turn_to(log: &mut Log, worker: &mut Pipeline, wanted: Which) -> Result<(), Elsewhere> {
     for _ in 0..3 {
         if worker.wants() == wanted {
             return Ok(());
         }
         find_empty(worker)?;
     }
-    Err(Elsewhere)
+    Err(log.unexpected("queue that isn't wanted"))
 }
 
 fn find_empty(worker: &mut Pipeline) -> Result<(), Elsewhere> {

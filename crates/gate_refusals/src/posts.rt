@@ -6,15 +6,16 @@ use crate::commands::{manage_of, result_of};
 use crate::configurations::{WHOLE, config_of};
 use crate::faults::Elsewhere;
 use crate::log::Log;
-use crate::shown::Shown;
 use gate_config::Config;
 use gate_record::{Memory, PipelineId, TenantId};
 use gate_run::{Inbox, Posts};
 use gate_source::StopCause;
-use std::alloc::{AllocError, Global};
+use std::alloc::Global;
 use std::sync::Wait;
 
 const OPEN: &str = "gate_run Posts::open";
+
+const STOP: &str = "gate_run Posts::stop";
 
 pub(crate) fn run<R: Wait>(rt: &R, log: &mut Log, alloc: Global) -> Result<(), Elsewhere> {
     let config = config_of(log, alloc, WHOLE)?;
@@ -22,8 +23,8 @@ pub(crate) fn run<R: Wait>(rt: &R, log: &mut Log, alloc: Global) -> Result<(), E
     let _unposted = log.made(call, || Inbox::without_posts(alloc, &config))?;
     let (mut posts, _inbox) = opened(log, alloc, &config)?;
     post(rt, log, alloc, &mut posts)?;
-    stop(log, &mut posts, StopCause::Caller)?;
-    stop(log, &mut posts, StopCause::Port)
+    stop(log, &mut posts, StopCause::Caller, StopCause::Port)?;
+    stop(log, &mut posts, StopCause::Port, StopCause::Caller)
 }
 
 /// The posts of a configuration, and their other ends.
@@ -66,15 +67,28 @@ fn post<R: Wait>(rt: &R, log: &mut Log, alloc: Global, posts: &mut Posts) -> Res
     Ok(())
 }
 
-fn stop(log: &mut Log, posts: &mut Posts, cause: StopCause) -> Result<(), Elsewhere> {
-    let held = log.kept("gate_run Posts::stop", posts, |posts| posts.stop(cause))?;
-    write!(log.told, "{held:?}\n")?;
-    Ok(())
+// Asks for a stop. Where memory is refused the other cause is asked for, and is the one that is held, if the refused call left none;
+// the scenario ends then.
+fn stop(
+    log: &mut Log,
+    posts: &mut Posts,
+    cause: StopCause,
+    other: StopCause,
+) -> Result<(), Elsewhere> {
+    match posts.stop(cause) {
+        Ok(held) => Ok(write!(log.told, "{held:?}\n")?),
+        Err(Memory) => Err(stop_otherwise(log, posts, other)),
+    }
 }
 
-// Nothing is seen of posts.
-impl Shown for Posts {
-    fn show(&self, _text: &mut String) -> Result<(), AllocError> {
-        Ok(())
+fn stop_otherwise(log: &mut Log, posts: &mut Posts, other: StopCause) -> Elsewhere {
+    log.tell_refused(STOP);
+    match posts.stop(other) {
+        Ok(held) if held == other => Elsewhere,
+        Ok(_) => log.unexpected("cause of a refused stop"),
+        Err(Memory) => {
+            log.tell_again(STOP, true);
+            Elsewhere
+        }
     }
 }

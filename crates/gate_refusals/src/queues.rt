@@ -30,7 +30,7 @@ fn opened(
 {
     match open(alloc, 4, 1) {
         Ok(opened) => Ok(opened),
-        Err(OpenFault::Capacity) => Err(Elsewhere),
+        Err(OpenFault::Capacity) => Err(log.unexpected("fault of a queue")),
         Err(OpenFault::Memory) => opened_again(log, alloc),
     }
 }

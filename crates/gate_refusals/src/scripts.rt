@@ -73,7 +73,8 @@ fn read_faulty(log: &mut Log, alloc: Global, script: &str) -> Result<(), Elsewhe
 // The same steps by `run`, which is given a list, and by `play`, which takes a queue over.
 fn run_both(log: &mut Log, alloc: Global, config: &Config) -> Result<(), Elsewhere> {
     let mut steps = Vec::new(alloc);
-    let mut script = read_script(alloc, SCRIPT.as_bytes())?;
+    let call = "gate_core read_script";
+    let mut script = log.made(call, || read_script(alloc, SCRIPT.as_bytes()))?;
     for _ in 0..script.len() {
         push_step(&mut steps, script.pop())?;
     }

@@ -114,7 +114,7 @@ fn talk_once<R: AllocGlobal + Wait>(
     match session(rt, &mut input, &mut output, config, board, posts) {
         Ok(end) => tell_session(log, output.into_inner(), end),
         Err(SessionFault::Memory) => Ok(tell_fault(log)),
-        Err(_) => Err(Elsewhere),
+        Err(_) => Err(log.unexpected("fault of a session")),
     }
 }
 
@@ -126,7 +126,7 @@ fn tell_fault(log: &mut Log) -> bool {
 fn tell_session(log: &mut Log, written: Vec<u8>, end: SessionEnd) -> Result<bool, Elsewhere> {
     match String::from_utf8(written) {
         Ok(text) => tell_written(log, text.as_str(), end),
-        Err(_) => Err(Elsewhere),
+        Err(_) => Err(log.unexpected("bytes of a session")),
     }
 }
 

@@ -59,12 +59,30 @@ fn read<R: Wait>(rt: &R, log: &mut Log, alloc: Global) -> Result<(), Elsewhere> 
         return push_records(log, records.as_slice());
     }
     log.tell_refused(NEXT);
-    records.clear();
-    if read_all(rt, log, alloc, &mut records)? {
-        return push_records(log, records.as_slice());
+    let mut all = Vec::new(alloc);
+    if read_all(rt, log, alloc, &mut all)? {
+        log.tell_changed(NEXT, !are_first(records.as_slice(), all.as_slice()));
+        return push_records(log, all.as_slice());
     }
     log.tell_again(NEXT, true);
     Err(Elsewhere)
+}
+
+// What came before the refusal is the first of what came then.
+fn are_first(records: &[Record], all: &[Record]) -> bool {
+    records.len() <= all.len()
+        && records
+            .iter()
+            .zip(all.iter())
+            .all(|(one, other)| is_same(one, other))
+}
+
+fn is_same(one: &Record, other: &Record) -> bool {
+    match (one, other) {
+        (Record::Line(bytes), Record::Line(others)) => bytes.as_slice() == others.as_slice(),
+        (Record::Oversize, Record::Oversize) => true,
+        _ => false,
+    }
 }
 
 fn push_records(log: &mut Log, records: &[Record]) -> Result<(), Elsewhere> {
@@ -88,11 +106,11 @@ fn read_all<R: Wait>(
             FeedStep::Got(record) => records.push(record)?,
             FeedStep::Pending => {}
             FeedStep::Ended => return Ok(true),
-            FeedStep::Fault => return Err(Elsewhere),
+            FeedStep::Fault => return Err(log.unexpected("fault of a feed")),
             FeedStep::Memory => return Ok(false),
         }
     }
-    Err(Elsewhere)
+    Err(log.unexpected("feed without an end"))
 }
 
 fn next<R: Wait>(rt: &R, feed: &mut ReaderFeed<&[u8]>) -> FeedStep {
