@@ -6,9 +6,9 @@ mod spot;
 use crate::expected::finding::{Seen, find};
 use crate::expected::found::Found;
 use crate::expected::spot::Spot;
-use crate::near::nearest;
+use crate::near::{nearest, push_meant};
 use crate::parts::members;
-use crate::quoted::Quoted;
+use crate::quoted::QuotedFront;
 use gate_config::ConfigFault;
 use gate_record::{Memory, read_number};
 use serde_json::{Error, Value};
@@ -34,7 +34,8 @@ pub fn push_unread(out: &mut String, error: &Error) -> Result<(), Memory> {
 pub fn push_fault(out: &mut String, document: &Value, fault: &ConfigFault) -> Result<(), Memory> {
     writeln!(out, "{fault}")?;
     match fault {
-        ConfigFault::Memory | ConfigFault::NotJson => Ok(()),
+        ConfigFault::Memory => Err(Memory),
+        ConfigFault::NotJson => Ok(out.push_str("The document is no JSON.")?),
         ConfigFault::Shape(place) => push_shape(out, &find(document, place.as_str())),
         ConfigFault::Limit(place) => push_limit(out, &find(document, place.as_str())),
         ConfigFault::Manager(place) => push_manager(out, &find(document, place.as_str())),
@@ -72,7 +73,7 @@ fn push_vote(out: &mut String, approval: &Value) -> Result<(), Memory> {
     if let Some(members) = members(Some(approval)) {
         for (category, vote) in members.iter() {
             if read_number(vote).is_none() {
-                let category = Quoted(category.as_str());
+                let category = QuotedFront(category.as_str());
                 let vote = Found(Some(vote));
                 write!(out, ", whose vote for {category} is {vote}")?;
                 return Ok(());
@@ -86,8 +87,9 @@ fn push_limit(out: &mut String, seen: &Seen<'_>) -> Result<(), Memory> {
     let most = seen.spot.most();
     write!(out, "Expected at most {most}; found more")?;
     match seen.spot {
-        Spot::Source | Spot::Item => out.push_str(": this is the first that is too many.")?,
+        // The length of the list isn't what is counted.
         Spot::Approvals => out.push_str(".")?,
+        Spot::Source | Spot::Item => out.push_str(": this is the first that is too many.")?,
         _ => {
             let found = Found(seen.value);
             write!(out, ": {found}.")?;
@@ -103,7 +105,7 @@ fn push_manager(out: &mut String, seen: &Seen<'_>) -> Result<(), Memory> {
         "Expected one of the managers \"independent\" and \"dependent\"; found {found}"
     )?;
     if let Some(Value::String(manager)) = seen.value {
-        push_nearest(
+        push_meant(
             out,
             nearest(manager.as_str(), &["independent", "dependent"]),
         )?;
@@ -113,7 +115,7 @@ fn push_manager(out: &mut String, seen: &Seen<'_>) -> Result<(), Memory> {
 }
 
 fn push_attribute(out: &mut String, seen: &Seen<'_>) -> Result<(), Memory> {
-    let key = Quoted(seen.key);
+    let key = QuotedFront(seen.key);
     out.push_str("Expected one of the attributes")?;
     let mut before = " ";
     for attribute in ATTRIBUTES.as_slice() {
@@ -121,16 +123,8 @@ fn push_attribute(out: &mut String, seen: &Seen<'_>) -> Result<(), Memory> {
         before = ", ";
     }
     write!(out, "; found {key}")?;
-    push_nearest(out, nearest(seen.key, ATTRIBUTES.as_slice()))?;
+    push_meant(out, nearest(seen.key, ATTRIBUTES.as_slice()))?;
     out.push_str(". A rule that left it out would select more, so it isn't ignored.")?;
-    Ok(())
-}
-
-fn push_nearest(out: &mut String, name: Option<&str>) -> Result<(), Memory> {
-    if let Some(name) = name {
-        let name = Quoted(name);
-        write!(out, " (did you mean {name}?)")?;
-    }
     Ok(())
 }
 

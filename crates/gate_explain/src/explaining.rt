@@ -79,9 +79,6 @@ fn unread(alloc: Global, error: &Error) -> Fault {
 
 // The fault of a document that is no configuration.
 fn refused(alloc: Global, document: &Value, fault: &ConfigFault) -> Fault {
-    if matches!(fault, ConfigFault::Memory) {
-        return Fault::Memory;
-    }
     let mut text = String::new(alloc);
     match push_fault(&mut text, document, fault) {
         Ok(()) => Fault::Faulty(text),

@@ -1,4 +1,6 @@
 //! Names that are nearly right.
+use crate::quoted::Quoted;
+use gate_record::Memory;
 
 /// Whether a name that was written is one of these but for one letter: a letter more, a letter less or another letter. Each `_` is
 /// read as `-`.
@@ -20,6 +22,15 @@ pub fn nearest<'n>(written: &str, names: &[&'n str]) -> Option<&'n str> {
         }
     }
     None
+}
+
+/// Adds the name that was meant, if there is one, behind what was found.
+pub fn push_meant(out: &mut String, name: Option<&str>) -> Result<(), Memory> {
+    if let Some(name) = name {
+        let name = Quoted(name);
+        write!(out, " (did you mean {name}?)")?;
+    }
+    Ok(())
 }
 
 // The first place at which they differ, or the length of the shorter one.

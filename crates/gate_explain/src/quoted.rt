@@ -19,6 +19,13 @@ fn write_letter<W: fmt::Write>(f: &mut fmt::Formatter<W>, letter: char) -> fmt::
     match letter {
         '"' => f.write_str("\\\""),
         '\\' => f.write_str("\\\\"),
+        _ => write_visible(f, letter),
+    }
+}
+
+// A letter, escaped where it is a control character.
+fn write_visible<W: fmt::Write>(f: &mut fmt::Formatter<W>, letter: char) -> fmt::Result {
+    match letter {
         '\n' => f.write_str("\\n"),
         '\r' => f.write_str("\\r"),
         '\t' => f.write_str("\\t"),
@@ -26,6 +33,41 @@ fn write_letter<W: fmt::Write>(f: &mut fmt::Formatter<W>, letter: char) -> fmt::
         '\u{c}' => f.write_str("\\f"),
         '\0'..='\u{1f}' => write!(f, "\\u{:04x}", u32::from(letter)),
         _ => f.write_char(letter),
+    }
+}
+
+// How many letters of a text that was found are written.
+const LETTERS: usize = 200;
+
+/// A text that was found, in quotes: all of it, or its first 200 letters and that there is more.
+#[derive(Clone, Copy)]
+pub struct QuotedFront<'n>(pub &'n str);
+
+impl fmt::Display for QuotedFront<'_> {
+    fn fmt<W: fmt::Write>(&self, f: &mut fmt::Formatter<W>) -> fmt::Result {
+        f.write_str("\"")?;
+        let mut letters: usize = 0;
+        for letter in self.0.chars() {
+            if letters >= LETTERS {
+                return f.write_str("\" and more");
+            }
+            write_letter(f, letter)?;
+            letters = letters.saturating_add(1);
+        }
+        f.write_str("\"")
+    }
+}
+
+/// A place of a document, or a key of it, on one line: as it is, save that control characters are escaped.
+#[derive(Clone, Copy)]
+pub struct Place<'n>(pub &'n str);
+
+impl fmt::Display for Place<'_> {
+    fn fmt<W: fmt::Write>(&self, f: &mut fmt::Formatter<W>) -> fmt::Result {
+        for letter in self.0.chars() {
+            write_visible(f, letter)?;
+        }
+        Ok(())
     }
 }
 

@@ -55,30 +55,34 @@ fn write_approvals<W: fmt::Write>(
     Ok(())
 }
 
-// What the rule says of deletions, where updates of refs may be among what it asks for.
+// What the rule says of deletions, where it may ask for updates of refs at all.
 fn write_deletes<W: fmt::Write>(f: &mut fmt::Formatter<W>, rule: &Rule) -> fmt::Result {
-    if !rule.ignore_deletes {
-        return f.write_str("; deletions of refs count, too");
-    }
-    if rule.refname.len() > 0
-        || rule
-            .event
-            .as_slice()
-            .iter()
-            .any(|pattern| is_of_refs(pattern))
+    if !rule
+        .event
+        .as_slice()
+        .iter()
+        .any(|pattern| may_mean_refs(pattern.text()))
     {
-        return f.write_str("; it isn't the deletion of a ref");
+        return Ok(());
     }
-    Ok(())
+    f.write_str(if rule.ignore_deletes {
+        "; it isn't the deletion of a ref"
+    } else {
+        "; deletions of refs count, too"
+    })
 }
 
-// A pattern of small letters and dashes alone matches at the front of a type that begins with it; of any other it isn't worked out.
-fn is_of_refs(pattern: &Pattern) -> bool {
-    let text = pattern.text();
-    !text.as_bytes().iter().all(|byte| is_plain(*byte)) || "ref-updated".starts_with(text)
+// Whether a pattern of a type may match that of the updates of refs. A plain word matches at the front of a type where the type
+// begins with it; any other pattern may match.
+fn may_mean_refs(pattern: &str) -> bool {
+    !is_plain_word(pattern) || "ref-updated".starts_with(pattern)
 }
 
-fn is_plain(byte: u8) -> bool {
+fn is_plain_word(pattern: &str) -> bool {
+    pattern.as_bytes().iter().all(|byte| is_plain_letter(*byte))
+}
+
+fn is_plain_letter(byte: u8) -> bool {
     byte == b'-' || byte.is_ascii_lowercase()
 }
 

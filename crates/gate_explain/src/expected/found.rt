@@ -1,11 +1,9 @@
-use crate::quoted::{Quoted, separator};
+use crate::quoted::{QuotedFront, separator};
 use serde_json::{Map, Value};
 use std::fmt;
 
-// How many of an object's keys are written, and how many letters of a text.
+// How many of an object's keys are written.
 const KEYS: usize = 8;
-
-const LETTERS: usize = 200;
 
 /// A value that was found, or that there is none, in words.
 #[derive(Clone, Copy)]
@@ -26,26 +24,12 @@ fn write_value<W: fmt::Write>(f: &mut fmt::Formatter<W>, value: &Value) -> fmt::
         Value::Bool(true) => f.write_str("true"),
         Value::Bool(false) => f.write_str("false"),
         Value::Number(number) => write!(f, "the number {number}"),
-        Value::String(text) => write_text(f, text.as_str()),
+        Value::String(text) => {
+            let text = QuotedFront(text.as_str());
+            write!(f, "the text {text}")
+        }
         Value::Array(items) => write_list(f, items.len()),
         Value::Object(members) => write_object(f, members),
-    }
-}
-
-fn write_text<W: fmt::Write>(f: &mut fmt::Formatter<W>, text: &str) -> fmt::Result {
-    let front = front_of(text);
-    let quoted = Quoted(front);
-    write!(f, "the text {quoted}")?;
-    if front.len() < text.len() {
-        f.write_str(" and more")?;
-    }
-    Ok(())
-}
-
-fn front_of(text: &str) -> &str {
-    match text.char_indices().nth(LETTERS) {
-        Some((end, _)) => text.get(..end).unwrap_or(text),
-        None => text,
     }
 }
 
@@ -78,6 +62,6 @@ fn write_object<W: fmt::Write>(
 
 fn write_key<W: fmt::Write>(f: &mut fmt::Formatter<W>, place: usize, key: &str) -> fmt::Result {
     let between = separator(place);
-    let key = Quoted(key);
+    let key = QuotedFront(key);
     write!(f, "{between}{key}")
 }

@@ -10,6 +10,8 @@ use std::fmt;
 // What stands before the number of a connection in the lines of a `show`.
 const FRONTS: [&str; 4] = ["item change ", "item ref ", "report change ", "report ref "];
 
+const NONE_OF_THIS_NUMBER: &str = "there is none of this number";
+
 /// Where something went that was moved, as far as it is followed.
 #[derive(Clone, Copy)]
 pub enum Followed {
@@ -17,6 +19,8 @@ pub enum Followed {
     Nothing,
     /// It was taken, and is to be sent to so many tenants.
     Taken(usize),
+    /// It wasn't taken, since what was taken before is to be sent first.
+    Held,
     /// It was sent to this tenant.
     Sent(TenantId),
 }
@@ -43,7 +47,10 @@ pub fn push_answered(
         (_, Followed::Taken(0)) => out.push_str("taken, for no tenant\n")?,
         (_, Followed::Taken(1)) => out.push_str("taken, for one tenant\n")?,
         (_, Followed::Taken(count)) => writeln!(out, "taken, for {count} tenants")?,
-        _ => {
+        (_, Followed::Held) => {
+            out.push_str("the forwarder still holds what is to be sent first\n")?;
+        }
+        (_, Followed::Nothing) => {
             let said = said(config, asked, answer);
             writeln!(out, "{said}")?;
         }
@@ -56,35 +63,37 @@ fn said(config: &Config, asked: Asked, answer: &Answer) -> &'static str {
         Answer::Closed => "closed before, so nothing changed",
         Answer::Full => "its queue is full, so nothing changed",
         Answer::Passed => "nothing waits there; on to the next phase",
-        Answer::Idle if !is_there(config, asked) => "there is none of this number",
+        Answer::Idle if !is_there(config, asked) => NONE_OF_THIS_NUMBER,
         Answer::Idle => said_of_idle(asked),
-        _ => said_of_moved(asked),
+        Answer::Accepted(_) | Answer::Moved | Answer::Turned(..) => said_of_moved(asked),
     }
 }
 
 fn said_of_idle(asked: Asked) -> &'static str {
     match asked {
-        Asked::Take(_) => "nothing waits, or what was taken is still to be sent",
+        Asked::Take(_) => "nothing waits",
         Asked::Send(_) => "nothing to send",
         Asked::Fetch(_) => {
-            "nothing waits or is asked for, or there is no room before what is gathered or matched is done with"
+            "nothing is asked for or waits, or matched items are to be given first, or 256 are gathered"
         }
         Asked::Match(_) => "nothing to match",
         Asked::Give(_) => "nothing to give",
         Asked::Turn(..) => "finished before, so nothing changed",
-        _ => "nothing to do",
+        Asked::Offer(_) | Asked::Close(_) | Asked::Post(..) => NONE_OF_THIS_NUMBER,
     }
 }
 
 fn said_of_moved(asked: Asked) -> &'static str {
     match asked {
+        Asked::Offer(_) => "accepted",
         Asked::Close(_) => "closed: the end mark stands behind its records",
+        Asked::Take(_) => "taken",
+        Asked::Send(_) => "sent",
         Asked::Fetch(_) => "items are gathered",
         Asked::Match(_) => "what was gathered is matched against the rules",
         Asked::Give(_) => "the next matched item is given to its pipeline",
         Asked::Post(..) => "posted",
         Asked::Turn(..) => "the end mark is met, and the pipeline is finished",
-        _ => "done",
     }
 }
 
@@ -172,7 +181,7 @@ pub fn push_shown(
     let asked = Asked::Turn(tenant, pipeline);
     let whom = Whom { config, asked };
     if !is_there(config, asked) {
-        writeln!(out, "{whom}: there is none of this number")?;
+        writeln!(out, "{whom}: {NONE_OF_THIS_NUMBER}")?;
         return Ok(());
     }
     writeln!(out, "{whom}:")?;

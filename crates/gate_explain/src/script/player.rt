@@ -99,6 +99,7 @@ impl<'c> Player<'c> {
                 Ok(Followed::Nothing)
             }
             (Asked::Take(conn), Answer::Moved) => Ok(Followed::Taken(self.take(conn))),
+            (Asked::Take(conn), Answer::Idle) => Ok(self.held(conn)),
             (Asked::Send(conn), Answer::Moved) => Ok(self.send(conn)),
             _ => Ok(Followed::Nothing),
         }
@@ -115,6 +116,14 @@ impl<'c> Player<'c> {
         match self.ways.get_mut(connection.0 as usize) {
             Some(way) => way.take(),
             None => 0,
+        }
+    }
+
+    // Whether a connection's forwarder holds what is to be sent first.
+    fn held(&self, connection: ConnId) -> Followed {
+        match self.ways.get(connection.0 as usize) {
+            Some(way) => way.held(),
+            None => Followed::Nothing,
         }
     }
 

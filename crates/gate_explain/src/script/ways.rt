@@ -42,6 +42,15 @@ impl Way {
         }
     }
 
+    /// Whether the forwarder holds what is to be sent before it takes anything.
+    pub fn held(&self) -> Followed {
+        if self.held.len() > 0 {
+            Followed::Held
+        } else {
+            Followed::Nothing
+        }
+    }
+
     /// The forwarder sends what it holds to the next tenant.
     pub fn send(&mut self) -> Followed {
         match self.held.pop() {

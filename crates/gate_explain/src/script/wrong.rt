@@ -1,5 +1,5 @@
 //! A line that stands for nothing: which word of it is wrong, and what is expected in its place.
-use crate::near::nearest;
+use crate::near::{nearest, push_meant};
 use crate::quoted::Quoted;
 use crate::script::forms::{FIRST_WORDS, Field, Form, form_of, key_form};
 use crate::script::lines::{Lines, shortened};
@@ -74,10 +74,7 @@ fn push_first(out: &mut String, alloc: Global, word: &[u8]) -> Result<(), Memory
     let found = shortened(alloc, word)?;
     let found = Quoted(found.as_str());
     write!(out, "; found {found}")?;
-    if let Some(known) = nearest(text_of(word), FIRST_WORDS.as_slice()) {
-        let known = Quoted(known);
-        write!(out, " (did you mean {known}?)")?;
-    }
+    push_meant(out, nearest(text_of(word), FIRST_WORDS.as_slice()))?;
     out.push_str(".")?;
     Ok(())
 }

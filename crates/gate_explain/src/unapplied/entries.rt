@@ -1,13 +1,15 @@
 //! The entries of `tenants`, and what they list.
 use crate::parts::{items, member, members, only_member};
 use crate::tenants::{group_of, is_no_tenant, place_of, tenant_of};
-use crate::unapplied::settings::push_line;
-use crate::unapplied::tables::{SOURCE, TENANT};
+use crate::unapplied::settings::{push_line, push_place};
+use crate::unapplied::tables::{LISTING, SOURCE, TENANT};
 use gate_record::Memory;
 use serde_json::Value;
 use std::alloc::Global;
 
 const LISTED: &str = "the project is listed all the same, with all that it has";
+
+const ALL_LISTED: &str = "the projects are listed all the same, with all that they have";
 
 /// Adds what of the entries of `tenants` isn't applied.
 pub fn push_entries(out: &mut String, alloc: Global, document: &Value) -> Result<(), Memory> {
@@ -30,22 +32,30 @@ fn push_entry(
         )?;
         return Ok(());
     }
-    push_beside(out, position, entry)?;
+    push_beside(out, alloc, position, entry)?;
     let place = place_of(alloc, position, entry)?;
     push_tenant(out, alloc, place.as_str(), tenant_of(entry))
 }
 
 // What stands beside the `tenant` of an entry.
-fn push_beside(out: &mut String, position: usize, entry: &Value) -> Result<(), Memory> {
+fn push_beside(
+    out: &mut String,
+    alloc: Global,
+    position: usize,
+    entry: &Value,
+) -> Result<(), Memory> {
     if member(entry, "tenant").is_none() {
         return Ok(());
     }
+    let place = format!(in alloc; "tenants[{position}]")?;
     if let Some(members) = members(Some(entry)) {
-        for key in members.keys() {
-            if key.as_str() != "tenant" {
-                writeln!(
+        for (key, value) in members.iter() {
+            if key.as_str() != "tenant" && !value.is_null() {
+                push_line(
                     out,
-                    "  tenants[{position}].{key}: it stands beside `tenant`, so it is ignored"
+                    place.as_str(),
+                    key.as_str(),
+                    "it stands beside `tenant`, so it is ignored",
                 )?;
             }
         }
@@ -135,13 +145,13 @@ fn push_group(out: &mut String, alloc: Global, place: &str, group: &[Value]) -> 
 // The settings beside the list `projects` of an entry.
 fn push_group_settings(out: &mut String, place: &str, entry: &Value) -> Result<(), Memory> {
     if let Some(members) = members(Some(entry)) {
-        for key in members.keys() {
-            if key.as_str() != "projects" {
+        for (key, value) in members.iter() {
+            if key.as_str() != "projects" && !value.is_null() {
                 push_line(
                     out,
                     place,
                     key.as_str(),
-                    "the projects are listed all the same, with all that they have",
+                    follows_from(key.as_str(), ALL_LISTED),
                 )?;
             }
         }
@@ -160,10 +170,31 @@ fn push_settings(
         return Ok(());
     };
     let here = format!(in alloc; "{place}.{name}")?;
-    if let Some(members) = members(Some(settings)) {
-        for key in members.keys() {
-            push_line(out, here.as_str(), key.as_str(), LISTED)?;
+    match settings {
+        Value::Null => Ok(()),
+        Value::Object(members) => {
+            for (key, value) in members.iter() {
+                push_project_setting(out, here.as_str(), key.as_str(), value)?;
+            }
+            Ok(())
         }
+        _ => push_place(out, here.as_str(), LISTED),
     }
-    Ok(())
+}
+
+fn push_project_setting(
+    out: &mut String,
+    place: &str,
+    key: &str,
+    value: &Value,
+) -> Result<(), Memory> {
+    if value.is_null() {
+        return Ok(());
+    }
+    push_line(out, place, key, follows_from(key, LISTED))
+}
+
+// What follows from a setting of what is listed: of branches what the table says, and of all others this.
+fn follows_from(key: &str, otherwise: &'static str) -> &'static str {
+    LISTING.setting(key).unwrap_or(otherwise)
 }

@@ -4,7 +4,7 @@ use crate::parts::{items, members};
 use crate::quoted::Quoted;
 use crate::tenants::Tenant;
 use crate::unapplied::pipelines::push_pipeline;
-use crate::unapplied::settings::push_nearest;
+use crate::unapplied::settings::{push_key, push_nearest};
 use crate::unapplied::stanzas::push_stanza;
 use crate::unapplied::tables::ITEM;
 use gate_config::Config;
@@ -12,7 +12,8 @@ use gate_record::Memory;
 use serde_json::Value;
 use std::alloc::Global;
 
-/// Adds what of the lists in `config` isn't applied: lists of no tenant, and then each tenant's, item by item.
+/// Adds what of the lists in `config` isn't applied: lists of no tenant, and then each tenant's, item by item. A list that is null
+/// counts as absent.
 pub fn push_lists(
     out: &mut String,
     alloc: Global,
@@ -21,8 +22,10 @@ pub fn push_lists(
     tenants: &[Tenant<'_>],
 ) -> Result<(), Memory> {
     if let Some(members) = members(document.get("config")) {
-        for name in members.keys() {
-            push_list_of_none(out, tenants, name.as_str())?;
+        for (name, list) in members.iter() {
+            if !list.is_null() {
+                push_list_of_none(out, tenants, name.as_str())?;
+            }
         }
     }
     for tenant in tenants {
@@ -36,10 +39,8 @@ fn push_list_of_none(out: &mut String, tenants: &[Tenant<'_>], name: &str) -> Re
     if tenants.iter().any(|tenant| tenant.name == name) {
         return Ok(());
     }
-    write!(
-        out,
-        "  config.{name}: no tenant has this name, so nothing of it is read"
-    )?;
+    push_key(out, "config", name)?;
+    out.push_str("no tenant has this name, so nothing of it is read")?;
     push_nearest(out, nearest_tenant(tenants, name))
 }
 

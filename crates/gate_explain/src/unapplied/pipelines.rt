@@ -2,7 +2,7 @@
 use crate::near::is_near;
 use crate::parts::{members, text_at};
 use crate::tenants::Tenant;
-use crate::unapplied::settings::{push_nearest, push_place};
+use crate::unapplied::settings::{push_key, push_line, push_nearest, push_place};
 use crate::unapplied::tables::PIPELINE;
 use gate_config::Config;
 use gate_record::{Memory, PipelineId, Text};
@@ -40,8 +40,10 @@ fn push_trigger(
 ) -> Result<(), Memory> {
     let here = format!(in alloc; "{place}.trigger")?;
     if let Some(members) = members(Some(trigger)) {
-        for connection in members.keys() {
-            push_connection(out, config, tenant, here.as_str(), connection.as_str())?;
+        for (connection, rules) in members.iter() {
+            if !rules.is_null() {
+                push_connection(out, config, tenant, here.as_str(), connection.as_str())?;
+            }
         }
     }
     Ok(())
@@ -60,16 +62,15 @@ fn push_connection(
     }
     let names = config.connections();
     if names.iter().any(|name| name.as_str() == connection) {
-        writeln!(
+        return push_line(
             out,
-            "  {place}.{connection}: the tenant doesn't list this connection, so these rules select nothing"
-        )?;
-        return Ok(());
+            place,
+            connection,
+            "the tenant doesn't list this connection, so these rules select nothing",
+        );
     }
-    write!(
-        out,
-        "  {place}.{connection}: no tenant lists a connection of this name, so nothing here is read"
-    )?;
+    push_key(out, place, connection)?;
+    out.push_str("no tenant lists a connection of this name, so nothing here is read")?;
     push_nearest(out, nearest(names, connection))
 }
 

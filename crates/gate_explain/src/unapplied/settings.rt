@@ -1,6 +1,6 @@
 //! What Zuul reads and this program doesn't: the names of its settings, and what follows from each here.
-use crate::near::is_near;
-use crate::quoted::Quoted;
+use crate::near::{is_near, nearest};
+use crate::quoted::{Place, Quoted};
 use gate_record::Memory;
 use serde_json::Value;
 
@@ -22,7 +22,7 @@ pub struct Known {
 }
 
 impl Known {
-    /// Adds a line about a member that isn't read, at the place of its object.
+    /// Adds a line about a member that isn't read, at the place of its object. One that is null counts as absent.
     pub fn push_member(
         &self,
         out: &mut String,
@@ -30,8 +30,10 @@ impl Known {
         key: &str,
         value: &Value,
     ) -> Result<(), Memory> {
+        if value.is_null() {
+            return Ok(());
+        }
         match self.setting(key) {
-            Some(_) if value.is_null() => Ok(()),
             Some(follows) => push_line(out, place, key, follows),
             None => push_unknown(out, place, key, self.nearest(key)),
         }
@@ -49,10 +51,8 @@ impl Known {
 
     /// The name that was nearly written.
     pub fn nearest(&self, key: &str) -> Option<&'static str> {
-        for name in self.read {
-            if is_near(key, *name) {
-                return Some(*name);
-            }
+        if let Some(name) = nearest(key, self.read) {
+            return Some(name);
         }
         for setting in self.settings {
             if is_near(key, setting.name) {
@@ -65,13 +65,23 @@ impl Known {
 
 /// Adds a line about the member of this key, and what follows.
 pub fn push_line(out: &mut String, place: &str, key: &str, follows: &str) -> Result<(), Memory> {
+    push_key(out, place, key)?;
+    writeln!(out, "{follows}")?;
+    Ok(())
+}
+
+/// Begins a line about the member of this key.
+pub fn push_key(out: &mut String, place: &str, key: &str) -> Result<(), Memory> {
     let dot = if place.is_empty() { "" } else { "." };
-    writeln!(out, "  {place}{dot}{key}: {follows}")?;
+    let place = Place(place);
+    let key = Place(key);
+    write!(out, "  {place}{dot}{key}: ")?;
     Ok(())
 }
 
 /// Adds a line about what stands at this place, and what follows.
 pub fn push_place(out: &mut String, place: &str, follows: &str) -> Result<(), Memory> {
+    let place = Place(place);
     writeln!(out, "  {place}: {follows}")?;
     Ok(())
 }
@@ -83,11 +93,8 @@ pub fn push_unknown(
     key: &str,
     nearest: Option<&str>,
 ) -> Result<(), Memory> {
-    let dot = if place.is_empty() { "" } else { "." };
-    write!(
-        out,
-        "  {place}{dot}{key}: no member of this name is known here, so it is ignored"
-    )?;
+    push_key(out, place, key)?;
+    out.push_str("no member of this name is known here, so it is ignored")?;
     push_nearest(out, nearest)
 }
 

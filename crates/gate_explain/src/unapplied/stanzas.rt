@@ -1,14 +1,16 @@
 //! The projects in a tenant's list, and the jobs that they name.
 use crate::near::is_near;
 use crate::parts::{items, members, only_member, text_at};
-use crate::quoted::Quoted;
+use crate::quoted::{Place, Quoted};
 use crate::tenants::Tenant;
-use crate::unapplied::settings::{push_line, push_nearest, push_place};
+use crate::unapplied::settings::{push_key, push_line, push_nearest, push_place};
 use crate::unapplied::tables::{PART, STANZA};
 use gate_config::Config;
 use gate_record::Memory;
 use serde_json::Value;
 use std::alloc::Global;
+
+const NO_VARIANT: &str = "a job is known by its name alone: no variant of it is read";
 
 /// Adds what of a project's stanza isn't applied.
 pub fn push_stanza(
@@ -50,6 +52,7 @@ fn push_unlisted(
     if tenant.has_project(config, name) {
         return Ok(());
     }
+    let place = Place(place);
     let name = Quoted(name);
     writeln!(
         out,
@@ -84,7 +87,7 @@ fn push_member(
     key: &str,
     value: &Value,
 ) -> Result<(), Memory> {
-    if key == "name" {
+    if key == "name" || value.is_null() {
         return Ok(());
     }
     if tenant.pipeline(config, key).is_some() {
@@ -104,10 +107,8 @@ fn push_no_pipeline(
     place: &str,
     key: &str,
 ) -> Result<(), Memory> {
-    write!(
-        out,
-        "  {place}.{key}: the tenant has no pipeline of this name, so its jobs never run"
-    )?;
+    push_key(out, place, key)?;
+    out.push_str("the tenant has no pipeline of this name, so its jobs never run")?;
     push_nearest(out, nearest_pipeline(config, tenant, key))
 }
 
@@ -145,12 +146,16 @@ fn push_jobs(out: &mut String, alloc: Global, place: &str, jobs: &[Value]) -> Re
 
 // What a stanza says of a job for its project alone.
 fn push_variant(out: &mut String, place: &str, variant: &Value) -> Result<(), Memory> {
-    if let Some(members) = members(Some(variant)) {
-        for (key, value) in members.iter() {
-            push_setting(out, place, key.as_str(), value)?;
+    match variant {
+        Value::Null => Ok(()),
+        Value::Object(members) => {
+            for (key, value) in members.iter() {
+                push_setting(out, place, key.as_str(), value)?;
+            }
+            Ok(())
         }
+        _ => push_place(out, place, NO_VARIANT),
     }
-    Ok(())
 }
 
 fn push_setting(out: &mut String, place: &str, key: &str, value: &Value) -> Result<(), Memory> {
@@ -170,17 +175,14 @@ fn push_setting(out: &mut String, place: &str, key: &str, value: &Value) -> Resu
                 "the job is in each build set of the project",
             )
         }
-        ("dependencies", _) => push_line(
-            out,
-            place,
-            key,
-            "the jobs of a build set stand side by side, in no order",
-        ),
-        _ => push_line(
-            out,
-            place,
-            key,
-            "a job is known by its name alone: no variant of it is read",
-        ),
+        ("dependencies", _) => {
+            push_line(
+                out,
+                place,
+                key,
+                "the jobs of a build set stand side by side, in no order",
+            )
+        }
+        _ => push_line(out, place, key, NO_VARIANT),
     }
 }

@@ -127,6 +127,29 @@ pub const SOURCE: Known = Known {
     settings: &[],
 };
 
+/// The settings of what is listed that say which branches count.
+pub const LISTING: Known = Known {
+    read: &[],
+    settings: &[
+        Setting {
+            name: "exclude-unprotected-branches",
+            follows: EVERY_BRANCH_ENTERS,
+        },
+        Setting {
+            name: "exclude-locked-branches",
+            follows: EVERY_BRANCH_ENTERS,
+        },
+        Setting {
+            name: "include-branches",
+            follows: EVERY_BRANCH_ENTERS,
+        },
+        Setting {
+            name: "exclude-branches",
+            follows: EVERY_BRANCH_ENTERS,
+        },
+    ],
+};
+
 /// The members of an item in a tenant's list.
 pub const ITEM: Known = Known {
     read: &["pipeline", "project"],

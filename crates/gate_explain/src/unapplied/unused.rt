@@ -1,11 +1,12 @@
 //! What a tenant lists and nothing comes of.
-use crate::quoted::Quoted;
+use crate::quoted::{Place, Quoted};
 use crate::tenants::{Listing, Tenant, number_of};
+use crate::unapplied::settings::push_place;
 use gate_config::Config;
 use gate_record::{Memory, PipelineId};
 use std::alloc::Global;
 
-/// Adds the connections without projects, and the projects without jobs.
+/// Adds the connections without projects, and the projects without jobs, save those of a tenant without pipelines.
 pub fn push_unused(
     out: &mut String,
     alloc: Global,
@@ -41,10 +42,14 @@ fn push_listing(
     place: &str,
 ) -> Result<(), Memory> {
     if listing.projects.is_empty() {
-        writeln!(
+        push_place(
             out,
-            "  {place}: no project is listed, so none of the connection's events enters a pipeline"
+            place,
+            "no project is listed, so none of the connection's events enters a pipeline",
         )?;
+    }
+    if config.pipelines(tenant.number).is_empty() {
+        return Ok(());
     }
     for project in listing.projects.iter() {
         push_project(out, config, tenant, project.as_str(), place)?;
@@ -62,6 +67,7 @@ fn push_project(
     if has_jobs(config, tenant, project) {
         return Ok(());
     }
+    let place = Place(place);
     let project = Quoted(project);
     writeln!(
         out,
