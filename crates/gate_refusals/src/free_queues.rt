@@ -21,7 +21,9 @@ pub(crate) fn run<R: Wait>(rt: &R, log: &mut Log, alloc: Global) -> Result<(), E
     let (queue, mut tails, mut head) = opened(log, alloc)?;
     put_all(rt, log, &queue, &mut tails)?;
     take(rt, log, &queue, &mut head)?;
-    settle(rt, log, queue, tails, head)
+    let rest = settled(rt, log, queue, tails, head)?;
+    write!(log.told, "{rest:?}\n")?;
+    Ok(())
 }
 
 // A queue with one sender.
@@ -34,26 +36,12 @@ fn opened(
     ensures head { IfOk result (λ opened. IsHeadOf opened.0 opened.2) }
 {
     match open_free(alloc, 1) {
-        Ok(opened) => Ok(opened),
-        Err(_) => opened_again(log, alloc),
+        Ok(opened) => return Ok(opened),
+        Err(_) => log.tell_refused(OPEN),
     }
-}
-
-fn opened_again(
-    log: &mut Log,
-    alloc: Global,
-) -> Result<(FreeQueue<u64>, Vec<FreeTail<u64>>, FreeHead<u64>), Elsewhere>
-    ensures senders { IfOk result (λ opened. opened.0.name.senders ≡ 1) }
-    ensures tails { IfOk result (λ opened. AreAllTailsOf opened.0 opened.1.items) }
-    ensures head { IfOk result (λ opened. IsHeadOf opened.0 opened.2) }
-{
-    log.tell_refused(OPEN);
     match open_free(alloc, 1) {
         Ok(opened) => Ok(opened),
-        Err(_) => {
-            log.tell_again(OPEN, true);
-            Err(Elsewhere)
-        }
+        Err(_) => Err(log.tell_twice(OPEN)),
     }
 }
 
@@ -101,13 +89,12 @@ fn put_again<R: Wait>(
     ensures { AreAllTailsOf queue.now tails.new.items }
 {
     log.tell_refused(PUT);
-    log.tell_changed(PUT, back != value);
+    if back != value {
+        log.tell_changed(PUT);
+    }
     match queue.put(rt, &mut tails[0], back) {
         Ok(()) => Ok(()),
-        Err(_) => {
-            log.tell_again(PUT, true);
-            Err(Elsewhere)
-        }
+        Err(_) => Err(log.tell_twice(PUT)),
     }
 }
 
@@ -128,21 +115,6 @@ fn take<R: Wait>(
 }
 
 // Ends the queue. Where memory is refused it comes back with its seats, and everything waits as before.
-fn settle<R: Wait>(
-    rt: &R,
-    log: &mut Log,
-    queue: FreeQueue<u64>,
-    tails: Vec<FreeTail<u64>>,
-    head: FreeHead<u64>,
-) -> Result<(), Elsewhere>
-    requires tails { AreAllTailsOf queue tails.items }
-    requires head { IsHeadOf queue head }
-{
-    let rest = settled(rt, log, queue, tails, head)?;
-    write!(log.told, "{rest:?}\n")?;
-    Ok(())
-}
-
 fn settled<R: Wait>(
     rt: &R,
     log: &mut Log,
@@ -159,10 +131,7 @@ fn settled<R: Wait>(
             log.tell_refused(SETTLE);
             match back.queue.settle(rt, back.tails, back.head) {
                 Ok(rest) => Ok(rest),
-                Err(_) => {
-                    log.tell_again(SETTLE, true);
-                    Err(Elsewhere)
-                }
+                Err(_) => Err(log.tell_twice(SETTLE)),
             }
         }
     }

@@ -1,12 +1,16 @@
 //! What a run tells.
 use crate::faults::{Elsewhere, Fault};
 use crate::shown::Shown;
+use gate_record::Memory;
 use std::alloc::{AllocError, Global};
 
 // Room for all that a run tells, and for what is seen of a value, in bytes.
 const TOLD: usize = 262_144;
 
 const SEEN: usize = 65_536;
+
+// No line of a refusal, a change or what is unexpected is longer.
+const LINE: usize = 256;
 
 /// The lines that a run tells: what came of the calls, and between them
 ///
@@ -49,29 +53,31 @@ impl Log {
         }
         self.tell_refused(call);
         let again = make();
-        self.tell_again(call, is_refused(&again));
+        if is_refused(&again) {
+            self.tell_twice(call);
+        }
         again
     }
 
     /// Makes a call that may change a value. Where memory is refused to it, the value has to be seen as it was.
-    pub(crate) fn kept<S: Shown, T: Drop, E: Fault, F: Fn(&mut S) -> Result<T, E>>(
+    pub(crate) fn kept<S: Shown, T: Drop, F: Fn(&mut S) -> Result<T, Memory>>(
         &mut self,
         call: &str,
         state: &mut S,
         make: F,
-    ) -> Result<T, E>
+    ) -> Result<T, Elsewhere>
         requires { F.IsAlwaysCallable make }
     {
-        self.see_before(state);
-        let made = make(state);
-        if !is_refused(&made) {
-            return made;
+        self.see_before(state)?;
+        if let Ok(made) = make(state) {
+            return Ok(made);
         }
         self.tell_refused(call);
-        self.see_after(call, state);
-        let again = make(state);
-        self.tell_again(call, is_refused(&again));
-        again
+        self.see_after(call, state)?;
+        match make(state) {
+            Ok(made) => Ok(made),
+            Err(Memory) => Err(self.tell_twice(call)),
+        }
     }
 
     /// Makes a call that takes over a value, and hands it back where memory is refused.
@@ -84,67 +90,68 @@ impl Log {
     ) -> Result<(), Elsewhere>
         requires { F.IsAlwaysCallable give }
     {
-        self.see_both(state, &value);
+        self.see_both(state, &value)?;
         let Err(back) = give(state, value) else {
             return Ok(());
         };
         self.tell_refused(call);
-        self.see_both_after(call, state, &back);
+        self.see_both_after(call, state, &back)?;
         match give(state, back) {
             Ok(()) => Ok(()),
-            Err(_) => {
-                self.tell_again(call, true);
-                Err(Elsewhere)
-            }
+            Err(_) => Err(self.tell_twice(call)),
         }
     }
 
     /// What is seen of a value before a call.
-    pub(crate) fn see_before<S: Shown>(&mut self, state: &S) {
+    pub(crate) fn see_before<S: Shown>(&mut self, state: &S) -> Result<(), Elsewhere> {
         self.before.clear();
-        let seen = state.show(&mut self.before);
-        self.tell_elsewhere(seen.is_err());
+        Ok(state.show(&mut self.before)?)
     }
 
     /// What is seen of it after a refusal has to be the same.
-    pub(crate) fn see_after<S: Shown>(&mut self, call: &str, state: &S) {
+    pub(crate) fn see_after<S: Shown>(&mut self, call: &str, state: &S) -> Result<(), Elsewhere> {
         self.after.clear();
-        let seen = state.show(&mut self.after);
-        self.tell_elsewhere(seen.is_err());
+        state.show(&mut self.after)?;
         self.compare(call);
+        Ok(())
     }
 
-    fn see_both<S: Shown, V: Shown>(&mut self, state: &S, value: &V) {
-        self.see_before(state);
-        let _ = value.show(&mut self.before);
+    fn see_both<S: Shown, V: Shown>(&mut self, state: &S, value: &V) -> Result<(), Elsewhere> {
+        self.see_before(state)?;
+        Ok(value.show(&mut self.before)?)
     }
 
-    fn see_both_after<S: Shown, V: Shown>(&mut self, call: &str, state: &S, value: &V) {
+    fn see_both_after<S: Shown, V: Shown>(
+        &mut self,
+        call: &str,
+        state: &S,
+        value: &V,
+    ) -> Result<(), Elsewhere> {
         self.after.clear();
-        let _ = state.show(&mut self.after);
-        let _ = value.show(&mut self.after);
+        state.show(&mut self.after)?;
+        value.show(&mut self.after)?;
         self.compare(call);
+        Ok(())
     }
 
     fn compare(&mut self, call: &str) {
-        let is_changed = self.before.as_str() != self.after.as_str();
-        self.tell_changed(call, is_changed);
+        if self.before.as_str() != self.after.as_str() {
+            self.tell_changed(call);
+        }
     }
 
     pub(crate) fn tell_refused(&mut self, call: &str) {
         let _ = write!(self.told, "refused {call}\n");
     }
 
-    pub(crate) fn tell_changed(&mut self, call: &str, is_changed: bool) {
-        if is_changed {
-            let _ = write!(self.told, "changed {call}\n");
-        }
+    pub(crate) fn tell_changed(&mut self, call: &str) {
+        let _ = write!(self.told, "changed {call}\n");
     }
 
-    pub(crate) fn tell_again(&mut self, call: &str, is_refused: bool) {
-        if is_refused {
-            let _ = write!(self.told, "twice {call}\n");
-        }
+    /// Ends a scenario in which the call that was made once more was refused, too.
+    pub(crate) fn tell_twice(&mut self, call: &str) -> Elsewhere {
+        let _ = write!(self.told, "twice {call}\n");
+        Elsewhere
     }
 
     /// Ends a scenario in which a call answered what it never does here.
@@ -153,19 +160,13 @@ impl Log {
         Elsewhere
     }
 
-    /// Whether more was told than there was room for, so that a line may be missing.
+    /// Whether so much was told that there may have been no room for a line, which is missing then.
     pub(crate) fn is_overfull(&self) -> bool {
-        self.told.len() > TOLD
+        self.told.len() > TOLD - LINE
     }
 
     pub(crate) fn tell_thread(&mut self, call: &str) {
         let _ = write!(self.told, "thread {call}\n");
-    }
-
-    fn tell_elsewhere(&mut self, is_refused: bool) {
-        if is_refused {
-            let _ = self.told.push_str("elsewhere\n");
-        }
     }
 }
 

@@ -66,17 +66,15 @@ fn turn_to(log: &mut Log, worker: &mut Pipeline, wanted: Which) -> Result<(), El
         if worker.wants() == wanted {
             return Ok(());
         }
-        find_empty(worker)?;
+        find_empty(log, worker)?;
     }
     Err(log.unexpected("queue that isn't wanted"))
 }
 
-fn find_empty(worker: &mut Pipeline) -> Result<(), Elsewhere> {
+fn find_empty(log: &mut Log, worker: &mut Pipeline) -> Result<(), Elsewhere> {
     match worker.wants() {
-        Which::Management => worker.found_empty(),
-        Which::Result => worker.found_empty(),
-        Which::Trigger => worker.found_empty(),
-        _ => return Err(Elsewhere),
+        Which::Management | Which::Result | Which::Trigger => worker.found_empty(),
+        Which::Held | Which::Finished => return Err(log.unexpected("worker that takes nothing")),
     }
     Ok(())
 }
@@ -92,7 +90,7 @@ fn play_line(
         Which::Management => { take(log, config, worker, Taken::Manage(manage_of(alloc, line)?)) }
         Which::Result => take(log, config, worker, Taken::Result(result_of(alloc, line)?)),
         Which::Trigger => take(log, config, worker, Taken::Trigger(item_of(alloc, line)?)),
-        _ => Err(Elsewhere),
+        _ => Err(log.unexpected("worker that takes nothing")),
     }
 }
 
@@ -122,7 +120,7 @@ fn take(
 ) -> Result<(), Elsewhere>
     requires asked { next_of worker.old ≡ asked given }
 {
-    log.see_before(worker);
+    log.see_before(worker)?;
     match worker.took(config, given) {
         Ok(processed) => push_processed(log, worker, &processed),
         Err(Memory) => take_again(log, config, worker),
@@ -131,13 +129,10 @@ fn take(
 
 fn take_again(log: &mut Log, config: &Config, worker: &mut Pipeline) -> Result<(), Elsewhere> {
     log.tell_refused(CALL);
-    log.see_after(CALL, worker);
+    log.see_after(CALL, worker)?;
     match worker.wants() {
         Which::Held => take_held(log, config, worker),
-        _ => {
-            log.tell_changed(CALL, true);
-            Err(Elsewhere)
-        }
+        _ => Err(log.unexpected("worker that doesn't hold what was refused")),
     }
 }
 
@@ -146,10 +141,7 @@ fn take_held(log: &mut Log, config: &Config, worker: &mut Pipeline) -> Result<()
 {
     match worker.took(config, Taken::Again) {
         Ok(processed) => push_processed(log, worker, &processed),
-        Err(Memory) => {
-            log.tell_again(CALL, true);
-            Err(Elsewhere)
-        }
+        Err(Memory) => Err(log.tell_twice(CALL)),
     }
 }
 

@@ -38,22 +38,15 @@ impl<'c> Played<'c> {
     pub(crate) fn take(&mut self, log: &mut Log, step: Step) -> Result<(), Elsewhere> {
         let alloc = self.alloc;
         let again = log.made("gate_core Step::copy", || step.copy(alloc))?;
-        log.see_before(self);
+        log.see_before(self)?;
         match self.step(step) {
-            Ok(answer) => self.tell(log, &answer),
-            Err(Memory) => self.take_again(log, again),
+            Ok(answer) => return self.tell(log, &answer),
+            Err(Memory) => log.tell_refused(CALL),
         }
-    }
-
-    fn take_again(&mut self, log: &mut Log, step: Step) -> Result<(), Elsewhere> {
-        log.tell_refused(CALL);
-        log.see_after(CALL, self);
-        match self.step(step) {
+        log.see_after(CALL, self)?;
+        match self.step(again) {
             Ok(answer) => self.tell(log, &answer),
-            Err(Memory) => {
-                log.tell_again(CALL, true);
-                Err(Elsewhere)
-            }
+            Err(Memory) => Err(log.tell_twice(CALL)),
         }
     }
 

@@ -36,21 +36,12 @@ pub(crate) fn opened(
     ensures { IfOk result (λ ends. ArePosts config.now ends.0 ends.1) }
 {
     match Posts::open(alloc, config) {
-        Ok(opened) => Ok(opened),
-        Err(Memory) => opened_again(log, alloc, config),
+        Ok(opened) => return Ok(opened),
+        Err(Memory) => log.tell_refused(OPEN),
     }
-}
-
-fn opened_again(log: &mut Log, alloc: Global, config: &Config) -> Result<(Posts, Inbox), Elsewhere>
-    ensures { IfOk result (λ ends. ArePosts config.now ends.0 ends.1) }
-{
-    log.tell_refused(OPEN);
     match Posts::open(alloc, config) {
         Ok(opened) => Ok(opened),
-        Err(Memory) => {
-            log.tell_again(OPEN, true);
-            Err(Elsewhere)
-        }
+        Err(Memory) => Err(log.tell_twice(OPEN)),
     }
 }
 
@@ -86,9 +77,6 @@ fn stop_otherwise(log: &mut Log, posts: &mut Posts, other: StopCause) -> Elsewhe
     match posts.stop(other) {
         Ok(held) if held == other => Elsewhere,
         Ok(_) => log.unexpected("cause of a refused stop"),
-        Err(Memory) => {
-            log.tell_again(STOP, true);
-            Elsewhere
-        }
+        Err(Memory) => log.tell_twice(STOP),
     }
 }

@@ -16,7 +16,9 @@ pub(crate) fn run<R: Wait>(rt: &R, log: &mut Log, alloc: Global) -> Result<(), E
     let (queue, mut tails, mut head) = opened(log, alloc)?;
     put_all(rt, log, &queue, &mut tails)?;
     take(rt, log, &queue, &mut head)?;
-    settle(rt, log, queue, tails, head)
+    let rest = settled(rt, log, queue, tails, head)?;
+    write!(log.told, "{rest:?}\n")?;
+    Ok(())
 }
 
 // A queue of four places with one sender.
@@ -29,27 +31,13 @@ fn opened(
     ensures head { IfOk result (λ opened. IsHeadOf opened.0 opened.2) }
 {
     match open(alloc, 4, 1) {
-        Ok(opened) => Ok(opened),
-        Err(OpenFault::Capacity) => Err(log.unexpected("fault of a queue")),
-        Err(OpenFault::Memory) => opened_again(log, alloc),
+        Ok(opened) => return Ok(opened),
+        Err(OpenFault::Capacity) => return Err(log.unexpected("fault of a queue")),
+        Err(OpenFault::Memory) => log.tell_refused(OPEN),
     }
-}
-
-fn opened_again(
-    log: &mut Log,
-    alloc: Global,
-) -> Result<(EventQueue<u32>, Vec<Tail<u32>>, Head<u32>), Elsewhere>
-    ensures senders { IfOk result (λ opened. opened.0.name.senders ≡ 1) }
-    ensures tails { IfOk result (λ opened. AreAllTailsOf opened.0 opened.1.items) }
-    ensures head { IfOk result (λ opened. IsHeadOf opened.0 opened.2) }
-{
-    log.tell_refused(OPEN);
     match open(alloc, 4, 1) {
         Ok(opened) => Ok(opened),
-        Err(_) => {
-            log.tell_again(OPEN, true);
-            Err(Elsewhere)
-        }
+        Err(_) => Err(log.tell_twice(OPEN)),
     }
 }
 
@@ -99,21 +87,6 @@ fn take<R: Wait>(
 }
 
 // Ends the queue. Where memory is refused it comes back with its seats, and everything waits as before.
-fn settle<R: Wait>(
-    rt: &R,
-    log: &mut Log,
-    queue: EventQueue<u32>,
-    tails: Vec<Tail<u32>>,
-    head: Head<u32>,
-) -> Result<(), Elsewhere>
-    requires tails { AreAllTailsOf queue tails.items }
-    requires head { IsHeadOf queue head }
-{
-    let rest = settled(rt, log, queue, tails, head)?;
-    write!(log.told, "{rest:?}\n")?;
-    Ok(())
-}
-
 fn settled<R: Wait>(
     rt: &R,
     log: &mut Log,
@@ -130,10 +103,7 @@ fn settled<R: Wait>(
             log.tell_refused(SETTLE);
             match back.queue.settle(rt, back.tails, back.head) {
                 Ok(rest) => Ok(rest),
-                Err(_) => {
-                    log.tell_again(SETTLE, true);
-                    Err(Elsewhere)
-                }
+                Err(_) => Err(log.tell_twice(SETTLE)),
             }
         }
     }

@@ -100,9 +100,15 @@ fn play_all(
     config: &Config,
     steps: &[Step],
 ) -> Result<(), Elsewhere> {
-    let first = queue_of(alloc, steps)?;
-    let second = queue_of(alloc, steps)?;
-    play_queue(log, alloc, config, first, second)
+    let (first, again) = (queue_of(alloc, steps)?, queue_of(alloc, steps)?);
+    match play(alloc, config, first) {
+        Ok(transcript) => return tell(log, &transcript),
+        Err(Memory) => log.tell_refused(PLAY),
+    }
+    match play(alloc, config, again) {
+        Ok(transcript) => tell(log, &transcript),
+        Err(Memory) => Err(log.tell_twice(PLAY)),
+    }
 }
 
 fn queue_of(alloc: Global, steps: &[Step]) -> Result<Queue<Step>, Elsewhere> {
@@ -111,35 +117,6 @@ fn queue_of(alloc: Global, steps: &[Step]) -> Result<Queue<Step>, Elsewhere> {
         queue.push(step.copy(alloc)?)?;
     }
     Ok(queue)
-}
-
-fn play_queue(
-    log: &mut Log,
-    alloc: Global,
-    config: &Config,
-    steps: Queue<Step>,
-    again: Queue<Step>,
-) -> Result<(), Elsewhere> {
-    match play(alloc, config, steps) {
-        Ok(transcript) => tell(log, &transcript),
-        Err(Memory) => play_again(log, alloc, config, again),
-    }
-}
-
-fn play_again(
-    log: &mut Log,
-    alloc: Global,
-    config: &Config,
-    steps: Queue<Step>,
-) -> Result<(), Elsewhere> {
-    log.tell_refused(PLAY);
-    match play(alloc, config, steps) {
-        Ok(transcript) => tell(log, &transcript),
-        Err(Memory) => {
-            log.tell_again(PLAY, true);
-            Err(Elsewhere)
-        }
-    }
 }
 
 fn tell(log: &mut Log, transcript: &Transcript<'_>) -> Result<(), Elsewhere> {

@@ -77,8 +77,7 @@ pub(crate) fn run<R: Threads + Wait + Clock + Sync>(
     if run_once(rt, log, alloc, &config, way)? {
         return Ok(());
     }
-    log.tell_again(way.call(), true);
-    Err(Elsewhere)
+    Err(log.tell_twice(way.call()))
 }
 
 // Whether the run came to its end; its report is told then.
@@ -92,7 +91,7 @@ fn run_once<R: Threads + Wait + Clock + Sync>(
     let feeds = feeds(log, alloc)?;
     let (_posts, inbox) = opened(log, alloc, config)?;
     if feeds.len() != config.connections().len() {
-        return Err(Elsewhere);
+        return Err(log.unexpected("number of connections"));
     }
     match served(rt, alloc, config, feeds, inbox, way) {
         Ok(served) => tell_run(log, alloc, config, &served.report, way),

@@ -92,8 +92,7 @@ fn talk<R: AllocGlobal + Wait>(
     if talk_once(rt, log, config, board, posts, line)? {
         return Ok(());
     }
-    log.tell_again(CALL, true);
-    Err(Elsewhere)
+    Err(log.tell_twice(CALL))
 }
 
 // Whether the session came to its end; what it wrote is told then.

@@ -61,20 +61,22 @@ fn read<R: Wait>(rt: &R, log: &mut Log, alloc: Global) -> Result<(), Elsewhere> 
     log.tell_refused(NEXT);
     let mut all = Vec::new(alloc);
     if read_all(rt, log, alloc, &mut all)? {
-        log.tell_changed(NEXT, !are_first(records.as_slice(), all.as_slice()));
+        if !are_first(records.as_slice(), all.as_slice()) {
+            log.tell_changed(NEXT);
+        }
         return push_records(log, all.as_slice());
     }
-    log.tell_again(NEXT, true);
-    Err(Elsewhere)
+    Err(log.tell_twice(NEXT))
 }
 
 // What came before the refusal is the first of what came then.
 fn are_first(records: &[Record], all: &[Record]) -> bool {
+    for (one, other) in records.iter().zip(all.iter()) {
+        if !is_same(one, other) {
+            return false;
+        }
+    }
     records.len() <= all.len()
-        && records
-            .iter()
-            .zip(all.iter())
-            .all(|(one, other)| is_same(one, other))
 }
 
 fn is_same(one: &Record, other: &Record) -> bool {
@@ -138,27 +140,14 @@ fn ask(
     ensures { IsNoteOf cell.now note.new }
 {
     match cell.request(note, cause) {
-        Ok(held) => Ok(write!(log.told, "{held:?}\n")?),
-        Err(Memory) => ask_again(log, cell, note, cause),
+        Ok(held) => return Ok(write!(log.told, "{held:?}\n")?),
+        Err(Memory) => log.tell_refused(REQUEST),
     }
-}
-
-fn ask_again(
-    log: &mut Log,
-    cell: &StopCell,
-    note: &mut StopNote,
-    cause: StopCause,
-) -> Result<(), Elsewhere>
-    requires { IsNoteOf cell.now note.old }
-    ensures { IsNoteOf cell.now note.new }
-{
-    log.tell_refused(REQUEST);
-    log.tell_changed(REQUEST, cell.seen(note).is_some());
+    if cell.seen(note).is_some() {
+        log.tell_changed(REQUEST);
+    }
     match cell.request(note, cause) {
         Ok(held) => Ok(write!(log.told, "{held:?}\n")?),
-        Err(Memory) => {
-            log.tell_again(REQUEST, true);
-            Err(Elsewhere)
-        }
+        Err(Memory) => Err(log.tell_twice(REQUEST)),
     }
 }
