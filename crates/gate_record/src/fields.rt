@@ -13,7 +13,7 @@ use crate::approvals::{MAX_APPROVALS, category};
 use crate::event::Event;
 use crate::memory::Memory;
 use crate::places::{items_at, member, next_of, number_at, number_in, text_at, text_in};
-use crate::read::{account, copied};
+use crate::read::account;
 use crate::sequence::Sequence;
 use crate::text::Text;
 use json::{Element, Items};
@@ -33,24 +33,62 @@ pub(crate) struct Fields<'a> {
     pub(crate) email: Option<&'a str>,
 }
 
+impl Fields<'_> {
+    /// The event of this type with these fields and approvals. `Memory` where a text finds no room.
+    pub(crate) fn event(
+        &self,
+        alloc: Global,
+        kind: &str,
+        approvals: Sequence<(Text, i64)>,
+    ) -> Result<Event, Memory>
+        ensures { (value : Data) → AreFields value kind.now self.now → approvals ≡ approvals_of value
+            → IfOk result (λ event. event ≡ event_of value kind.now) }
+    {
+        let (project, branch) = copied_two(alloc, self.project, self.branch)?;
+        let (refname, newrev) = copied_two(alloc, self.refname, self.newrev)?;
+        let (username, email) = copied_two(alloc, self.username, self.email)?;
+        let (kind, comment) = (Text::copy(alloc, kind)?, copied(alloc, self.comment)?);
+        Ok(Event {
+            kind,
+            project,
+            branch,
+            change: self.change,
+            patchset: self.patchset,
+            refname,
+            newrev,
+            comment,
+            username,
+            email,
+            approvals,
+        })
+    }
+}
+
+// Texts of an event. Few calls in one function may be refused memory, since each of them drops what was copied before.
+fn copied_two(
+    alloc: Global,
+    first: Option<&str>,
+    second: Option<&str>,
+) -> Result<(Option<Text>, Option<Text>), Memory>
+    ensures { IfOk result (λ copies. copies ≡ (option_map (λ t. t.now) first.entry, option_map (λ t. t.now) second.entry)) }
+{
+    Ok((copied(alloc, first)?, copied(alloc, second)?))
+}
+
+fn copied(alloc: Global, text: Option<&str>) -> Result<Option<Text>, Memory>
+    ensures { IfOk result (λ copy. copy ≡ option_map (λ t. t.now) text.entry) }
+{
+    match text {
+        Some(text) => Ok(Some(Text::copy(alloc, text)?)),
+        None => Ok(None),
+    }
+}
+
 /// The event of a record's object, whose `type` is this text. `Memory` where a field finds no room.
 pub(crate) fn event(alloc: Global, object: &Element<'_, '_>, kind: &str) -> Result<Event, Memory>
     ensures { (value : Data) → Begins object.now value → IfOk result (λ event. event ≡ event_of value kind.now) }
 {
-    let fields = fields_of(object, kind);
-    Ok(Event {
-        kind: Text::copy(alloc, kind)?,
-        project: copied(alloc, fields.project)?,
-        branch: copied(alloc, fields.branch)?,
-        change: fields.change,
-        patchset: fields.patchset,
-        refname: copied(alloc, fields.refname)?,
-        newrev: copied(alloc, fields.newrev)?,
-        comment: copied(alloc, fields.comment)?,
-        username: copied(alloc, fields.username)?,
-        email: copied(alloc, fields.email)?,
-        approvals: approvals(alloc, object)?,
-    })
+    fields_of(object, kind).event(alloc, kind, approvals(alloc, object)?)
 }
 
 // Each object is looked up once.

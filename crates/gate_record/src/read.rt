@@ -1,16 +1,17 @@
 ghost use Rattle.std.specs.Prelude.{◌≡◌, IfOk, OnErr, option_map};
 ghost use Rattle.serde_json.specs.View.{view};
+ghost use Rattle.gate_record.specs.Inner.Fields.{AreFields};
 ghost use Rattle.gate_record.specs.Json.{json_of};
 ghost use Rattle.gate_record.specs.Lines.{IsLine};
 ghost use Rattle.gate_record.specs.Reading.{account_of, account_text, event_of, project_of, reading_of, reading_of_json, reading_of_value};
 
 use crate::approvals::approvals;
 use crate::event::Event;
+use crate::fields::Fields;
 use crate::memory::Memory;
 use crate::paths::{number_below, text_below, text_member};
 use crate::reading::{Reading, Why};
 use crate::record::Record;
-use crate::text::Text;
 use serde_json::Value;
 use serde_json::error::Category;
 use std::alloc::Global;
@@ -54,28 +55,23 @@ fn read_value(alloc: Global, value: &Value) -> Result<Reading, Memory>
 fn read_event(alloc: Global, value: &Value, kind: &str) -> Result<Event, Memory>
     ensures { IfOk result (λ event. event ≡ event_of (view value.now) kind.now) }
 {
-    let account = account(kind);
-    Ok(Event {
-        kind: Text::copy(alloc, kind)?,
-        project: copied(alloc, project(value))?,
-        branch: copied(alloc, text_below(value, "change", "branch"))?,
-        change: number_below(value, "change", "number"),
-        patchset: number_below(value, "patchSet", "number"),
-        refname: copied(alloc, text_below(value, "refUpdate", "refName"))?,
-        newrev: copied(alloc, text_below(value, "refUpdate", "newRev"))?,
-        comment: copied(alloc, text_member(value, "comment"))?,
-        username: copied(alloc, account_text(value, account, "username"))?,
-        email: copied(alloc, account_text(value, account, "email"))?,
-        approvals: approvals(alloc, value)?,
-    })
+    fields_of(value, kind).event(alloc, kind, approvals(alloc, value)?)
 }
 
-pub(crate) fn copied(alloc: Global, text: Option<&str>) -> Result<Option<Text>, Memory>
-    ensures { IfOk result (λ copy. copy ≡ option_map (λ t. t.now) text.entry) }
+fn fields_of<'v>(value: &'v Value, kind: &str) -> Fields<'v>
+    ensures { AreFields (view value.now) kind.now result }
 {
-    match text {
-        Some(text) => Ok(Some(Text::copy(alloc, text)?)),
-        None => Ok(None),
+    let account = account(kind);
+    Fields {
+        project: project(value),
+        branch: text_below(value, "change", "branch"),
+        change: number_below(value, "change", "number"),
+        patchset: number_below(value, "patchSet", "number"),
+        refname: text_below(value, "refUpdate", "refName"),
+        newrev: text_below(value, "refUpdate", "newRev"),
+        comment: text_member(value, "comment"),
+        username: account_text(value, account, "username"),
+        email: account_text(value, account, "email"),
     }
 }
 
