@@ -184,10 +184,10 @@ impl Indexed {
         let Some(next) = self.next.checked_add(1) else {
             return Ok(Outcome::Discarded(Discard::Numbers));
         };
-        let alloc = *self.reported.allocator();
-        let item = new_item(alloc, key, patchset, self.next, jobs)?;
-        let copy = key.copy(alloc)?;
         self.reported.reserve(self.index.items.len() + 1)?;
+        let alloc = *self.reported.allocator();
+        let copy = key.copy(alloc)?;
+        let item = new_item(alloc, key, patchset, self.next, jobs)?;
         self.index.replace(older, self.next, copy, item)?;
         self.next = next;
         Ok(Outcome::Applied)

@@ -242,10 +242,10 @@ impl Ordered {
         let Some(_next) = self.ring.next().checked_add(1) else {
             return Ok(Outcome::Discarded(Discard::Numbers));
         };
-        let alloc = *self.reported.allocator();
-        let item = new_item(alloc, key, patchset, self.ring.next(), jobs)?;
-        let copy = key.copy(alloc)?;
         self.reported.reserve(self.ring.len() + 1)?;
+        let alloc = *self.reported.allocator();
+        let copy = key.copy(alloc)?;
+        let item = new_item(alloc, key, patchset, self.ring.next(), jobs)?;
         self.ring.put_last(copy, item)?;
         Ok(Outcome::Applied)
     }
