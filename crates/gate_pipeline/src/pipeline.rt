@@ -128,7 +128,8 @@ impl Pipeline {
     }
 
     ghost use Rattle.gate_pipeline.specs.States.{counted, held_as};
-    ghost use Rattle.gate_pipeline.specs.Inner.States.{Processes};
+    ghost use Rattle.gate_pipeline.specs.Inner.States.{ComesTo, Processes};
+    ghost use Rattle.gate_pipeline.specs.declared.which.Held.TheVariants as held;
     ghost use Rattle.std.specs.Prelude.{Some, None};
 
     // Counts a taking.
@@ -147,20 +148,35 @@ impl Pipeline {
         ensures refused { OnErr result (MayBeRefused self.old.items.manager (Some held)) }
     {
         match held {
-            Held::Action(action) => match self.items.apply(&action) {
-                Ok(outcome) => Ok((None, action, outcome)),
-                Err(Memory) => {
-                    self.held = Some(Held::Action(action));
-                    Err(Memory)
-                }
-            },
-            Held::Event(stamped) => match self.trigger(config, &stamped) {
-                Ok((action, outcome)) => Ok((Some(stamped.stamp), action, outcome)),
-                Err(Memory) => {
-                    self.held = Some(Held::Event(stamped));
-                    Err(Memory)
-                }
-            },
+            Held::Action(action) => self.process_action(action),
+            Held::Event(stamped) => self.process_event(config, stamped),
+        }
+    }
+
+    fn process_action(&mut self, action: Action) -> Result<Processed, Memory>
+        requires free { self.old.held ≡ None }
+        ensures processes { ComesTo (applied None action self.old) (held.Action action) self.old self.new result }
+        ensures refused { OnErr result (MayBeRefused self.old.items.manager (Some (held.Action action))) }
+    {
+        match self.items.apply(&action) {
+            Ok(outcome) => Ok((None, action, outcome)),
+            Err(Memory) => {
+                self.held = Some(Held::Action(action));
+                Err(Memory)
+            }
+        }
+    }
+
+    fn process_event(&mut self, config: &Config, stamped: Stamped) -> Result<Processed, Memory>
+        requires free { self.old.held ≡ None }
+        ensures processes { Processes config.now self.old (held.Event stamped) self.new result }
+    {
+        match self.trigger(config, &stamped) {
+            Ok((action, outcome)) => Ok((Some(stamped.stamp), action, outcome)),
+            Err(Memory) => {
+                self.held = Some(Held::Event(stamped));
+                Err(Memory)
+            }
         }
     }
 
@@ -170,9 +186,9 @@ impl Pipeline {
     fn trigger(&mut self, config: &Config, stamped: &Stamped) -> Result<(Action, Outcome), Memory>
         ensures { Triggers config.now self.old stamped.now self.new result }
     {
+        self.done.reserve(1)?;
         let alloc = *self.done.allocator();
         let action = trigger_of(alloc, config, self.tenant, self.pipeline, stamped)?;
-        self.done.reserve(1)?;
         let outcome = self.items.apply(&action)?;
         self.done.push_reserved(stamped.stamp);
         Ok((action, outcome))

@@ -36,10 +36,32 @@ pub(crate) fn match_items(
     if !has_event(gathered) {
         return Ok(VecDeque::new(alloc));
     }
-    let batch = Batch::of(alloc, gathered)?;
-    let columns = Columns::build(alloc, batch.events.as_slice())?;
-    let masks = program.select(alloc, &columns, batch.conns.as_slice())?;
+    let masks = masks(alloc, program, gathered)?;
     push_all(alloc, config, tenant, masks.as_slice(), gathered)
+}
+
+// A mask for each pipeline, over the gathered events.
+fn masks(
+    alloc: Global,
+    program: &Program<'_>,
+    gathered: &[TenantItem],
+) -> Result<Vec<Vec<u32>>, Memory>
+    requires { length gathered.now ≤ most_gathered }
+    ensures { IfOk result (λ masks. map (λ mask. mask.items) masks.items
+        ≡ masks_of (config_of program.now) (tenant_of program.now) (rows_of gathered.now)) }
+{
+    let batch = Batch::of(alloc, gathered)?;
+    select(alloc, program, &batch)
+}
+
+fn select(alloc: Global, program: &Program<'_>, batch: &Batch) -> Result<Vec<Vec<u32>>, Memory>
+    requires few { length batch.now.events.items ≤ most_rows }
+    requires pairs { length batch.now.conns.items ≡ length batch.now.events.items }
+    ensures { IfOk result (λ masks. map (λ mask. mask.items) masks.items
+        ≡ masks_of (config_of program.now) (tenant_of program.now) (zip batch.now.conns.items batch.now.events.items)) }
+{
+    let columns = Columns::build(alloc, batch.events.as_slice())?;
+    program.select(alloc, &columns, batch.conns.as_slice())
 }
 
 fn has_event(items: &[TenantItem]) -> bool

@@ -9,10 +9,14 @@ use Rattle.gate_pipeline.specs.declared.which.Held.{Held}
 use Rattle.gate_pipeline.specs.declared.which.Held.TheVariants as held
 use Rattle.gate_pipeline.specs.States.{Processed, State, held_as, processed}
 
+-- it came to this state and answer; or memory was refused, and this is held
+abbrev pub ComesTo : State × Processed → Held → State → State → Result Processed Memory → Type 0
+ComesTo ended waiting old new (Ok answer) = (new, answer) ≡ ended
+ComesTo ended waiting old new (Err memory) = new ≡ held_as (Some waiting) old
+
 -- this is processed; or memory was refused, and it is held
 abbrev pub Processes : Config → State → Held → State → Result Processed Memory → Type 0
-Processes config old waiting new (Ok answer) = (new, answer) ≡ processed config waiting old
-Processes config old waiting new (Err memory) = new ≡ held_as (Some waiting) old
+Processes config old waiting new result = ComesTo (processed config waiting old) waiting old new result
 
 -- a trigger event is processed; or memory was refused, and all is as it was
 abbrev pub Triggers : Config → State → Stamped → State → Result (Action × Outcome) Memory → Type 0
