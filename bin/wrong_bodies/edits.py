@@ -94,7 +94,7 @@ class Sources:
         self.read = sources.Source(crate.folder)
         self.read.read("src/lib.rt")
         self.bodies, self.controls, self.unfit = [], [], []
-        for file in sorted(os.listdir(self.folder)):
+        for file in sorted(it for it in os.listdir(self.folder) if it != "verdicts"):
             name = file.removesuffix(".edit")
             try:
                 body = self.body(name, file)

@@ -34,26 +34,39 @@ def folder_of(symbol):
 
 
 class Judging:
-    """A crate whose wrong bodies are judged."""
+    """A crate whose wrong bodies are judged. Those that the repository records aren't, unless all of the crate are to be:
+    anew, to be recorded, or as a sample, of which each verdict has to be as it is recorded."""
 
-    def __init__(self, crate, is_anew=False, until=None):
-        self.crate, self.name, self.sources, self.kept = crate, crate.name, Sources(crate), Kept(crate, is_anew)
+    def __init__(self, crate, is_anew=False, until=None, is_recording=False, is_sample=False):
+        self.crate, self.name, self.sources = crate, crate.name, Sources(crate)
+        self.kept = Kept(crate, is_anew or is_sample)
+        self.is_recording, self.skips_recorded = is_recording, not (is_anew or is_recording or is_sample)
+        self.is_sample = is_sample
         self.lines = crate.count(b"\n")
         # When all checks of wrong bodies have to be done, by the monotonic clock, and how many of them were put off for that.
         self.until, self.put_off = until, 0
         # The crate's functions, by their names in a check.
         self.named = []
-        self.refused, self.failed, self.old = 0, 0, 0
-        # The verdicts of this run and why, by the names of the wrong bodies.
+        self.refused, self.failed, self.old, self.recorded = 0, 0, 0, 0
+        # The verdicts of this run and why, by the names of the wrong bodies, and those that are recorded of what stands here.
         self.verdicts = {}
+        self.records = {it.name: self.kept.record(it) for it in self.sources.bodies}
         self.is_controlled, self.asking = None, threading.Lock()
 
     def tell(self, name, verdict, why):
+        recorded = self.records.get(name)
+        if recorded and verdict != recorded:
+            verdict, why = "FAILED", f"the record says {recorded}, and this is {verdict}, {why}"
         with printing:
             print(f"{self.name}/{name}: {verdict}, {why}", flush=True)
         self.refused += verdict != "FAILED"
         self.failed += verdict == "FAILED"
         self.verdicts[name] = verdict, why
+
+    def has_work(self):
+        """Whether there is a wrong body that is neither recorded nor judged by an earlier run on this machine."""
+        left = [it for it in self.sources.bodies if not (self.skips_recorded and self.records[it.name])]
+        return not self.sources.bodies or any(not self.kept.verdict(it) for it in left)
 
     def urgency(self):
         """The work that is left, by which crates take turns: a check of many lines takes longer, and so do many wrong bodies."""
@@ -68,10 +81,22 @@ class Judging:
         print(f"    {self.name}: {text}", file=sys.stderr, flush=True)
 
     def judge(self):
-        """Judges the wrong bodies, but for those that an earlier run on this machine has judged."""
+        """Judges the wrong bodies, but for those that are recorded, or that an earlier run on this machine has judged."""
+        bodies = self.sources.bodies
+        self.leave_recorded()
         self.tell_kept()
-        if self.old and not self.sources.bodies:
-            return
+        if self.sources.bodies or not bodies:
+            self.judge_bodies()
+        if self.is_recording and not self.failed and not self.put_off:
+            self.kept.write([(it, self.verdicts[it.name][0]) for it in bodies])
+
+    def leave_recorded(self):
+        if self.skips_recorded:
+            left = [it for it in self.sources.bodies if not self.records[it.name]]
+            self.recorded = len(self.sources.bodies) - len(left)
+            self.sources.bodies = left
+
+    def judge_bodies(self):
         with tempfile.TemporaryDirectory(prefix="wrong-bodies-") as self.room, ThreadPoolExecutor() as self.pool:
             self.begin(f"{self.room}/kept")
             self.judge_all()
@@ -91,9 +116,13 @@ class Judging:
         self.old = len(found) - len(self.sources.bodies)
 
     def tell_unfit(self):
-        """Tells which edits can't be judged, by their texts alone."""
+        """Tells which edits can't be judged, by their texts alone, and which lines of the record are of none."""
         for name, why in self.sources.unfit:
             self.tell(name, "FAILED", why)
+        for line in self.kept.unread:
+            self.tell("verdicts", "FAILED", f"the record has a line that isn't a name, a verdict and a sum: {line}")
+        for name in sorted(self.kept.recorded.keys() - {it.name for it in self.sources.bodies}):
+            self.tell(name, "FAILED", "the record has a line of it, and there is no such wrong body")
 
     def judge_all(self):
         controls = self.sources.controls
