@@ -1,8 +1,9 @@
 ghost use Rattle.std.specs.Prelude.{◌≡◌, ◌≤◌, ◌<◌, ◌==◌, ◌+◌, ◌^◌, ◌++◌, IfOk, OnErr, OnOk, flat_map, length, map, option_map, true};
-ghost use Rattle.std.specs.List.{list_any};
+ghost use Rattle.std.specs.List.{list_any, zip};
 ghost use Rattle.std.specs.Option.{option_to_list};
 ghost use Rattle.gate_config.specs.Limits.{most_connections};
 ghost use Rattle.gate_config.specs.Lookups.{pipelines_of};
+ghost use Rattle.gate_intern.specs.Limits.{most_rows};
 ghost use Rattle.gate_lanes.specs.declared.TheConstants.{MARKED};
 ghost use Rattle.gate_match.specs.Selecting.{config_of, masks_of, tenant_of};
 ghost use Rattle.gate_tenant.specs.Limits.{most_gathered};
