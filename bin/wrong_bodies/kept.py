@@ -12,6 +12,8 @@ import tempfile
 
 from .checks import rtlib, sources
 
+# The modules that make the verdicts.
+JUDGING = ("checks", "edits", "rounds")
 HERE = os.path.dirname(os.path.realpath(__file__))
 CACHES = os.environ.get("XDG_CACHE_HOME") or os.path.expanduser("~/.cache")
 LINE = re.compile(r"(\S+) (refused|weak) ([0-9a-f]{64})")
@@ -47,7 +49,9 @@ def seen_as(folder, _files):
     read.read("src/lib.rt")
     texts = []
     for file, data in sorted(read.data.items()):
-        bodies = [(it.opens, it.end) for it in read.functions if it.file == file and it.has_body and not it.is_constant]
+        # (where the kit doesn't say which functions are constants, none is taken for one that isn't)
+        plain = [it for it in read.functions if it.file == file and it.has_body and not getattr(it, "is_constant", True)]
+        bodies = [(it.opens, it.end) for it in plain]
         text, end = b"", 0
         for opens, closes in sorted(bodies):
             # one that stands in another's body has gone with it
@@ -71,7 +75,7 @@ def cited(texts, folders):
 
 
 class Kept:
-    """What a crate's wrong bodies came to, by the sum of all that a verdict rests on: the kit, this program, the crate's own files
+    """What a crate's wrong bodies came to, by the sum of all that a verdict rests on: the kit, what judges, the crate's own files
     and its controls, of the crates below what a check sees of them, and the edit itself."""
 
     def __init__(self, crate, is_anew):
@@ -87,7 +91,7 @@ class Kept:
     def base(self):
         """Returns what all of the crate's verdicts rest on, as it stands now."""
         below = self.crate.below()
-        program = [bytes_of(it) for it in sorted([f"{HERE}/../wrong-bodies", *glob.glob(f"{HERE}/*.py")])]
+        program = [bytes_of(f"{HERE}/{it}.py") for it in JUDGING]
         controls = [bytes_of(it) for it in sorted(glob.glob(f"{self.crate.folder}/wrong-bodies/control-*.edit"))]
         own = files_in(self.crate.folder, rtlib.PARTS)
         lines = [(it.name, it.said, [dep.name for dep in it.deps], list(it.of_kit)) for it in [*below, self.crate]]

@@ -13,6 +13,7 @@ use gate_core::report_text;
 use gate_record::Shared;
 use gate_run::{Inbox, Posts, ReaderFeed, RecordFeed, Served, serve};
 use gate_status::{Board, BoardGate};
+use std::alloc::Global;
 use std::fs::File;
 use std::io::ErrorKind;
 use std::net::{Net, TcpListener, TcpStream};
@@ -88,17 +89,74 @@ where
     requires feeds { length feeds.items ≡ length (connections_of config) }
     requires few { All (λ feed. ⟦<ReaderFeed<Stream> as RecordFeed>⟧.fault_count feed < 2 ^ 64 - 1) feeds.items }
 {
+    let config = Shared::new(rt.alloc(), config)?;
+    let ran = run_shared(rt, &config, feeds, port);
+    if ran.is_ok() {
+        // The program ends behind this, and the system takes it back at once.
+        mem::forget(config);
+    }
+    ran
+}
+
+fn run_shared<X>(
+    rt: &X,
+    config: &Shared<Config>,
+    feeds: Vec<ReaderFeed<Stream>>,
+    port: Option<Port>,
+) -> Result<(String, Option<Port>), Fault>
+where
+    X: Threads + Wait + Clock + AllocGlobal + Copy + Send + Sync + 'static,
+    requires feeds { length feeds.items ≡ length (connections_of config.now) }
+    requires few { All (λ feed. ⟦<ReaderFeed<Stream> as RecordFeed>⟧.fault_count feed < 2 ^ 64 - 1) feeds.items }
+{
     let alloc = rt.alloc();
-    let config = Shared::new(alloc, config)?;
     let board = Shared::new(alloc, Mutex::new(Board::new(alloc, config.get())?))?;
-    let (sessions, inbox) = match port {
-        Some(port) => {
-            let (posts, inbox) = Posts::open(alloc, config.get())?;
-            let sessions = Sessions::new(port, config.share()?, board.share()?, posts);
-            (Some(sessions.start(rt, (*rt, alloc))?), inbox)
-        }
-        None => (None, Inbox::without_posts(alloc, config.get())?),
-    };
+    match port {
+        Some(port) => run_with_port(rt, config, &board, feeds, port),
+        None => run_alone(rt, config.get(), &board, feeds),
+    }
+}
+
+fn run_alone<X>(
+    rt: &X,
+    config: &Config,
+    board: &Shared<Mutex<Board>>,
+    feeds: Vec<ReaderFeed<Stream>>,
+) -> Result<(String, Option<Port>), Fault>
+where
+    X: Threads + Wait + Clock + AllocGlobal + Copy + Send + Sync + 'static,
+    requires feeds { length feeds.items ≡ length (connections_of config.now) }
+    requires few { All (λ feed. ⟦<ReaderFeed<Stream> as RecordFeed>⟧.fault_count feed < 2 ^ 64 - 1) feeds.items }
+{
+    let alloc = rt.alloc();
+    let inbox = Inbox::without_posts(alloc, config)?;
+    let served = serve(
+        rt,
+        alloc,
+        config,
+        feeds,
+        inbox,
+        &BoardGate::new(board.get()),
+    )?;
+    Ok((report(alloc, config, served)?, None))
+}
+
+fn run_with_port<X>(
+    rt: &X,
+    config: &Shared<Config>,
+    board: &Shared<Mutex<Board>>,
+    feeds: Vec<ReaderFeed<Stream>>,
+    port: Port,
+) -> Result<(String, Option<Port>), Fault>
+where
+    X: Threads + Wait + Clock + AllocGlobal + Copy + Send + Sync + 'static,
+    requires feeds { length feeds.items ≡ length (connections_of config.now) }
+    requires few { All (λ feed. ⟦<ReaderFeed<Stream> as RecordFeed>⟧.fault_count feed < 2 ^ 64 - 1) feeds.items }
+{
+    let alloc = rt.alloc();
+    let (posts, inbox) = Posts::open(alloc, config.get())?;
+    let sessions = Sessions::new(port, config.share()?, board.share()?, posts);
+    let sessions = sessions.start(rt, (*rt, alloc))?;
     let served = serve(
         rt,
         alloc,
@@ -107,7 +165,16 @@ where
         inbox,
         &BoardGate::new(board.get()),
     )?;
-    let port = sessions.map(|sessions| sessions.join(rt));
+    let port = sessions.join(rt);
+    Ok((report(alloc, config.get(), served)?, Some(port)))
+}
+
+// The text of the report of a run, whose pipelines the system takes back when the program ends, right behind this.
+fn report(
+    alloc: Global,
+    config: &Config,
+    served: Served<ReaderFeed<Stream>>,
+) -> Result<String, Fault> {
     let Served {
         report,
         pipelines,
@@ -116,9 +183,7 @@ where
     } = served;
     // A stream may stand where standard output was closed.
     drop(feeds);
-    let text = report_text(alloc, config.get(), &report)?;
-    // The program ends behind this, and the system takes all of them back at once.
+    let text = report_text(alloc, config, &report)?;
     mem::forget(pipelines);
-    mem::forget(config);
-    Ok((text, port))
+    Ok(text)
 }
