@@ -1,6 +1,7 @@
 //! `gate serve`: the streams are opened, the port is listened on, and a report is made of what has run.
-ghost use Rattle.std.specs.Prelude.{◌≡◌, ◌-◌, ◌<◌, ◌^◌, All, length};
+ghost use Rattle.std.specs.Prelude.{◌≡◌, ◌-◌, ◌<◌, ◌^◌, All, IfOk, length};
 ghost use Rattle.gate_config.specs.Lookups.{connections_of};
+ghost use Rattle.gate_run.specs.Ports.{IsInboxFor};
 
 use crate::address::Address;
 use crate::fault::Fault;
@@ -19,7 +20,7 @@ use std::io::ErrorKind;
 use std::net::{Net, TcpListener, TcpStream};
 use std::rt::Files;
 use std::sync::{Mutex, Wait};
-use std::thread::Threads;
+use std::thread::{JoinHandle, Threads};
 use std::time::Clock;
 use std::{fs, mem};
 
@@ -154,9 +155,7 @@ where
     requires few { All (λ feed. ⟦<ReaderFeed<Stream> as RecordFeed>⟧.fault_count feed < 2 ^ 64 - 1) feeds.items }
 {
     let alloc = rt.alloc();
-    let (posts, inbox) = Posts::open(alloc, config.get())?;
-    let sessions = Sessions::new(port, config.share()?, board.share()?, posts);
-    let sessions = sessions.start(rt, (*rt, alloc))?;
+    let (sessions, inbox) = start_sessions(rt, config, board, port)?;
     let served = serve(
         rt,
         alloc,
@@ -167,6 +166,25 @@ where
     )?;
     let port = sessions.join(rt);
     Ok((report(alloc, config.get(), served)?, Some(port)))
+}
+
+// The sessions of the port, in their thread, and the inbox of what they post.
+fn start_sessions<X>(
+    rt: &X,
+    config: &Shared<Config>,
+    board: &Shared<Mutex<Board>>,
+    port: Port,
+) -> Result<(JoinHandle<Port>, Inbox), Fault>
+where
+    X: Threads + Wait + Clock + AllocGlobal + Copy + Send + 'static,
+    ensures { IfOk result (λ started. IsInboxFor config.now started.1) }
+{
+    let alloc = rt.alloc();
+    let config_of_sessions = config.share()?;
+    let board = board.share()?;
+    let (posts, inbox) = Posts::open(alloc, config.get())?;
+    let sessions = Sessions::new(port, config_of_sessions, board, posts);
+    Ok((sessions.start(rt, (*rt, alloc))?, inbox))
 }
 
 // The text of the report of a run, whose pipelines the system takes back when the program ends, right behind this.

@@ -38,20 +38,23 @@ pub fn task_of<'a>(alloc: Global, words: &'a [String]) -> Result<Task, Fault> {
 }
 
 fn command<'a>(alloc: Global) -> Result<Command<'a>, AllocError> {
-    let check = plain(alloc, "check").arg(path(alloc, "config"))?;
-    let replay = plain(alloc, "replay")
-        .arg(path(alloc, "config"))?
-        .arg(path(alloc, "script"))?;
+    let gate = plain(alloc, "gate").disable_help_subcommand(true);
+    with_serve(alloc, with_replay(alloc, gate.subcommand(check(alloc)?)?)?)
+}
+
+fn check<'a>(alloc: Global) -> Result<Command<'a>, AllocError> {
+    plain(alloc, "check").arg(path(alloc, "config"))
+}
+
+fn with_replay<'a>(alloc: Global, gate: Command<'a>) -> Result<Command<'a>, AllocError> {
+    let replay = plain(alloc, "replay").arg(path(alloc, "config"))?;
+    gate.subcommand(replay.arg(path(alloc, "script"))?)
+}
+
+fn with_serve<'a>(alloc: Global, gate: Command<'a>) -> Result<Command<'a>, AllocError> {
     let sources = path(alloc, "source").required(false).num_args(0..);
-    let serve = plain(alloc, "serve")
-        .arg(path(alloc, "config"))?
-        .arg(path(alloc, "status"))?
-        .arg(sources)?;
-    plain(alloc, "gate")
-        .disable_help_subcommand(true)
-        .subcommand(check)?
-        .subcommand(replay)?
-        .subcommand(serve)
+    let serve = plain(alloc, "serve").arg(path(alloc, "config"))?;
+    gate.subcommand(serve.arg(path(alloc, "status"))?.arg(sources)?)
 }
 
 // A command without clap's own help and version.
