@@ -1,32 +1,7 @@
 //! Configurations, read or refused, and what they say.
-use crate::faults::Elsewhere;
-use crate::log::Log;
-use gate_config::{Config, check_text, read_config};
-use gate_record::Text;
-use std::alloc::{AllocError, Global};
-
-/// Two connections; a tenant with an independent and a dependent pipeline, whose rules have each attribute, and one without
-/// connections.
-pub(crate) const WHOLE: &str = r#"{"tenants":[{"tenant":{"name":"main","source":{
-    "gerrit":{"config-projects":["infra"],"untrusted-projects":["demo",{"docs":{"include":[]}},{"projects":["a","b"]}]},
-    "review":{"untrusted-projects":["demo"]}}}},{"name":"idle","source":{}}],
-"config":{"main":[
-    {"pipeline":{"name":"check","manager":"independent","trigger":{
-        "gerrit":[
-            {"event":["patchset-created","comment-added"],"branch":["^mas","stable"],"username":"n$","email":"@example"},
-            {"event":"comment-added","comment":"(?m)^recheck$"},
-            {"event":"ref-updated","ref":["^refs/tags/","heads"],"ignore-deletes":false}],
-        "review":{"event":"patchset-created"}}}},
-    {"pipeline":{"name":"gate","manager":"dependent","trigger":{
-        "gerrit":[{"event":"comment-added","approval":[{"Code-Review":2},{"verified":-1}]},{"event":"patchset-created"}]}}},
-    {"project":{"name":"demo","check":{"jobs":["unit",{"lint":{"voting":false}}]},"gate":{"jobs":["unit"]}}},
-    {"job":{"name":"unit"}},
-    {"project":{"name":"docs","check":{"jobs":["render"]}}}],
-"idle":[{"pipeline":{"name":"check","manager":"independent"}}]}}"#;
-
-/// The same trigger in each of two connections, and two pipelines that have one job each of the project `demo`.
-pub(crate) const PLAIN: &str =
-    r#"{"tenants":[{"name":"main","source":{"gerrit":{"untrusted-projects":["demo"]},"review":{"untrusted-projects":["demo"]}}}],"config":{"main":[{"pipeline":{"name":"check","manager":"independent","trigger":{"gerrit":[{"event":"."}],"review":[{"event":"."}]}}},{"pipeline":{"name":"gate","manager":"dependent","trigger":{"gerrit":[{"event":"."}]}}},{"project":{"name":"demo","check":{"jobs":["unit","lint"]},"gate":{"jobs":["unit"]}}}]}}"#;
+use gate_config::{Config, check_text};
+use gate_refusing::{Elsewhere, Log, PLAIN, WHOLE, made, read_twice, say};
+use std::alloc::Global;
 
 // A document with a hole at `@`.
 const RULES: &str =
@@ -83,29 +58,19 @@ pub(crate) fn run(log: &mut Log, alloc: Global) -> Result<(), Elsewhere> {
     read_all(log, alloc, ITEMS, FAULTY_ITEMS)
 }
 
-/// A configuration, which a document has to be.
-pub(crate) fn config_of(log: &mut Log, alloc: Global, document: &str) -> Result<Config, Elsewhere> {
-    let call = "gate_config read_config";
-    Ok(log.made(call, || read_config(alloc, document.as_bytes()))?)
-}
-
 fn read(log: &mut Log, alloc: Global, document: &str) -> Result<(), Elsewhere> {
-    let call = "gate_config read_config";
-    match log.made(call, || read_config(alloc, document.as_bytes())) {
-        Ok(config) => check(log, alloc, &config),
-        Err(fault) => Ok(write!(log.told, "{fault}\n")?),
+    match read_twice(log, alloc, document) {
+        Ok(config) => return check(log, alloc, &config),
+        Err(fault) => say!(log.told, "{fault}\n"),
     }
+    Ok(())
 }
 
 fn check(log: &mut Log, alloc: Global, config: &Config) -> Result<(), Elsewhere> {
-    let text = log.made("gate_config check_text", || check_text(alloc, config))?;
-    log.told.push_str(text.as_str())?;
-    Ok(push_names(&mut log.told, config.connections())?)
-}
-
-fn push_names(text: &mut String, names: &[Text]) -> Result<(), AllocError> {
-    for name in names {
-        write!(text, "{}\n", name.as_str())?;
+    let text = made!(log, "gate_config check_text", check_text(alloc, config))?;
+    say!(log.told, "{text}");
+    for name in config.connections() {
+        say!(log.told, "{}\n", name.as_str());
     }
     Ok(())
 }

@@ -2,9 +2,8 @@
 ghost use Rattle.std.specs.Prelude.{◌≡◌, ◌<◌, IfOk};
 ghost use Rattle.gate_queue.specs.Seats.{IsHeadOf, AreAllTailsOf};
 
-use crate::faults::Elsewhere;
-use crate::log::Log;
 use gate_queue::{FreeHead, FreeQueue, FreeTail, Memory, Tagged, open_free};
+use gate_refusing::{Elsewhere, Log, say};
 use std::alloc::Global;
 use std::sync::Wait;
 
@@ -20,9 +19,9 @@ const VALUES: u64 = 100;
 pub(crate) fn run<R: Wait>(rt: &R, log: &mut Log, alloc: Global) -> Result<(), Elsewhere> {
     let (queue, mut tails, mut head) = opened(log, alloc)?;
     put_all(rt, log, &queue, &mut tails)?;
-    take(rt, log, &queue, &mut head)?;
+    take(rt, log, &queue, &mut head);
     let rest = settled(rt, log, queue, tails, head)?;
-    write!(log.told, "{rest:?}\n")?;
+    say!(log.told, "{rest:?}\n");
     Ok(())
 }
 
@@ -99,19 +98,13 @@ fn put_again<R: Wait>(
 }
 
 // Takes one value, and some of a batch of which the others stay with the seat.
-fn take<R: Wait>(
-    rt: &R,
-    log: &mut Log,
-    queue: &FreeQueue<u64>,
-    head: &mut FreeHead<u64>,
-) -> Result<(), Elsewhere>
+fn take<R: Wait>(rt: &R, log: &mut Log, queue: &FreeQueue<u64>, head: &mut FreeHead<u64>)
     requires { IsHeadOf queue.now head.old }
     ensures { IsHeadOf queue.now head.new }
 {
     let first = queue.take(rt, head);
     let second = queue.take_some(rt, head, 8).next();
-    write!(log.told, "{first:?} {second:?}\n")?;
-    Ok(())
+    say!(log.told, "{first:?} {second:?}\n");
 }
 
 // Ends the queue. Where memory is refused it comes back with its seats, and everything waits as before.

@@ -1,11 +1,10 @@
 //! Patterns, built and matched, and rules.
-use crate::configurations::{WHOLE, config_of};
-use crate::faults::Elsewhere;
-use crate::log::Log;
-use crate::records::{APPROVED, DELETED, MADE, UPLOADED, event_of};
 use gate_config::Config;
-use gate_record::{ConnId, Event, PipelineId, Shared, TenantId};
-use gate_rule::{Pattern, Rule};
+use gate_record::{ConnId, Event, PipelineId, TenantId};
+use gate_refusing::{
+    APPROVED, DELETED, Elsewhere, Log, MADE, UPLOADED, WHOLE, config_of, event_of, made, say,
+};
+use gate_rule::{Matcher, Pattern, PatternFault, Rule};
 use std::alloc::Global;
 
 // Patterns, of which the last ones are none.
@@ -31,10 +30,7 @@ pub(crate) fn run(log: &mut Log, alloc: Global) -> Result<(), Elsewhere> {
         build(log, alloc, text)?;
     }
     let config = config_of(log, alloc, WHOLE)?;
-    for line in [UPLOADED, APPROVED, DELETED, MADE] {
-        try_rules(log, alloc, &config, line)?;
-    }
-    Ok(())
+    try_lines(log, alloc, &config)
 }
 
 pub(crate) fn run_large(log: &mut Log, alloc: Global) -> Result<(), Elsewhere> {
@@ -42,10 +38,12 @@ pub(crate) fn run_large(log: &mut Log, alloc: Global) -> Result<(), Elsewhere> {
 }
 
 fn build(log: &mut Log, alloc: Global, text: &str) -> Result<(), Elsewhere> {
-    match log.made("gate_rule Pattern::new", || Pattern::new(alloc, text)) {
-        Ok(pattern) => try_texts(log, alloc, &pattern),
-        Err(fault) => Ok(write!(log.told, "{text} {fault}\n")?),
+    let call = "gate_rule Pattern::new";
+    match made!(log, call, PatternFault::Memory, Pattern::new(alloc, text)) {
+        Ok(pattern) => return try_texts(log, alloc, &pattern),
+        Err(fault) => say!(log.told, "{text} {fault}\n"),
     }
+    Ok(())
 }
 
 fn try_texts(log: &mut Log, alloc: Global, pattern: &Pattern) -> Result<(), Elsewhere> {
@@ -57,9 +55,10 @@ fn try_texts(log: &mut Log, alloc: Global, pattern: &Pattern) -> Result<(), Else
 }
 
 fn find(log: &mut Log, alloc: Global, pattern: &Pattern, text: &str) -> Result<(), Elsewhere> {
-    let front = log.made("gate_rule Pattern::front", || pattern.front(alloc, text))?;
-    let within = log.made("gate_rule Pattern::within", || pattern.within(alloc, text))?;
-    write!(log.told, "{} {front} {within}\n", pattern.text())?;
+    let front = made!(log, "gate_rule Pattern::front", pattern.front(alloc, text))?;
+    let call = "gate_rule Pattern::within";
+    let within = made!(log, call, pattern.within(alloc, text))?;
+    say!(log.told, "{} {front} {within}\n", pattern.text());
     Ok(())
 }
 
@@ -69,35 +68,50 @@ fn find_by_matcher(
     pattern: &Pattern,
     text: &str,
 ) -> Result<(), Elsewhere> {
-    let mut matcher = log.made("gate_rule Pattern::matcher", || pattern.matcher(alloc))?;
-    let (front, within) = (matcher.front(text), matcher.within(text));
-    write!(log.told, "{front} {within}\n")?;
+    let mut matcher = made!(log, "gate_rule Pattern::matcher", pattern.matcher(alloc))?;
+    search(log, &mut matcher, text);
     Ok(())
 }
 
-fn try_rules(log: &mut Log, alloc: Global, config: &Config, line: &str) -> Result<(), Elsewhere> {
-    let event = event_of(alloc, line)?;
-    for pipeline in 0..2 {
-        let rules = config.rules(TenantId(0), PipelineId(pipeline), ConnId(0));
-        meet_all(log, alloc, rules, &event)?;
+fn search(log: &mut Log, matcher: &mut Matcher<'_>, text: &str) {
+    let (front, within) = (matcher.front(text), matcher.within(text));
+    say!(log.told, "{front} {within}\n");
+}
+
+fn try_lines(log: &mut Log, alloc: Global, config: &Config) -> Result<(), Elsewhere> {
+    for line in [UPLOADED, APPROVED, DELETED, MADE] {
+        try_line(log, alloc, config, line)?;
     }
     Ok(())
 }
 
-fn meet_all(
+fn try_line(log: &mut Log, alloc: Global, config: &Config, line: &str) -> Result<(), Elsewhere> {
+    let event = event_of(alloc, line)?;
+    try_rules(log, alloc, config, event.get())
+}
+
+fn try_rules(
     log: &mut Log,
     alloc: Global,
-    rules: &[Rule],
-    event: &Shared<Event>,
+    config: &Config,
+    event: &Event,
 ) -> Result<(), Elsewhere> {
+    for pipeline in 0..2 {
+        let rules = config.rules(TenantId(0), PipelineId(pipeline), ConnId(0));
+        meet_all(log, alloc, rules, event)?;
+    }
+    Ok(())
+}
+
+fn meet_all(log: &mut Log, alloc: Global, rules: &[Rule], event: &Event) -> Result<(), Elsewhere> {
     for rule in rules {
-        meet(log, alloc, rule, event.get())?;
+        meet(log, alloc, rule, event)?;
     }
     Ok(())
 }
 
 fn meet(log: &mut Log, alloc: Global, rule: &Rule, event: &Event) -> Result<(), Elsewhere> {
-    let is_met = log.made("gate_rule Rule::matches", || rule.matches(alloc, event))?;
-    write!(log.told, "{is_met}\n")?;
+    let is_met = made!(log, "gate_rule Rule::matches", rule.matches(alloc, event))?;
+    say!(log.told, "{is_met}\n");
     Ok(())
 }

@@ -2,9 +2,8 @@
 ghost use Rattle.std.specs.Prelude.{◌≡◌, ◌<◌, IfOk};
 ghost use Rattle.gate_queue.specs.Seats.{IsHeadOf, AreAllTailsOf};
 
-use crate::faults::Elsewhere;
-use crate::log::Log;
 use gate_queue::{EventQueue, Head, OpenFault, Tagged, Tail, open};
+use gate_refusing::{Elsewhere, Log, say};
 use std::alloc::Global;
 use std::sync::Wait;
 
@@ -14,10 +13,10 @@ const SETTLE: &str = "gate_queue EventQueue::settle";
 
 pub(crate) fn run<R: Wait>(rt: &R, log: &mut Log, alloc: Global) -> Result<(), Elsewhere> {
     let (queue, mut tails, mut head) = opened(log, alloc)?;
-    put_all(rt, log, &queue, &mut tails)?;
-    take(rt, log, &queue, &mut head)?;
+    put_all(rt, log, &queue, &mut tails);
+    take(rt, log, &queue, &mut head);
     let rest = settled(rt, log, queue, tails, head)?;
-    write!(log.told, "{rest:?}\n")?;
+    say!(log.told, "{rest:?}\n");
     Ok(())
 }
 
@@ -41,19 +40,13 @@ fn opened(
     }
 }
 
-fn put_all<R: Wait>(
-    rt: &R,
-    log: &mut Log,
-    queue: &EventQueue<u32>,
-    tails: &mut Vec<Tail<u32>>,
-) -> Result<(), Elsewhere>
+fn put_all<R: Wait>(rt: &R, log: &mut Log, queue: &EventQueue<u32>, tails: &mut Vec<Tail<u32>>)
     requires { AreAllTailsOf queue.now tails.old.items × (0 < queue.now.name.senders) }
     ensures { AreAllTailsOf queue.now tails.new.items }
 {
     for value in 0..5 {
-        put(rt, log, queue, tails, value)?;
+        put(rt, log, queue, tails, value);
     }
-    Ok(())
 }
 
 // Puts a value, which comes back where the queue is full.
@@ -63,27 +56,20 @@ fn put<R: Wait>(
     queue: &EventQueue<u32>,
     tails: &mut Vec<Tail<u32>>,
     value: u32,
-) -> Result<(), Elsewhere>
+)
     requires { AreAllTailsOf queue.now tails.old.items × (0 < queue.now.name.senders) }
     ensures { AreAllTailsOf queue.now tails.new.items }
 {
     let answer = queue.put(rt, &mut tails[0], value);
-    write!(log.told, "{answer:?}\n")?;
-    Ok(())
+    say!(log.told, "{answer:?}\n");
 }
 
-fn take<R: Wait>(
-    rt: &R,
-    log: &mut Log,
-    queue: &EventQueue<u32>,
-    head: &mut Head<u32>,
-) -> Result<(), Elsewhere>
+fn take<R: Wait>(rt: &R, log: &mut Log, queue: &EventQueue<u32>, head: &mut Head<u32>)
     requires { IsHeadOf queue.now head.old }
     ensures { IsHeadOf queue.now head.new }
 {
     let taken = queue.take(rt, head);
-    write!(log.told, "{taken:?}\n")?;
-    Ok(())
+    say!(log.told, "{taken:?}\n");
 }
 
 // Ends the queue. Where memory is refused it comes back with its seats, and everything waits as before.

@@ -1,16 +1,14 @@
 //! Streams: cut into records, offered, read by a feed, and stopped.
 ghost use Rattle.gate_source.specs.Stops.{IsNoteOf};
 
-use crate::faults::Elsewhere;
-use crate::log::Log;
-use crate::shown::Shown;
 use gate_record::{Memory, Record};
+use gate_refusing::{Elsewhere, Log, kept, made, say, show_record};
 use gate_source::{FeedStep, LineSplit, ReaderFeed, RecordFeed, StopCause, StopCell, StopNote};
-use std::alloc::{AllocError, Global};
+use std::alloc::Global;
 use std::sync::Wait;
 
-/// Lines with either end, an empty one, and one without an end.
-pub(crate) const STREAM: &str = "first\r\nsecond\n\na third line that is longer\n\r\nfourth\nfifth";
+// Lines with either end, an empty one, and one without an end.
+const STREAM: &str = "first\r\nsecond\n\na third line that is longer\n\r\nfourth\nfifth";
 
 // As many bytes as a piece has.
 const SIZES: [usize; 4] = [1, 4, 13, 100];
@@ -34,29 +32,29 @@ fn cut(log: &mut Log, alloc: Global, size: usize) -> Result<(), Elsewhere> {
         feed(log, &mut splitter, piece)?;
     }
     if let Some(record) = splitter.finish() {
-        record.show(&mut log.told)?;
+        show_record(&record, &mut log.told);
     }
     Ok(())
 }
 
 fn feed(log: &mut Log, splitter: &mut LineSplit, piece: &[u8]) -> Result<(), Elsewhere> {
     let call = "gate_source LineSplit::feed";
-    let records = log.kept(call, splitter, |splitter| splitter.feed(piece))?;
-    Ok(records.show(&mut log.told)?)
+    let records = kept!(log, call, show_splitter(splitter), splitter.feed(piece))?;
+    tell_records(log, records.as_slice());
+    Ok(())
 }
 
 // What it keeps of the line that hasn't ended.
-impl Shown for LineSplit {
-    fn show(&self, text: &mut String) -> Result<(), AllocError> {
-        write!(text, "{self:?}\n")
-    }
+fn show_splitter(splitter: &LineSplit, text: &mut String) {
+    say!(text, "{splitter:?}\n");
 }
 
 // Reads the stream by a feed; where memory is refused to that the feed is asked no more, and a new one reads all of it.
 fn read<R: Wait>(rt: &R, log: &mut Log, alloc: Global) -> Result<(), Elsewhere> {
     let mut records = Vec::new(alloc);
     if read_all(rt, log, alloc, &mut records)? {
-        return push_records(log, records.as_slice());
+        tell_records(log, records.as_slice());
+        return Ok(());
     }
     log.tell_refused(NEXT);
     let mut all = Vec::new(alloc);
@@ -64,7 +62,8 @@ fn read<R: Wait>(rt: &R, log: &mut Log, alloc: Global) -> Result<(), Elsewhere> 
         if !are_first(records.as_slice(), all.as_slice()) {
             log.tell_changed(NEXT);
         }
-        return push_records(log, all.as_slice());
+        tell_records(log, all.as_slice());
+        return Ok(());
     }
     Err(log.tell_twice(NEXT))
 }
@@ -87,11 +86,10 @@ fn is_same(one: &Record, other: &Record) -> bool {
     }
 }
 
-fn push_records(log: &mut Log, records: &[Record]) -> Result<(), Elsewhere> {
+fn tell_records(log: &mut Log, records: &[Record]) {
     for record in records {
-        record.show(&mut log.told)?;
+        show_record(record, &mut log.told);
     }
-    Ok(())
 }
 
 // Whether the feed came to its end.
@@ -102,7 +100,7 @@ fn read_all<R: Wait>(
     records: &mut Vec<Record>,
 ) -> Result<bool, Elsewhere> {
     let call = "gate_source ReaderFeed::new";
-    let mut feed = log.made(call, || ReaderFeed::new(alloc, STREAM.as_bytes()))?;
+    let mut feed = made!(log, call, ReaderFeed::new(alloc, STREAM.as_bytes()))?;
     for _ in 0..20 {
         match next(rt, &mut feed) {
             FeedStep::Got(record) => records.push(record)?,
@@ -140,14 +138,18 @@ fn ask(
     ensures { IsNoteOf cell.now note.new }
 {
     match cell.request(note, cause) {
-        Ok(held) => return Ok(write!(log.told, "{held:?}\n")?),
+        Ok(held) => return Ok(tell_cause(log, held)),
         Err(Memory) => log.tell_refused(REQUEST),
     }
     if cell.seen(note).is_some() {
         log.tell_changed(REQUEST);
     }
     match cell.request(note, cause) {
-        Ok(held) => Ok(write!(log.told, "{held:?}\n")?),
+        Ok(held) => Ok(tell_cause(log, held)),
         Err(Memory) => Err(log.tell_twice(REQUEST)),
     }
+}
+
+fn tell_cause(log: &mut Log, held: StopCause) {
+    say!(log.told, "{held:?}\n");
 }

@@ -1,9 +1,6 @@
 //! Texts, lists, queues, shared values, and copies of records.
-use crate::faults::Elsewhere;
-use crate::log::Log;
-use crate::records::record_of;
-use crate::shown::Shown;
-use gate_record::{Queue, Sequence, Shared, Text, category, name_text};
+use gate_record::{Queue, Record, Sequence, Shared, Text, category, name_text};
+use gate_refusing::{Elsewhere, Log, given, made, record_of, say, show_record};
 use std::alloc::Global;
 
 const WORDS: [&str; 5] = [
@@ -25,23 +22,28 @@ pub(crate) fn run(log: &mut Log, alloc: Global) -> Result<(), Elsewhere> {
 }
 
 fn copy_text(log: &mut Log, alloc: Global, word: &str) -> Result<(), Elsewhere> {
-    let text = log.made("gate_record Text::copy", || Text::copy(alloc, word))?;
-    let lower = log.made("gate_record category", || category(alloc, word))?;
-    let name = log.made("gate_record name_text", || name_text(alloc, word))?;
-    write!(log.told, "{} {lower} {name}\n", text.as_str())?;
+    let text = made!(log, "gate_record Text::copy", Text::copy(alloc, word))?;
+    let lower = made!(log, "gate_record category", category(alloc, word))?;
+    let name = made!(log, "gate_record name_text", name_text(alloc, word))?;
+    say!(log.told, "{} {lower} {name}\n", text.as_str());
     Ok(())
 }
 
 fn share_text(log: &mut Log, alloc: Global, word: &str) -> Result<(), Elsewhere> {
-    let shared = log.made("gate_record Shared::new", || Shared::new(alloc, word.len()))?;
-    write!(log.told, "{}\n", shared.get())?;
+    let call = "gate_record Shared::new";
+    let shared = made!(log, call, Shared::new(alloc, word.len()))?;
+    say!(log.told, "{}\n", shared.get());
     Ok(())
 }
 
 fn copy_record(log: &mut Log, alloc: Global, word: &str) -> Result<(), Elsewhere> {
     let record = record_of(alloc, word)?;
-    let copy = log.made("gate_record Record::copy", || record.copy(alloc))?;
-    copy.show(&mut log.told)?;
+    tell_copy(log, alloc, &record)
+}
+
+fn tell_copy(log: &mut Log, alloc: Global, record: &Record) -> Result<(), Elsewhere> {
+    let copy = made!(log, "gate_record Record::copy", record.copy(alloc))?;
+    show_record(&copy, &mut log.told);
     Ok(())
 }
 
@@ -51,20 +53,28 @@ fn push_texts(log: &mut Log, alloc: Global) -> Result<(), Elsewhere> {
     for word in WORDS {
         push_text(log, &mut list, Text::copy(alloc, word)?)?;
     }
-    list.show(&mut log.told)?;
+    show_texts(list.as_slice(), &mut log.told);
     Ok(())
 }
 
 fn push_text(log: &mut Log, list: &mut Sequence<Text>, text: Text) -> Result<(), Elsewhere> {
-    log.given(
-        "gate_record Sequence::push",
-        list,
-        text,
-        |list, text| match list.push(text) {
-            Ok(()) => Ok(()),
-            Err(refused) => Err(refused.value),
-        },
-    )
+    let call = "gate_record Sequence::push";
+    given!(log, call, show_list(list, text), list.push(text))
+}
+
+fn show_list(list: &Sequence<Text>, text: &Text, seen: &mut String) {
+    show_texts(list.as_slice(), seen);
+    show_text(text, seen);
+}
+
+fn show_texts(texts: &[Text], seen: &mut String) {
+    for text in texts {
+        show_text(text, seen);
+    }
+}
+
+fn show_text(text: &Text, seen: &mut String) {
+    say!(seen, "{:?}\n", text.as_str());
 }
 
 // A queue that grows.
@@ -73,18 +83,24 @@ fn queue_texts(log: &mut Log, alloc: Global) -> Result<(), Elsewhere> {
     for word in WORDS {
         queue_text(log, &mut queue, Text::copy(alloc, word)?)?;
     }
-    queue.show(&mut log.told)?;
+    show_waiting(&queue, &mut log.told);
     Ok(())
 }
 
 fn queue_text(log: &mut Log, queue: &mut Queue<Text>, text: Text) -> Result<(), Elsewhere> {
-    log.given(
-        "gate_record Queue::push",
-        queue,
-        text,
-        |queue, text| match queue.push(text) {
-            Ok(()) => Ok(()),
-            Err(refused) => Err(refused.value),
-        },
-    )
+    let call = "gate_record Queue::push";
+    given!(log, call, show_queue(queue, text), queue.push(text))
+}
+
+fn show_queue(queue: &Queue<Text>, text: &Text, seen: &mut String) {
+    show_waiting(queue, seen);
+    show_text(text, seen);
+}
+
+fn show_waiting(queue: &Queue<Text>, seen: &mut String) {
+    for place in 0..queue.len() {
+        if let Some(text) = queue.get(place) {
+            show_text(text, seen);
+        }
+    }
 }

@@ -3,16 +3,14 @@ ghost use Rattle.std.specs.Prelude.{◌≡◌, All, IfOk, length};
 ghost use Rattle.gate_config.specs.Lookups.{connections_of};
 ghost use Rattle.gate_run.specs.Ports.{IsInboxFor};
 
-use crate::configurations::{PLAIN, config_of};
-use crate::faults::Elsewhere;
-use crate::log::Log;
 use crate::posts::opened;
 use gate_config::Config;
 use gate_core::{EndCause, RunReport, report_text};
 use gate_pipeline::Pipeline;
 use gate_record::{PipelineId, TenantId};
+use gate_refusing::{Elsewhere, Log, PLAIN, config_of, made, say};
 use gate_run::{Gate, Inbox, ReaderFeed, RecordFeed, RunFault, Served, serve, serve_over};
-use std::alloc::{AllocError, Global};
+use std::alloc::Global;
 use std::sync::Wait;
 use std::thread::Threads;
 use std::time::Clock;
@@ -71,10 +69,21 @@ pub(crate) fn run<R: Threads + Wait + Clock + Sync>(
     way: Way,
 ) -> Result<(), Elsewhere> {
     let config = config_of(log, alloc, PLAIN)?;
-    if run_once(rt, log, alloc, &config, way)? {
+    run_twice(rt, log, alloc, &config, way)
+}
+
+// Once, and once more where memory is refused.
+fn run_twice<R: Threads + Wait + Clock + Sync>(
+    rt: &R,
+    log: &mut Log,
+    alloc: Global,
+    config: &Config,
+    way: Way,
+) -> Result<(), Elsewhere> {
+    if run_once(rt, log, alloc, config, way)? {
         return Ok(());
     }
-    if run_once(rt, log, alloc, &config, way)? {
+    if run_once(rt, log, alloc, config, way)? {
         return Ok(());
     }
     Err(log.tell_twice(way.call()))
@@ -124,16 +133,16 @@ fn tell_run(
     report: &RunReport,
     way: Way,
 ) -> Result<bool, Elsewhere> {
-    let text = log.made(
-        "gate_core report_text",
-        || report_text(alloc, config, report),
-    )?;
+    let call = "gate_core report_text";
+    let text = made!(log, call, report_text(alloc, config, report))?;
     if is_whole(report) {
-        log.told.push_str(text.as_str())?;
+        say!(log.told, "{text}");
         return Ok(true);
     }
     log.tell_refused(way.call());
-    push_partial(&mut log.told, text.as_str())?;
+    for line in text.lines() {
+        say!(log.told, "partial {line}\n");
+    }
     Ok(false)
 }
 
@@ -148,13 +157,6 @@ fn is_whole(report: &RunReport) -> bool {
             .as_slice()
             .iter()
             .all(|pipeline| pipeline.finished))
-}
-
-fn push_partial(text: &mut String, report: &str) -> Result<(), AllocError> {
-    for line in report.lines() {
-        write!(text, "partial {line}\n")?;
-    }
-    Ok(())
 }
 
 fn served<R: Threads + Wait + Clock + Sync>(

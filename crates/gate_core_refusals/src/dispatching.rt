@@ -1,34 +1,36 @@
 //! A tenant's dispatch: what is gathered, matched and given.
-use crate::configurations::{WHOLE, config_of};
-use crate::faults::Elsewhere;
-use crate::log::Log;
-use crate::records::{APPROVED, MADE, UPLOADED, event_of};
-use crate::shown::Shown;
 use gate_config::Config;
 use gate_record::{ConnId, Memory, PipelineId, PipelineItem, Stamp, Stamped, TenantId, TenantItem};
+use gate_refusing::{
+    APPROVED, Elsewhere, Log, MADE, UPLOADED, WHOLE, config_of, event_of, given, kept, made, say,
+};
 use gate_tenant::Dispatch;
-use std::alloc::{AllocError, Global};
+use std::alloc::{AllocFailed, Global};
 
 const NEW: &str = "gate_tenant Dispatch::new";
 
 pub(crate) fn run(log: &mut Log, alloc: Global) -> Result<(), Elsewhere> {
     let config = config_of(log, alloc, WHOLE)?;
-    begin_with_marks(log, alloc, &config)?;
-    dispatch_all(log, alloc, &config)
+    dispatch_both(log, alloc, &config)
+}
+
+fn dispatch_both(log: &mut Log, alloc: Global, config: &Config) -> Result<(), Elsewhere> {
+    begin_with_marks(log, alloc, config)?;
+    dispatch_all(log, alloc, config)
 }
 
 // A tenant without connections begins with the end marks of its pipelines in the hand.
 fn begin_with_marks(log: &mut Log, alloc: Global, config: &Config) -> Result<(), Elsewhere> {
-    let mut dispatch = log.made(NEW, || Dispatch::new(alloc, config, TenantId(1)))?;
-    give_all(&mut log.told, &mut dispatch)
+    let mut dispatch = made!(log, NEW, Dispatch::new(alloc, config, TenantId(1)))?;
+    give_all(log, &mut dispatch)
 }
 
 fn dispatch_all(log: &mut Log, alloc: Global, config: &Config) -> Result<(), Elsewhere> {
-    let mut dispatch = log.made(NEW, || Dispatch::new(alloc, config, TenantId(0)))?;
+    let mut dispatch = made!(log, NEW, Dispatch::new(alloc, config, TenantId(0)))?;
     dispatch_two(log, alloc, &mut dispatch)
 }
 
-// Two batches: the second has room that was made before.
+// Two batches: the second has room that was made before, for more than the first has left.
 fn dispatch_two(
     log: &mut Log,
     alloc: Global,
@@ -37,7 +39,8 @@ fn dispatch_two(
     gather_events(log, alloc, dispatch)?;
     match_and_give(log, alloc, dispatch)?;
     let call = "gate_tenant Dispatch::make_room";
-    log.kept(call, dispatch, make_room)?;
+    kept!(log, call, show(dispatch), make_room(dispatch))?;
+    gather_with_room(log, alloc, dispatch)?;
     gather_with_room(log, alloc, dispatch)?;
     gather_marks(log, dispatch)?;
     match_and_give(log, alloc, dispatch)
@@ -49,19 +52,10 @@ fn gather_events(
     dispatch: &mut Dispatch<'_>,
 ) -> Result<(), Elsewhere> {
     for line in [UPLOADED, APPROVED, MADE, UPLOADED, APPROVED, UPLOADED] {
-        gather_event(log, alloc, dispatch, line)?;
+        let item = item_of(alloc, line)?;
+        gather_item(log, dispatch, item)?;
     }
     Ok(())
-}
-
-fn gather_event(
-    log: &mut Log,
-    alloc: Global,
-    dispatch: &mut Dispatch<'_>,
-    line: &str,
-) -> Result<(), Elsewhere> {
-    let item = item_of(alloc, line)?;
-    gather_item(log, dispatch, item)
 }
 
 fn item_of(alloc: Global, line: &str) -> Result<TenantItem, Elsewhere> {
@@ -96,17 +90,15 @@ fn gather_item(
     dispatch: &mut Dispatch<'_>,
     item: TenantItem,
 ) -> Result<(), Elsewhere> {
-    log.given("gate_tenant Dispatch::gather", dispatch, item, gather)
+    let call = "gate_tenant Dispatch::gather";
+    given!(log, call, show_both(dispatch, item), gather(dispatch, item))
 }
 
-fn gather(dispatch: &mut Dispatch<'_>, item: TenantItem) -> Result<(), TenantItem> {
+fn gather(dispatch: &mut Dispatch<'_>, item: TenantItem) -> Result<(), AllocFailed<TenantItem>> {
     if dispatch.is_out() || dispatch.room() == 0 || dispatch.ended() {
-        return Err(item);
+        return Err(AllocFailed { value: item });
     }
-    match dispatch.gather(item) {
-        Ok(()) => Ok(()),
-        Err(refused) => Err(refused.value),
-    }
+    dispatch.gather(item)
 }
 
 // Room for a whole batch.
@@ -124,8 +116,8 @@ fn match_and_give(
     dispatch: &mut Dispatch<'_>,
 ) -> Result<(), Elsewhere> {
     let call = "gate_tenant Dispatch::match_batch";
-    log.kept(call, dispatch, |dispatch| match_batch(alloc, dispatch))?;
-    give_all(&mut log.told, dispatch)
+    kept!(log, call, show(dispatch), match_batch(alloc, dispatch))?;
+    give_all(log, dispatch)
 }
 
 fn match_batch(alloc: Global, dispatch: &mut Dispatch<'_>) -> Result<(), Memory> {
@@ -136,42 +128,35 @@ fn match_batch(alloc: Global, dispatch: &mut Dispatch<'_>) -> Result<(), Memory>
 }
 
 // How much room there is, and whether something is gathered, is out or is in the hand.
-impl<'c> Shown for Dispatch<'c> {
-    fn show(&self, text: &mut String) -> Result<(), AllocError> {
-        if self.is_out() {
-            return text.push_str("out\n");
-        }
-        let (room, ended) = (self.room(), self.ended());
-        write!(
-            text,
-            "{room} {ended} {} {}\n",
-            self.has_gathered(),
-            self.is_empty()
-        )
+fn show(dispatch: &Dispatch<'_>, text: &mut String) {
+    if dispatch.is_out() {
+        say!(text, "out\n");
+        return;
     }
+    let (room, ended) = (dispatch.room(), dispatch.ended());
+    let (gathered, empty) = (dispatch.has_gathered(), dispatch.is_empty());
+    say!(text, "{room} {ended} {gathered} {empty}\n");
 }
 
-impl Shown for TenantItem {
-    fn show(&self, text: &mut String) -> Result<(), AllocError> {
-        write!(text, "{self:?}\n")
-    }
+fn show_both(dispatch: &Dispatch<'_>, item: &TenantItem, text: &mut String) {
+    show(dispatch, text);
+    say!(text, "{item:?}\n");
 }
 
 // Gives all that the hand holds, which is at most three of each item that was gathered.
-fn give_all(text: &mut String, dispatch: &mut Dispatch<'_>) -> Result<(), Elsewhere> {
-    for _ in 0..30 {
-        give(text, dispatch)?;
+fn give_all(log: &mut Log, dispatch: &mut Dispatch<'_>) -> Result<(), Elsewhere> {
+    for _ in 0..50 {
+        give(log, dispatch)?;
     }
     Ok(())
 }
 
-fn give(text: &mut String, dispatch: &mut Dispatch<'_>) -> Result<(), Elsewhere> {
+fn give(log: &mut Log, dispatch: &mut Dispatch<'_>) -> Result<(), Elsewhere> {
     if dispatch.is_out() {
-        text.push_str("unexpected item out\n")?;
-        return Err(Elsewhere);
+        return Err(log.unexpected("item out"));
     }
     if let Some((pipeline, item)) = dispatch.next() {
-        push_item(text, pipeline, &item)?;
+        tell_item(log, pipeline, &item);
     }
     if dispatch.is_out() {
         dispatch.given();
@@ -179,13 +164,9 @@ fn give(text: &mut String, dispatch: &mut Dispatch<'_>) -> Result<(), Elsewhere>
     Ok(())
 }
 
-fn push_item(
-    text: &mut String,
-    pipeline: PipelineId,
-    item: &PipelineItem,
-) -> Result<(), AllocError> {
+fn tell_item(log: &mut Log, pipeline: PipelineId, item: &PipelineItem) {
     match item {
-        PipelineItem::End => write!(text, "{}: end\n", pipeline.0),
-        PipelineItem::Event(stamped) => write!(text, "{}: {:?}\n", pipeline.0, stamped.stamp),
+        PipelineItem::End => say!(log.told, "{}: end\n", pipeline.0),
+        PipelineItem::Event(stamped) => say!(log.told, "{}: {:?}\n", pipeline.0, stamped.stamp),
     }
 }

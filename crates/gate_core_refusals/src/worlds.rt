@@ -1,11 +1,10 @@
 //! Steps of a world, each kind of them, and what it says.
-use crate::configurations::{PLAIN, config_of};
-use crate::faults::Elsewhere;
-use crate::log::Log;
 use crate::played::Played;
+use crate::scripts::script_of;
 use gate_config::Config;
-use gate_core::{Scripted, read_script};
+use gate_core::Scripted;
 use gate_record::Queue;
+use gate_refusing::{Elsewhere, Log, PLAIN, config_of, made};
 use std::alloc::Global;
 
 // Each kind of step, and steps that find nothing to do.
@@ -69,9 +68,12 @@ turn 0 0
 
 pub(crate) fn run(log: &mut Log, alloc: Global) -> Result<(), Elsewhere> {
     let config = config_of(log, alloc, PLAIN)?;
-    let call = "gate_core read_script";
-    let mut script = log.made(call, || read_script(alloc, SCRIPT.as_bytes()))?;
-    play(log, alloc, &config, &mut script)
+    read_and_play(log, alloc, &config)
+}
+
+fn read_and_play(log: &mut Log, alloc: Global, config: &Config) -> Result<(), Elsewhere> {
+    let mut script = script_of(log, alloc, SCRIPT)?;
+    play(log, alloc, config, &mut script)
 }
 
 fn play(
@@ -80,9 +82,17 @@ fn play(
     config: &Config,
     script: &mut Queue<Scripted>,
 ) -> Result<(), Elsewhere> {
-    let mut played = log.made("gate_core World::new", || Played::new(alloc, config))?;
+    let mut played = made!(log, "gate_core World::new", Played::new(alloc, config))?;
+    play_all(log, &mut played, script)
+}
+
+fn play_all(
+    log: &mut Log,
+    played: &mut Played<'_>,
+    script: &mut Queue<Scripted>,
+) -> Result<(), Elsewhere> {
     for _ in 0..script.len() {
-        play_next(log, &mut played, script)?;
+        play_next(log, played, script)?;
     }
     Ok(())
 }

@@ -2,12 +2,10 @@
 ghost use Rattle.std.specs.Prelude.{IfOk};
 ghost use Rattle.gate_run.specs.Ports.{ArePosts};
 
-use crate::commands::{manage_of, result_of};
-use crate::configurations::{WHOLE, config_of};
-use crate::faults::Elsewhere;
-use crate::log::Log;
 use gate_config::Config;
-use gate_record::{Memory, PipelineId, TenantId};
+use gate_items::{JobResult, Key, Manage};
+use gate_record::{ConnId, Memory, PipelineId, TenantId, Text};
+use gate_refusing::{Elsewhere, Log, WHOLE, config_of, made, say};
 use gate_run::{Inbox, Posts};
 use gate_source::StopCause;
 use std::alloc::Global;
@@ -19,12 +17,24 @@ const STOP: &str = "gate_run Posts::stop";
 
 pub(crate) fn run<R: Wait>(rt: &R, log: &mut Log, alloc: Global) -> Result<(), Elsewhere> {
     let config = config_of(log, alloc, WHOLE)?;
+    open_both(rt, log, alloc, &config)
+}
+
+fn open_both<R: Wait>(
+    rt: &R,
+    log: &mut Log,
+    alloc: Global,
+    config: &Config,
+) -> Result<(), Elsewhere> {
+    open_without(log, alloc, config)?;
+    let (mut posts, _inbox) = opened(log, alloc, config)?;
+    post_all(rt, log, alloc, &mut posts)
+}
+
+fn open_without(log: &mut Log, alloc: Global, config: &Config) -> Result<(), Elsewhere> {
     let call = "gate_run Inbox::without_posts";
-    let _unposted = log.made(call, || Inbox::without_posts(alloc, &config))?;
-    let (mut posts, _inbox) = opened(log, alloc, &config)?;
-    post(rt, log, alloc, &mut posts)?;
-    stop(log, &mut posts, StopCause::Caller, StopCause::Port)?;
-    stop(log, &mut posts, StopCause::Port, StopCause::Caller)
+    let _inbox = made!(log, call, Inbox::without_posts(alloc, config))?;
+    Ok(())
 }
 
 /// The posts of a configuration, and their other ends.
@@ -45,16 +55,38 @@ pub(crate) fn opened(
     }
 }
 
+fn post_all<R: Wait>(
+    rt: &R,
+    log: &mut Log,
+    alloc: Global,
+    posts: &mut Posts,
+) -> Result<(), Elsewhere> {
+    post_manage(rt, log, posts, PipelineId(1));
+    post_manage(rt, log, posts, PipelineId(2));
+    post_result(rt, log, alloc, posts)?;
+    stop(log, posts, StopCause::Caller, StopCause::Port)?;
+    stop(log, posts, StopCause::Port, StopCause::Caller)
+}
+
 // To a pipeline that is there, and to one that isn't.
-fn post<R: Wait>(rt: &R, log: &mut Log, alloc: Global, posts: &mut Posts) -> Result<(), Elsewhere> {
-    for pipeline in [1, 2] {
-        let manage = manage_of(alloc, "dequeue 0 0 change 0 7")?;
-        let answer = posts.manage(rt, TenantId(0), PipelineId(pipeline), manage);
-        write!(log.told, "{answer:?}\n")?;
-    }
-    let ended = result_of(alloc, "result 0 0 0 success unit")?;
+fn post_manage<R: Wait>(rt: &R, log: &mut Log, posts: &mut Posts, pipeline: PipelineId) {
+    let conn = ConnId(0);
+    let manage = Manage::Dequeue(Key::Change { conn, number: 7 });
+    let answer = posts.manage(rt, TenantId(0), pipeline, manage);
+    say!(log.told, "{answer:?}\n");
+}
+
+fn post_result<R: Wait>(
+    rt: &R,
+    log: &mut Log,
+    alloc: Global,
+    posts: &mut Posts,
+) -> Result<(), Elsewhere> {
+    let job = Text::copy(alloc, "unit")?;
+    let (set, success) = (0, true);
+    let ended = JobResult { set, job, success };
     let answer = posts.result(rt, TenantId(0), PipelineId(1), ended);
-    write!(log.told, "{answer:?}\n")?;
+    say!(log.told, "{answer:?}\n");
     Ok(())
 }
 
@@ -67,9 +99,10 @@ fn stop(
     other: StopCause,
 ) -> Result<(), Elsewhere> {
     match posts.stop(cause) {
-        Ok(held) => Ok(write!(log.told, "{held:?}\n")?),
-        Err(Memory) => Err(stop_otherwise(log, posts, other)),
+        Ok(held) => say!(log.told, "{held:?}\n"),
+        Err(Memory) => return Err(stop_otherwise(log, posts, other)),
     }
+    Ok(())
 }
 
 fn stop_otherwise(log: &mut Log, posts: &mut Posts, other: StopCause) -> Elsewhere {

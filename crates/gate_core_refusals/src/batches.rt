@@ -1,13 +1,12 @@
 //! Batches of events: their columns, and what pipelines select of them.
-use crate::configurations::{WHOLE, config_of};
-use crate::faults::Elsewhere;
-use crate::log::Log;
-use crate::records::{APPROVED, DELETED, MADE, UPLOADED, event_of};
 use gate_config::Config;
 use gate_intern::{Columns, Field, MAX_ROWS};
 use gate_match::Program;
 use gate_record::{Event, Memory, Shared, TenantId};
-use std::alloc::{AllocError, Global};
+use gate_refusing::{
+    APPROVED, DELETED, Elsewhere, Log, MADE, UPLOADED, WHOLE, config_of, event_of, made, say,
+};
+use std::alloc::Global;
 
 // The events of a batch, and the connection of each.
 const LINES: [&str; 6] = [UPLOADED, APPROVED, DELETED, UPLOADED, MADE, APPROVED];
@@ -16,11 +15,20 @@ const CONNS: [u32; 6] = [0, 0, 0, 1, 0, 1];
 
 pub(crate) fn run(log: &mut Log, alloc: Global) -> Result<(), Elsewhere> {
     let config = config_of(log, alloc, WHOLE)?;
+    match_lines(log, alloc, &config)
+}
+
+fn match_lines(log: &mut Log, alloc: Global, config: &Config) -> Result<(), Elsewhere> {
+    let events = events(alloc)?;
+    match_events(log, alloc, config, events.as_slice())
+}
+
+fn events(alloc: Global) -> Result<Vec<Shared<Event>>, Elsewhere> {
     let mut events = Vec::new(alloc);
     for line in LINES {
         events.push(event_of(alloc, line)?)?;
     }
-    match_events(log, alloc, &config, events.as_slice())
+    Ok(events)
 }
 
 fn match_events(
@@ -30,7 +38,7 @@ fn match_events(
     events: &[Shared<Event>],
 ) -> Result<(), Elsewhere> {
     let call = "gate_match Program::new";
-    let program = log.made(call, || Program::new(alloc, config, TenantId(0)))?;
+    let program = made!(log, call, Program::new(alloc, config, TenantId(0)))?;
     match_twice(log, alloc, &program, events)
 }
 
@@ -51,8 +59,7 @@ fn match_batch(
     program: &Program<'_>,
     events: &[Shared<Event>],
 ) -> Result<(), Elsewhere> {
-    let columns = log.made("gate_intern Columns::build", || build(alloc, events))?;
-    push_columns(&mut log.told, &columns)?;
+    let columns = made!(log, "gate_intern Columns::build", build(alloc, events))?;
     select_rows(log, alloc, program, &columns)
 }
 
@@ -69,12 +76,17 @@ fn select_rows(
     program: &Program<'_>,
     columns: &Columns<'_>,
 ) -> Result<(), Elsewhere> {
+    show_columns(columns, &mut log.told);
     let call = "gate_match Program::select";
-    let masks = log.made(call, || select(alloc, program, columns))?;
-    for mask in &masks {
-        write!(log.told, "{mask:?}\n")?;
-    }
+    let masks = made!(log, call, select(alloc, program, columns))?;
+    tell_masks(log, masks.as_slice());
     Ok(())
+}
+
+fn tell_masks(log: &mut Log, masks: &[Vec<u32>]) {
+    for mask in masks {
+        say!(log.told, "{mask:?}\n");
+    }
 }
 
 fn select(
@@ -89,27 +101,19 @@ fn select(
     program.select(alloc, columns, conns)
 }
 
-fn push_columns(text: &mut String, columns: &Columns<'_>) -> Result<(), AllocError> {
+fn show_columns(columns: &Columns<'_>, text: &mut String) {
     for field in [Field::Kind, Field::Project, Field::Branch, Field::Refname] {
-        push_column(text, columns, field)?;
+        show_column(columns, field, text);
     }
     for field in [Field::Username, Field::Email, Field::Comment] {
-        push_column(text, columns, field)?;
+        show_column(columns, field, text);
     }
-    write!(
-        text,
-        "{:?} {:?}\n",
-        columns.approvals(),
-        columns.approval_cells()
-    )?;
-    write!(text, "{:?}\n", columns.deletes())
+    let (approvals, cells) = (columns.approvals(), columns.approval_cells());
+    say!(text, "{approvals:?} {cells:?}\n");
+    say!(text, "{:?}\n", columns.deletes());
 }
 
-fn push_column(text: &mut String, columns: &Columns<'_>, field: Field) -> Result<(), AllocError> {
-    write!(
-        text,
-        "{:?} {:?}\n",
-        columns.texts(field),
-        columns.column(field)
-    )
+fn show_column(columns: &Columns<'_>, field: Field, text: &mut String) {
+    let (texts, column) = (columns.texts(field), columns.column(field));
+    say!(text, "{texts:?} {column:?}\n");
 }

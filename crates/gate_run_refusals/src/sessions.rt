@@ -2,12 +2,10 @@
 ghost use Rattle.std.specs.Prelude.{◌≡◌};
 ghost use Rattle.gate_status.specs.Replies.{ArePostsFor};
 
-use crate::configurations::{WHOLE, config_of};
-use crate::faults::Elsewhere;
-use crate::log::Log;
 use crate::posts::opened;
 use gate_config::Config;
 use gate_record::{PipelineId, TenantId};
+use gate_refusing::{Elsewhere, Log, WHOLE, config_of, made, say};
 use gate_run::Posts;
 use gate_status::{Board, Counted, Progress, SessionEnd, SessionFault, session, status_text};
 use std::alloc::Global;
@@ -33,10 +31,15 @@ const LINES: [&str; 8] = [
 pub(crate) fn run<R: AllocGlobal + Wait>(rt: &R, log: &mut Log) -> Result<(), Elsewhere> {
     let alloc = rt.alloc();
     let config = config_of(log, alloc, WHOLE)?;
-    let mut board = log.made("gate_status Board::new", || Board::new(alloc, &config))?;
-    board.set(TenantId(0), PipelineId(1), far());
+    let board = board_of(log, alloc, &config)?;
     tell_status(log, alloc, &config, &board)?;
     talk_all(rt, log, &config, &Mutex::new(board))
+}
+
+fn board_of(log: &mut Log, alloc: Global, config: &Config) -> Result<Board, Elsewhere> {
+    let mut board = made!(log, "gate_status Board::new", Board::new(alloc, config))?;
+    board.set(TenantId(0), PipelineId(1), far());
+    Ok(board)
 }
 
 fn far() -> Progress {
@@ -54,11 +57,10 @@ fn tell_status(
     config: &Config,
     board: &Board,
 ) -> Result<(), Elsewhere> {
-    let text = log.made(
-        "gate_status status_text",
-        || status_text(alloc, config, board),
-    )?;
-    Ok(log.told.push_str(text.as_str())?)
+    let call = "gate_status status_text";
+    let text = made!(log, call, status_text(alloc, config, board))?;
+    say!(log.told, "{text}");
+    Ok(())
 }
 
 fn talk_all<R: AllocGlobal + Wait>(
@@ -133,6 +135,6 @@ fn tell_written(log: &mut Log, written: &str, end: SessionEnd) -> Result<bool, E
     if written == "memory\n" {
         return Ok(tell_fault(log));
     }
-    write!(log.told, "{written}{end:?}\n")?;
+    say!(log.told, "{written}{end:?}\n");
     Ok(true)
 }

@@ -1,10 +1,11 @@
 //! Scripts, read and played as a whole.
-use crate::configurations::{PLAIN, config_of};
-use crate::faults::Elsewhere;
-use crate::log::Log;
 use gate_config::Config;
-use gate_core::{Scripted, Step, Transcript, play, read_script, replay, run as run_steps};
+use gate_core::{
+    ReplayFault, ScriptFault, Scripted, Step, Transcript, play, read_script, replay,
+    run as run_steps,
+};
 use gate_record::{Memory, Queue};
+use gate_refusing::{Elsewhere, Log, PLAIN, config_of, made, say};
 use std::alloc::Global;
 
 const SCRIPT: &str = r#"
@@ -39,47 +40,84 @@ const NO_CONFIGURATION: [&str; 2] = ["{", r#"{"tenants":5,"config":{}}"#];
 
 const REPLAY: &str = "gate_core replay";
 
+const READ: &str = "gate_core read_script";
+
 const PLAY: &str = "gate_core play";
 
 pub(crate) fn run(log: &mut Log, alloc: Global) -> Result<(), Elsewhere> {
-    replay_one(log, alloc, PLAIN, SCRIPT)?;
+    replay_one(log, alloc, PLAIN, SCRIPT);
     for script in FAULTY {
-        replay_one(log, alloc, PLAIN, script)?;
-        read_faulty(log, alloc, script)?;
+        replay_one(log, alloc, PLAIN, script);
+        read_faulty(log, alloc, script);
     }
     for document in NO_CONFIGURATION {
-        replay_one(log, alloc, document, SCRIPT)?;
+        replay_one(log, alloc, document, SCRIPT);
     }
     let config = config_of(log, alloc, PLAIN)?;
     run_both(log, alloc, &config)
 }
 
-fn replay_one(log: &mut Log, alloc: Global, document: &str, script: &str) -> Result<(), Elsewhere> {
-    let (document, script) = (document.as_bytes(), script.as_bytes());
-    match log.made(REPLAY, || replay(alloc, document, script)) {
-        Ok(text) => Ok(log.told.push_str(text.as_str())?),
-        Err(fault) => Ok(write!(log.told, "{fault}\n")?),
+fn replay_one(log: &mut Log, alloc: Global, document: &str, script: &str) {
+    let (config, script) = (document.as_bytes(), script.as_bytes());
+    match made!(
+        log,
+        REPLAY,
+        ReplayFault::Memory,
+        replay(alloc, config, script)
+    ) {
+        Ok(text) => say!(log.told, "{text}"),
+        Err(fault) => say!(log.told, "{fault}\n"),
     }
 }
 
-fn read_faulty(log: &mut Log, alloc: Global, script: &str) -> Result<(), Elsewhere> {
-    let call = "gate_core read_script";
-    match log.made(call, || read_script(alloc, script.as_bytes())) {
-        Ok(steps) => Ok(write!(log.told, "{}\n", steps.len())?),
-        Err(fault) => Ok(write!(log.told, "{fault}\n")?),
+fn read_faulty(log: &mut Log, alloc: Global, script: &str) {
+    match read_twice(log, alloc, script) {
+        Ok(steps) => say!(log.told, "{}\n", steps.len()),
+        Err(fault) => say!(log.told, "{fault}\n"),
+    }
+}
+
+fn read_twice(log: &mut Log, alloc: Global, script: &str) -> Result<Queue<Scripted>, ScriptFault> {
+    let script = script.as_bytes();
+    made!(log, READ, ScriptFault::Memory, read_script(alloc, script))
+}
+
+/// The lines of a script, which a text has to be.
+pub(crate) fn script_of(
+    log: &mut Log,
+    alloc: Global,
+    script: &str,
+) -> Result<Queue<Scripted>, Elsewhere> {
+    match read_twice(log, alloc, script) {
+        Ok(lines) => Ok(lines),
+        Err(ScriptFault::Memory) => Err(Elsewhere),
+        Err(ScriptFault::Script(_)) => Err(log.unexpected("fault of a script")),
     }
 }
 
 // The same steps by `run`, which is given a list, and by `play`, which takes a queue over.
 fn run_both(log: &mut Log, alloc: Global, config: &Config) -> Result<(), Elsewhere> {
+    let lines = script_of(log, alloc, SCRIPT)?;
+    let steps = steps_of(alloc, lines)?;
+    run_and_play(log, alloc, config, steps.as_slice())
+}
+
+fn run_and_play(
+    log: &mut Log,
+    alloc: Global,
+    config: &Config,
+    steps: &[Step],
+) -> Result<(), Elsewhere> {
+    run_all(log, alloc, config, steps)?;
+    play_all(log, alloc, config, steps)
+}
+
+fn steps_of(alloc: Global, mut lines: Queue<Scripted>) -> Result<Vec<Step>, Elsewhere> {
     let mut steps = Vec::new(alloc);
-    let call = "gate_core read_script";
-    let mut script = log.made(call, || read_script(alloc, SCRIPT.as_bytes()))?;
-    for _ in 0..script.len() {
-        push_step(&mut steps, script.pop())?;
+    for _ in 0..lines.len() {
+        push_step(&mut steps, lines.pop())?;
     }
-    run_all(log, alloc, config, steps.as_slice())?;
-    play_all(log, alloc, config, steps.as_slice())
+    Ok(steps)
 }
 
 fn push_step(steps: &mut Vec<Step>, line: Option<Scripted>) -> Result<(), Elsewhere> {
@@ -90,7 +128,7 @@ fn push_step(steps: &mut Vec<Step>, line: Option<Scripted>) -> Result<(), Elsewh
 }
 
 fn run_all(log: &mut Log, alloc: Global, config: &Config, steps: &[Step]) -> Result<(), Elsewhere> {
-    let transcript = log.made("gate_core run", || run_steps(alloc, config, steps))?;
+    let transcript = made!(log, "gate_core run", run_steps(alloc, config, steps))?;
     tell(log, &transcript)
 }
 
@@ -121,9 +159,9 @@ fn queue_of(alloc: Global, steps: &[Step]) -> Result<Queue<Step>, Elsewhere> {
 
 fn tell(log: &mut Log, transcript: &Transcript<'_>) -> Result<(), Elsewhere> {
     for answer in transcript.answers.as_slice() {
-        write!(log.told, "{answer:?}\n")?;
+        say!(log.told, "{answer:?}\n");
     }
     let report = transcript.world.report()?;
-    write!(log.told, "{report:?}\n")?;
+    say!(log.told, "{report:?}\n");
     Ok(())
 }

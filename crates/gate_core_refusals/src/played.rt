@@ -1,13 +1,11 @@
 //! A world that takes one step after another.
 ghost use Rattle.gate_core.specs.Worlds.{AcceptedAtMost, state_of};
 
-use crate::faults::Elsewhere;
-use crate::log::Log;
-use crate::shown::Shown;
 use gate_config::Config;
 use gate_core::{Answer, RunReport, Step, World, report_text, show_text};
 use gate_record::{Memory, PipelineId, TenantId};
-use std::alloc::{AllocError, Global};
+use gate_refusing::{Elsewhere, Log, made, say};
+use std::alloc::Global;
 
 const CALL: &str = "gate_core World::step";
 
@@ -37,13 +35,13 @@ impl<'c> Played<'c> {
     /// Takes a step, and once more where memory is refused to it; then tells what it answers, and what the world says.
     pub(crate) fn take(&mut self, log: &mut Log, step: Step) -> Result<(), Elsewhere> {
         let alloc = self.alloc;
-        let again = log.made("gate_core Step::copy", || step.copy(alloc))?;
-        log.see_before(self)?;
+        let again = made!(log, "gate_core Step::copy", step.copy(alloc))?;
+        self.show(log.before())?;
         match self.step(step) {
             Ok(answer) => return self.tell(log, &answer),
-            Err(Memory) => log.tell_refused(CALL),
+            Err(Memory) => self.show(log.after(CALL))?,
         }
-        log.see_after(CALL, self)?;
+        log.compare(CALL);
         match self.step(again) {
             Ok(answer) => self.tell(log, &answer),
             Err(Memory) => Err(log.tell_twice(CALL)),
@@ -60,10 +58,17 @@ impl<'c> Played<'c> {
     }
 
     fn tell(&self, log: &mut Log, answer: &Answer) -> Result<(), Elsewhere> {
-        write!(log.told, "{answer:?}\n")?;
+        say!(log.told, "{answer:?}\n");
         tell_report(log, self.alloc, self.config, &self.world)?;
         tell_items(log, self.alloc, &self.world, PipelineId(0))?;
         tell_items(log, self.alloc, &self.world, PipelineId(1))
+    }
+
+    // Adds what the world says: its report, and the items of both pipelines.
+    fn show(&self, text: &mut String) -> Result<(), Memory> {
+        show_report(text, &self.world)?;
+        show_items(text, self.alloc, &self.world, PipelineId(0))?;
+        show_items(text, self.alloc, &self.world, PipelineId(1))
     }
 }
 
@@ -73,7 +78,7 @@ fn tell_report(
     config: &Config,
     world: &World<'_>,
 ) -> Result<(), Elsewhere> {
-    let report = log.made("gate_core World::report", || world.report())?;
+    let report = made!(log, "gate_core World::report", world.report())?;
     tell_text(log, alloc, config, &report)
 }
 
@@ -83,11 +88,10 @@ fn tell_text(
     config: &Config,
     report: &RunReport,
 ) -> Result<(), Elsewhere> {
-    let text = log.made(
-        "gate_core report_text",
-        || report_text(alloc, config, report),
-    )?;
-    Ok(log.told.push_str(text.as_str())?)
+    let call = "gate_core report_text";
+    let text = made!(log, call, report_text(alloc, config, report))?;
+    say!(log.told, "{text}");
+    Ok(())
 }
 
 fn tell_items(
@@ -97,32 +101,24 @@ fn tell_items(
     pipeline: PipelineId,
 ) -> Result<(), Elsewhere> {
     let call = "gate_core show_text";
-    let text = log.made(call, || show_text(alloc, world, TenantId(0), pipeline))?;
-    Ok(log.told.push_str(text.as_str())?)
+    let text = made!(log, call, show_text(alloc, world, TenantId(0), pipeline))?;
+    say!(log.told, "{text}");
+    Ok(())
 }
 
-// What the world says: its report, and the items of both pipelines.
-impl<'c> Shown for Played<'c> {
-    fn show(&self, text: &mut String) -> Result<(), AllocError> {
-        match push_world(text, self.alloc, &self.world) {
-            Ok(()) => Ok(()),
-            Err(Memory) => Err(AllocError),
-        }
-    }
+fn show_report(text: &mut String, world: &World<'_>) -> Result<(), Memory> {
+    let report = world.report()?;
+    say!(text, "{report:?}\n");
+    Ok(())
 }
 
-fn push_world(text: &mut String, alloc: Global, world: &World<'_>) -> Result<(), Memory> {
-    write!(text, "{:?}\n", world.report()?)?;
-    push_items(text, alloc, world, PipelineId(0))?;
-    push_items(text, alloc, world, PipelineId(1))
-}
-
-fn push_items(
+fn show_items(
     text: &mut String,
     alloc: Global,
     world: &World<'_>,
     pipeline: PipelineId,
 ) -> Result<(), Memory> {
     let items = show_text(alloc, world, TenantId(0), pipeline)?;
-    Ok(text.push_str(items.as_str())?)
+    say!(text, "{items}");
+    Ok(())
 }

@@ -2,39 +2,31 @@
 ghost use Rattle.std.specs.Prelude.{◌≡◌};
 ghost use Rattle.gate_pipeline.specs.States.{asked, next_of};
 
-use crate::commands::{manage_of, result_of};
-use crate::configurations::{PLAIN, config_of};
-use crate::faults::Elsewhere;
-use crate::log::Log;
-use crate::records::{APPROVED, MADE, UPLOADED, event_of};
-use crate::shown::Shown;
 use gate_config::Config;
+use gate_items::{JobResult, Key, Manage};
 use gate_pipeline::{Pipeline, Processed, Taken, Which};
-use gate_record::{ConnId, Memory, PipelineId, PipelineItem, Stamp, Stamped, TenantId};
-use std::alloc::{AllocError, Global};
+use gate_record::{ConnId, Memory, PipelineId, PipelineItem, Stamp, Stamped, TenantId, Text};
+use gate_refusing::{
+    APPROVED, Elsewhere, Log, MADE, PLAIN, UPLOADED, config_of, event_of, say, show_items,
+};
+use std::alloc::Global;
 
 const CALL: &str = "gate_pipeline Pipeline::took";
 
 // What is in the three queues, a line each; a line of a queue that the worker doesn't want yet waits until it has found those before
 // it empty.
 const SCRIPT: [&str; 9] = [
-    "upload",
-    "approve",
-    "make",
-    "reset 0 0 change 0 7",
-    "result 0 0 0 success unit",
-    "result 0 0 1 success unit",
-    "dequeue 0 0 change 0 7",
-    "approve",
-    "end",
+    "upload", "approve", "make", "reset", "result 0", "result 1", "dequeue", "approve", "end",
 ];
 
 pub(crate) fn run(log: &mut Log, alloc: Global) -> Result<(), Elsewhere> {
     let config = config_of(log, alloc, PLAIN)?;
-    for pipeline in 0..2 {
-        play(log, alloc, &config, PipelineId(pipeline))?;
-    }
-    Ok(())
+    play_both(log, alloc, &config)
+}
+
+fn play_both(log: &mut Log, alloc: Global, config: &Config) -> Result<(), Elsewhere> {
+    play(log, alloc, config, PipelineId(0))?;
+    play(log, alloc, config, PipelineId(1))
 }
 
 fn play(
@@ -53,10 +45,10 @@ fn play(
 
 // The queue of a line.
 fn wanted_for(line: &str) -> Which {
-    match line.split_once(' ') {
-        Some(("result", _)) => Which::Result,
-        Some(_) => Which::Management,
-        None => Which::Trigger,
+    match line {
+        "result 0" | "result 1" => Which::Result,
+        "reset" | "dequeue" => Which::Management,
+        _ => Which::Trigger,
     }
 }
 
@@ -87,11 +79,31 @@ fn play_line(
     line: &str,
 ) -> Result<(), Elsewhere> {
     match worker.wants() {
-        Which::Management => { take(log, config, worker, Taken::Manage(manage_of(alloc, line)?)) }
+        Which::Management => take(log, config, worker, Taken::Manage(manage_of(line))),
         Which::Result => take(log, config, worker, Taken::Result(result_of(alloc, line)?)),
         Which::Trigger => take(log, config, worker, Taken::Trigger(item_of(alloc, line)?)),
         _ => Err(log.unexpected("worker that takes nothing")),
     }
+}
+
+// Of the change that `upload` brought.
+fn manage_of(word: &str) -> Manage {
+    let conn = ConnId(0);
+    let key = Key::Change { conn, number: 7 };
+    match word {
+        "reset" => Manage::Reset(key),
+        _ => Manage::Dequeue(key),
+    }
+}
+
+fn result_of(alloc: Global, words: &str) -> Result<JobResult, Elsewhere> {
+    let job = Text::copy(alloc, "unit")?;
+    let set = if words == "result 0" { 0 } else { 1 };
+    Ok(JobResult {
+        set,
+        job,
+        success: true,
+    })
 }
 
 // The event of a word with its stamp, or the end mark.
@@ -120,16 +132,16 @@ fn take(
 ) -> Result<(), Elsewhere>
     requires asked { next_of worker.old ≡ asked given }
 {
-    log.see_before(worker)?;
+    show(worker, log.before());
     match worker.took(config, given) {
-        Ok(processed) => push_processed(log, worker, &processed),
+        Ok(processed) => tell_processed(log, worker, &processed),
         Err(Memory) => take_again(log, config, worker),
     }
 }
 
 fn take_again(log: &mut Log, config: &Config, worker: &mut Pipeline) -> Result<(), Elsewhere> {
-    log.tell_refused(CALL);
-    log.see_after(CALL, worker)?;
+    show(worker, log.after(CALL));
+    log.compare(CALL);
     match worker.wants() {
         Which::Held => take_held(log, config, worker),
         _ => Err(log.unexpected("worker that doesn't hold what was refused")),
@@ -140,24 +152,23 @@ fn take_held(log: &mut Log, config: &Config, worker: &mut Pipeline) -> Result<()
     requires asked { next_of worker.old ≡ asked Taken.Again }
 {
     match worker.took(config, Taken::Again) {
-        Ok(processed) => push_processed(log, worker, &processed),
+        Ok(processed) => tell_processed(log, worker, &processed),
         Err(Memory) => Err(log.tell_twice(CALL)),
     }
 }
 
-fn push_processed(
+fn tell_processed(
     log: &mut Log,
     worker: &Pipeline,
     processed: &Option<Processed>,
 ) -> Result<(), Elsewhere> {
-    write!(log.told, "{processed:?} {:?}\n", worker.wants())?;
-    Ok(worker.show(&mut log.told)?)
+    say!(log.told, "{processed:?} {:?}\n", worker.wants());
+    show(worker, &mut log.told);
+    Ok(())
 }
 
 // What it has processed, and its items; not what it wants, since it may hold something.
-impl Shown for Pipeline {
-    fn show(&self, text: &mut String) -> Result<(), AllocError> {
-        write!(text, "{:?} {}\n", self.done(), self.finished())?;
-        self.state().show(text)
-    }
+fn show(worker: &Pipeline, text: &mut String) {
+    say!(text, "{:?} {}\n", worker.done(), worker.finished());
+    show_items(worker.state(), text);
 }

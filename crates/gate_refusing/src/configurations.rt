@@ -1,0 +1,44 @@
+//! Configurations that scenarios begin with.
+use crate::elsewhere::Elsewhere;
+use crate::log::Log;
+use crate::made;
+use gate_config::{Config, ConfigFault, read_config};
+use std::alloc::Global;
+
+/// Two connections; a tenant with an independent and a dependent pipeline, whose rules have each attribute, and one without
+/// connections.
+pub const WHOLE: &str = r#"{"tenants":[{"tenant":{"name":"main","source":{
+    "gerrit":{"config-projects":["infra"],"untrusted-projects":["demo",{"docs":{"include":[]}},{"projects":["a","b"]}]},
+    "review":{"untrusted-projects":["demo"]}}}},{"name":"idle","source":{}}],
+"config":{"main":[
+    {"pipeline":{"name":"check","manager":"independent","trigger":{
+        "gerrit":[
+            {"event":["patchset-created","comment-added"],"branch":["^mas","stable"],"username":"n$","email":"@example"},
+            {"event":"comment-added","comment":"(?m)^recheck$"},
+            {"event":"ref-updated","ref":["^refs/tags/","heads"],"ignore-deletes":false}],
+        "review":{"event":"patchset-created"}}}},
+    {"pipeline":{"name":"gate","manager":"dependent","trigger":{
+        "gerrit":[{"event":"comment-added","approval":[{"Code-Review":2},{"verified":-1}]},{"event":"patchset-created"}]}}},
+    {"project":{"name":"demo","check":{"jobs":["unit",{"lint":{"voting":false}}]},"gate":{"jobs":["unit"]}}},
+    {"job":{"name":"unit"}},
+    {"project":{"name":"docs","check":{"jobs":["render"]}}}],
+"idle":[{"pipeline":{"name":"check","manager":"independent"}}]}}"#;
+
+/// The same trigger in each of two connections, and two pipelines that have one job each of the project `demo`.
+pub const PLAIN: &str =
+    r#"{"tenants":[{"name":"main","source":{"gerrit":{"untrusted-projects":["demo"]},"review":{"untrusted-projects":["demo"]}}}],"config":{"main":[{"pipeline":{"name":"check","manager":"independent","trigger":{"gerrit":[{"event":"."}],"review":[{"event":"."}]}}},{"pipeline":{"name":"gate","manager":"dependent","trigger":{"gerrit":[{"event":"."}]}}},{"project":{"name":"demo","check":{"jobs":["unit","lint"]},"gate":{"jobs":["unit"]}}}]}}"#;
+
+/// Reads a document, and once more where memory is refused.
+pub fn read_twice(log: &mut Log, alloc: Global, document: &str) -> Result<Config, ConfigFault> {
+    let (call, document) = ("gate_config read_config", document.as_bytes());
+    made!(log, call, ConfigFault::Memory, read_config(alloc, document))
+}
+
+/// A configuration, which a document has to be.
+pub fn config_of(log: &mut Log, alloc: Global, document: &str) -> Result<Config, Elsewhere> {
+    match read_twice(log, alloc, document) {
+        Ok(config) => Ok(config),
+        Err(ConfigFault::Memory) => Err(Elsewhere),
+        Err(_) => Err(log.unexpected("fault of a configuration")),
+    }
+}
