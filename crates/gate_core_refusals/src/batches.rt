@@ -13,6 +13,16 @@ const LINES: [&str; 6] = [UPLOADED, APPROVED, DELETED, UPLOADED, MADE, APPROVED]
 
 const CONNS: [u32; 6] = [0, 0, 0, 1, 0, 1];
 
+const FIELDS: [Field; 7] = [
+    Field::Kind,
+    Field::Project,
+    Field::Branch,
+    Field::Refname,
+    Field::Username,
+    Field::Email,
+    Field::Comment,
+];
+
 pub(crate) fn run(log: &mut Log, alloc: Global) -> Result<(), Elsewhere> {
     let config = config_of(log, alloc, WHOLE)?;
     match_lines(log, alloc, &config)
@@ -102,10 +112,7 @@ fn select(
 }
 
 fn show_columns(columns: &Columns<'_>, text: &mut String) {
-    for field in [Field::Kind, Field::Project, Field::Branch, Field::Refname] {
-        show_column(columns, field, text);
-    }
-    for field in [Field::Username, Field::Email, Field::Comment] {
+    for field in FIELDS {
         show_column(columns, field, text);
     }
     let (approvals, cells) = (columns.approvals(), columns.approval_cells());

@@ -15,19 +15,31 @@ pub(crate) fn run(log: &mut Log, alloc: Global) -> Result<(), Elsewhere> {
 }
 
 fn dispatch_both(log: &mut Log, alloc: Global, config: &Config) -> Result<(), Elsewhere> {
-    begin_with_marks(log, alloc, config)?;
-    dispatch_all(log, alloc, config)
+    dispatch_for(log, alloc, config, TenantId(1))?;
+    dispatch_for(log, alloc, config, TenantId(0))
 }
 
-// A tenant without connections begins with the end marks of its pipelines in the hand.
-fn begin_with_marks(log: &mut Log, alloc: Global, config: &Config) -> Result<(), Elsewhere> {
-    let mut dispatch = made!(log, NEW, Dispatch::new(alloc, config, TenantId(1)))?;
-    give_all(log, &mut dispatch)
+fn dispatch_for(
+    log: &mut Log,
+    alloc: Global,
+    config: &Config,
+    tenant: TenantId,
+) -> Result<(), Elsewhere> {
+    let mut dispatch = made!(log, NEW, Dispatch::new(alloc, config, tenant))?;
+    dispatch_all(log, alloc, &mut dispatch, tenant)
 }
 
-fn dispatch_all(log: &mut Log, alloc: Global, config: &Config) -> Result<(), Elsewhere> {
-    let mut dispatch = made!(log, NEW, Dispatch::new(alloc, config, TenantId(0)))?;
-    dispatch_two(log, alloc, &mut dispatch)
+// A tenant without connections, the second one, begins with the end marks of its pipelines in the hand.
+fn dispatch_all(
+    log: &mut Log,
+    alloc: Global,
+    dispatch: &mut Dispatch<'_>,
+    tenant: TenantId,
+) -> Result<(), Elsewhere> {
+    match tenant.0 {
+        1 => give_all(log, dispatch),
+        _ => dispatch_two(log, alloc, dispatch),
+    }
 }
 
 // Two batches: the second has room that was made before, for more than the first has left.
@@ -38,12 +50,20 @@ fn dispatch_two(
 ) -> Result<(), Elsewhere> {
     gather_events(log, alloc, dispatch)?;
     match_and_give(log, alloc, dispatch)?;
-    let call = "gate_tenant Dispatch::make_room";
-    kept!(log, call, show(dispatch), make_room(dispatch))?;
-    gather_with_room(log, alloc, dispatch)?;
-    gather_with_room(log, alloc, dispatch)?;
-    gather_marks(log, dispatch)?;
+    gather_more(log, alloc, dispatch)?;
     match_and_give(log, alloc, dispatch)
+}
+
+fn gather_more(log: &mut Log, alloc: Global, dispatch: &mut Dispatch<'_>) -> Result<(), Elsewhere> {
+    open_room(log, dispatch)?;
+    gather_with_room(log, alloc, dispatch)?;
+    gather_with_room(log, alloc, dispatch)?;
+    gather_marks(log, dispatch)
+}
+
+fn open_room(log: &mut Log, dispatch: &mut Dispatch<'_>) -> Result<(), Elsewhere> {
+    let call = "gate_tenant Dispatch::make_room";
+    kept!(log, call, show(dispatch), make_room(dispatch))
 }
 
 fn gather_events(
@@ -155,13 +175,17 @@ fn give(log: &mut Log, dispatch: &mut Dispatch<'_>) -> Result<(), Elsewhere> {
     if dispatch.is_out() {
         return Err(log.unexpected("item out"));
     }
-    if let Some((pipeline, item)) = dispatch.next() {
-        tell_item(log, pipeline, &item);
-    }
+    tell_given(log, dispatch.next());
     if dispatch.is_out() {
         dispatch.given();
     }
     Ok(())
+}
+
+fn tell_given(log: &mut Log, given: Option<(PipelineId, PipelineItem)>) {
+    if let Some((pipeline, item)) = given {
+        tell_item(log, pipeline, &item);
+    }
 }
 
 fn tell_item(log: &mut Log, pipeline: PipelineId, item: &PipelineItem) {

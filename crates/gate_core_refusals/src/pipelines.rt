@@ -36,9 +36,18 @@ fn play(
     pipeline: PipelineId,
 ) -> Result<(), Elsewhere> {
     let mut worker = Pipeline::new(alloc, config, TenantId(0), pipeline);
+    play_all(log, alloc, config, &mut worker)
+}
+
+fn play_all(
+    log: &mut Log,
+    alloc: Global,
+    config: &Config,
+    worker: &mut Pipeline,
+) -> Result<(), Elsewhere> {
     for line in SCRIPT {
-        turn_to(log, &mut worker, wanted_for(line))?;
-        play_line(log, alloc, config, &mut worker, line)?;
+        turn_to(log, worker, wanted_for(line))?;
+        play_line(log, alloc, config, worker, line)?;
     }
     Ok(())
 }

@@ -34,15 +34,27 @@ impl<'c> Played<'c> {
 
     /// Takes a step, and once more where memory is refused to it; then tells what it answers, and what the world says.
     pub(crate) fn take(&mut self, log: &mut Log, step: Step) -> Result<(), Elsewhere> {
+        let again = self.prepare(log, &step)?;
+        match self.step(step) {
+            Ok(answer) => self.tell(log, &answer),
+            Err(Memory) => self.take_again(log, again),
+        }
+    }
+
+    // Copies the step, and looks at what the world says.
+    fn prepare(&self, log: &mut Log, step: &Step) -> Result<Step, Elsewhere> {
         let alloc = self.alloc;
         let again = made!(log, "gate_core Step::copy", step.copy(alloc))?;
-        self.show(log.before())?;
-        match self.step(step) {
-            Ok(answer) => return self.tell(log, &answer),
-            Err(Memory) => self.show(log.after(CALL))?,
+        match self.show(log.before()) {
+            Ok(()) => Ok(again),
+            Err(Memory) => Err(Elsewhere),
         }
+    }
+
+    fn take_again(&mut self, log: &mut Log, step: Step) -> Result<(), Elsewhere> {
+        self.show(log.after(CALL))?;
         log.compare(CALL);
-        match self.step(again) {
+        match self.step(step) {
             Ok(answer) => self.tell(log, &answer),
             Err(Memory) => Err(log.tell_twice(CALL)),
         }
