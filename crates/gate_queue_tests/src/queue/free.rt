@@ -1,0 +1,246 @@
+//! The queue without a bound.
+ghost use Rattle.std.specs.Prelude.{◌+◌, ◌<◌, ◌≤◌, vec_len};
+ghost use Rattle.gate_queue.specs.Seats.{IsHeadOf, IsTailOf, AreAllTailsOf};
+
+use gate_queue::{FreeHead, FreeQueue, FreeTail, Memory, Tagged, open_free};
+use std::alloc::{AllocError, Global};
+use std::process::Abort;
+use std::sync::Wait;
+use std::test::Fail;
+use std::thread::Threads;
+use std::thread;
+
+// The sender with this number puts a value, unless there is no memory for it.
+fn put<R: Wait>(
+    rt: &R,
+    queue: &FreeQueue<char>,
+    tails: &mut Vec<FreeTail<char>>,
+    sender: usize,
+    value: char,
+) -> Result<(), Fail>
+    requires { AreAllTailsOf queue.now tails.old.items × (sender < queue.now.name.senders) }
+    ensures { AreAllTailsOf queue.now tails.new.items }
+{
+    match queue.put(rt, &mut tails[sender], value) {
+        Ok(()) => Ok(()),
+        Err(Memory(_)) => Err(Fail::from("memory")),
+    }
+}
+
+fn take<R: Wait + Abort>(
+    rt: &R,
+    queue: &FreeQueue<char>,
+    head: &mut FreeHead<char>,
+    sender: usize,
+    value: char,
+)
+    requires { IsHeadOf queue.now head.old }
+    ensures { IsHeadOf queue.now head.new }
+{
+    assert!(rt;
+        queue.take(rt, head) == Some(tagged(sender, value)),
+        "{value}"
+    );
+}
+
+fn tagged(sender: usize, value: char) -> Tagged<char> {
+    Tagged { sender, value }
+}
+
+// Adds a batch of at most `k` values to those that were gathered.
+fn add_batch<T: Drop, R: Wait>(
+    rt: &R,
+    queue: &FreeQueue<T>,
+    head: &mut FreeHead<T>,
+    gathered: &mut Vec<Tagged<T>>,
+    k: usize,
+) -> Result<(), AllocError>
+    requires { IsHeadOf queue.now head.old }
+    ensures seat { IsHeadOf queue.now head.new }
+    ensures few { vec_len gathered.new ≤ vec_len gathered.old + k }
+{
+    for item in queue.take_some(rt, head, k) {
+        gathered.push(item).ok().ok_or(AllocError)?;
+    }
+    Ok(())
+}
+
+// The values of batches of at most `k`, until so many came, by at most so many calls.
+fn gather<T: Drop, R: Wait>(
+    rt: &R,
+    alloc: Global,
+    queue: &FreeQueue<T>,
+    head: &mut FreeHead<T>,
+    k: usize,
+    count: usize,
+    calls: u64,
+) -> Result<Vec<Tagged<T>>, AllocError>
+    requires { IsHeadOf queue.now head.old }
+    ensures { IsHeadOf queue.now head.new }
+{
+    let mut gathered = Vec::new(alloc);
+    for _call in 0..calls {
+        if gathered.len() >= count {
+            break;
+        }
+        add_batch(rt, queue, head, &mut gathered, k)?;
+    }
+    Ok(gathered)
+}
+
+// What waits in the end. Where memory is refused, everything comes back, and a second call gives it.
+fn rest_of<T: Drop, R: Wait>(
+    rt: &R,
+    queue: FreeQueue<T>,
+    tails: Vec<FreeTail<T>>,
+    head: FreeHead<T>,
+) -> Result<Vec<Tagged<T>>, Fail>
+    requires tails { AreAllTailsOf queue tails.items }
+    requires head { IsHeadOf queue head }
+{
+    match queue.settle(rt, tails, head) {
+        Ok(rest) => Ok(rest),
+        Err(back) => match back.queue.settle(rt, back.tails, back.head) {
+            Ok(rest) => Ok(rest),
+            Err(_) => Err(Fail::from("memory")),
+        },
+    }
+}
+
+// Sees what waits in the end.
+fn leave<R: Wait + Abort>(
+    rt: &R,
+    queue: FreeQueue<char>,
+    tails: Vec<FreeTail<char>>,
+    head: FreeHead<char>,
+    waits: &[Tagged<char>],
+) -> Result<(), Fail>
+    requires tails { AreAllTailsOf queue tails.items }
+    requires head { IsHeadOf queue head }
+{
+    let rest = rest_of(rt, queue, tails, head)?;
+    assert!(rt; rest.as_slice() == waits);
+    Ok(())
+}
+
+#[test]
+fn refuses_too_many_senders(rt: HostRuntime) {
+    assert!(rt; open_free::<char>(rt.alloc(), usize::MAX).err() == Some(AllocError));
+}
+
+#[test]
+fn batches_then_one(rt: HostRuntime) -> Result<(), Fail> {
+    let (queue, mut tails, mut head) = open_free(rt.alloc(), 2)?;
+    put(&rt, &queue, &mut tails, 1, 'a')?;
+    put(&rt, &queue, &mut tails, 0, 'b')?;
+    let got = gather(&rt, rt.alloc(), &queue, &mut head, 8, 2, 1_000)?;
+    assert!(rt; got.as_slice() == [tagged(1, 'a'), tagged(0, 'b')].as_slice());
+    put(&rt, &queue, &mut tails, 0, 'c')?;
+    take(&rt, &queue, &mut head, 0, 'c');
+    leave(&rt, queue, tails, head, &[])
+}
+
+#[test]
+fn a_batch_has_at_most_as_many(rt: HostRuntime) -> Result<(), Fail> {
+    let (queue, mut tails, mut head) = open_free(rt.alloc(), 1)?;
+    put(&rt, &queue, &mut tails, 0, 'a')?;
+    put(&rt, &queue, &mut tails, 0, 'b')?;
+    put(&rt, &queue, &mut tails, 0, 'c')?;
+    let few = gather(&rt, rt.alloc(), &queue, &mut head, 2, 1, 1)?;
+    assert!(rt; few.len() <= 2);
+    let none = gather(&rt, rt.alloc(), &queue, &mut head, 0, 1, 1)?;
+    assert!(rt; none.len() == 0);
+    Ok(())
+}
+
+// The first value of a batch, of which the others stay with the seat.
+fn first_of<R: Wait>(
+    rt: &R,
+    queue: &FreeQueue<char>,
+    head: &mut FreeHead<char>,
+) -> Option<Tagged<char>>
+    requires { IsHeadOf queue.now head.old }
+    ensures { IsHeadOf queue.now head.new }
+{
+    queue.take_some(rt, head, 8).next()
+}
+
+#[test]
+fn nothing_is_lost_with_a_batch(rt: HostRuntime) -> Result<(), Fail> {
+    let (queue, mut tails, mut head) = open_free(rt.alloc(), 2)?;
+    put(&rt, &queue, &mut tails, 0, 'a')?;
+    put(&rt, &queue, &mut tails, 1, 'b')?;
+    put(&rt, &queue, &mut tails, 0, 'c')?;
+    put(&rt, &queue, &mut tails, 1, 'd')?;
+    put(&rt, &queue, &mut tails, 1, 'e')?;
+    put(&rt, &queue, &mut tails, 0, 'f')?;
+    assert!(rt; first_of(&rt, &queue, &mut head) == Some(tagged(0, 'a')));
+    take(&rt, &queue, &mut head, 1, 'b');
+    leave(
+        &rt,
+        queue,
+        tails,
+        head,
+        &[
+            tagged(0, 'c'),
+            tagged(1, 'd'),
+            tagged(1, 'e'),
+            tagged(0, 'f'),
+        ],
+    )
+}
+
+#[test]
+fn nobody_puts(rt: HostRuntime) -> Result<(), Fail> {
+    let (queue, tails, mut head) = open_free::<char>(rt.alloc(), 0)?;
+    assert!(rt; tails.len() == 0 && queue.take(&rt, &mut head) == None);
+    leave(&rt, queue, tails, head, &[])
+}
+
+// Puts all these values, and tells whether there was memory for them.
+fn put_all<R: Wait>(rt: &R, queue: &FreeQueue<u64>, mut tail: FreeTail<u64>, all: &[u64]) -> bool
+    requires { IsTailOf queue.now tail }
+{
+    for value in all {
+        if queue.put(rt, &mut tail, *value).is_err() {
+            return false;
+        }
+    }
+    true
+}
+
+// One thread puts these values while another takes them in batches.
+fn pour<R: Threads + Wait + Sync>(
+    rt: &R,
+    alloc: Global,
+    all: &[u64],
+) -> Result<Vec<Tagged<u64>>, Fail> {
+    let (queue, mut tails, mut head) = open_free(alloc, 1)?;
+    let shared = &queue;
+    let tail = tails.pop().ok_or("a seat")?;
+    let (put, gathered) = thread::join(
+        rt,
+        move || -> bool
+            requires { IsTailOf shared.now tail }
+        { put_all(rt, shared, tail, all) },
+        move || -> Result<Vec<Tagged<u64>>, AllocError>
+            requires { IsHeadOf shared.now head }
+        { gather(rt, alloc, shared, &mut head, 64, all.len(), 1_000_000_000) },
+    );
+    if put {
+        Ok(gathered?)
+    } else {
+        Err(Fail::from("memory"))
+    }
+}
+
+#[test]
+fn many_pass_in_batches(rt: HostRuntime) -> Result<(), Fail> {
+    let numbers: Vec<u64> = (0..20_000).collect(rt.alloc())?;
+    let got = pour(&rt, rt.alloc(), numbers.as_slice())?;
+    assert!(rt; got.len() == 20_000);
+    for (number, item) in got.iter().enumerate() {
+        assert!(rt; item.sender == 0 && item.value == number as u64, "{number}");
+    }
+    Ok(())
+}

@@ -1,0 +1,146 @@
+//! Scripts over four tenants, and over sixteen.
+mod steps;
+
+use gate_config::{Config, read_config};
+use gate_forward::Forward;
+use gate_record::ConnId;
+use gate_test_lines::{comes_to, halves};
+use std::alloc::Global;
+use std::test::Fail;
+
+// Four tenants: two list the project under connection 1, one lists another there, one lists connection 0 alone.
+const FOUR: &str =
+    r#"{"tenants":[{"name":"a","source":{"gerrit":{"untrusted-projects":["demo"]}}},{"name":"b","source":{"gerrit":{"untrusted-projects":["other"]}}},{"name":"c","source":{"eclipse":{"untrusted-projects":["demo"]}}},{"name":"d","source":{"eclipse":null,"gerrit":{"config-projects":["demo","other"]}}}],"config":{}}"#;
+
+// Sixteen tenants that list the project under connection 1.
+const SIXTEEN: &str =
+    r#"{"tenants":[{"name":"t0","source":{"eclipse":null,"gerrit":{"untrusted-projects":["demo"]}}},{"name":"t1","source":{"eclipse":null,"gerrit":{"untrusted-projects":["demo"]}}},{"name":"t2","source":{"eclipse":null,"gerrit":{"untrusted-projects":["demo"]}}},{"name":"t3","source":{"eclipse":null,"gerrit":{"untrusted-projects":["demo"]}}},{"name":"t4","source":{"eclipse":null,"gerrit":{"untrusted-projects":["demo"]}}},{"name":"t5","source":{"eclipse":null,"gerrit":{"untrusted-projects":["demo"]}}},{"name":"t6","source":{"eclipse":null,"gerrit":{"untrusted-projects":["demo"]}}},{"name":"t7","source":{"eclipse":null,"gerrit":{"untrusted-projects":["demo"]}}},{"name":"t8","source":{"eclipse":null,"gerrit":{"untrusted-projects":["demo"]}}},{"name":"t9","source":{"eclipse":null,"gerrit":{"untrusted-projects":["demo"]}}},{"name":"t10","source":{"eclipse":null,"gerrit":{"untrusted-projects":["demo"]}}},{"name":"t11","source":{"eclipse":null,"gerrit":{"untrusted-projects":["demo"]}}},{"name":"t12","source":{"eclipse":null,"gerrit":{"untrusted-projects":["demo"]}}},{"name":"t13","source":{"eclipse":null,"gerrit":{"untrusted-projects":["demo"]}}},{"name":"t14","source":{"eclipse":null,"gerrit":{"untrusted-projects":["demo"]}}},{"name":"t15","source":{"eclipse":null,"gerrit":{"untrusted-projects":["demo"]}}}],"config":{}}"#;
+
+const GERRIT: ConnId = ConnId(1);
+
+// Plays a script over a configuration and one of its connections: takes each step, and compares what it comes to with what
+// stands behind the arrow.
+fn play(alloc: Global, document: &str, conn: ConnId, script: &str) -> Result<(), Fail> {
+    let config = read_config(alloc, document.as_bytes())?;
+    play_with(alloc, &config, conn, script)
+}
+
+fn play_with(alloc: Global, config: &Config, conn: ConnId, script: &str) -> Result<(), Fail> {
+    let mut forward = Forward::new(config, conn);
+    play_over(alloc, &mut forward, script)
+}
+
+fn play_over(alloc: Global, forward: &mut Forward<'_>, script: &str) -> Result<(), Fail> {
+    for line in script.trim().lines() {
+        play_line(alloc, forward, line)?;
+    }
+    Ok(())
+}
+
+fn play_line(alloc: Global, forward: &mut Forward<'_>, line: &str) -> Result<(), Fail> {
+    let (step, wanted) = halves(line);
+    let found = steps::take(alloc, forward, step)?;
+    comes_to(line, found.as_str(), wanted)
+}
+
+#[test]
+fn an_event_goes_to_each_tenant_that_lists_its_project(rt: HostRuntime) -> Result<(), Fail> {
+    let script = r#"
+        load 0 {"type":"patchset-created","change":{"project":"demo","number":7}}
+        send -> 0: event 0 of 1 on Some(7)
+        send -> 3: event 0 of 1 on Some(7)
+        empty -> true
+        ended -> false
+        load 1 {"type":"ref-updated","change":{"project":"other","number":7}}
+        send -> 1: event 1 of 1 on Some(7)
+        send -> 3: event 1 of 1 on Some(7)
+        empty -> true
+        ended -> false
+        load 2 {"type":"ref-updated","change":{"project":"demo2","number":7}}
+        empty -> true
+        ended -> false
+        load 3 {"type":"ref-updated"}
+        empty -> true
+        ended -> false
+        load 4 {"change":{"project":"demo"}}
+        empty -> true
+        ended -> false
+        load 5 not JSON
+        empty -> true
+        ended -> false
+        load 18446744073709551615 {"type":"patchset-created","change":{"project":"demo","number":7}}
+        send -> 0: event 18446744073709551615 of 1 on Some(7)
+        send -> 3: event 18446744073709551615 of 1 on Some(7)
+        empty -> true
+        ended -> false
+    "#;
+    play(rt.alloc(), FOUR, GERRIT, script)
+}
+
+#[test]
+fn the_end_mark_goes_to_each_tenant_that_lists_the_connection(rt: HostRuntime) -> Result<(), Fail> {
+    let script = "
+        end
+        ended -> false
+        send -> 0: end of 1
+        ended -> false
+        send -> 1: end of 1
+        ended -> false
+        send -> 3: end of 1
+        ended -> true
+    ";
+    play(rt.alloc(), FOUR, GERRIT, script)
+}
+
+#[test]
+fn a_connection_that_no_tenant_lists_ends_at_once(rt: HostRuntime) -> Result<(), Fail> {
+    let script = "
+        end
+        ended -> true
+    ";
+    play(rt.alloc(), FOUR, ConnId(2), script)
+}
+
+#[test]
+fn an_item_that_was_not_sent_is_the_first_again(rt: HostRuntime) -> Result<(), Fail> {
+    let script = r#"
+        load 9 {"type":"patchset-created","change":{"project":"demo","number":7}}
+        back -> 0: event 9 of 1 on Some(7)
+        empty -> false
+        back -> 0: event 9 of 1 on Some(7)
+        empty -> false
+        send -> 0: event 9 of 1 on Some(7)
+        back -> 3: event 9 of 1 on Some(7)
+        empty -> false
+        back -> 3: event 9 of 1 on Some(7)
+        empty -> false
+        send -> 3: event 9 of 1 on Some(7)
+        empty -> true
+    "#;
+    play(rt.alloc(), FOUR, GERRIT, script)
+}
+
+#[test]
+fn sixteen_tenants_get_an_event(rt: HostRuntime) -> Result<(), Fail> {
+    let script = r#"
+        load 0 {"type":"patchset-created","change":{"project":"demo","number":7}}
+        send -> 0: event 0 of 1 on Some(7)
+        send -> 1: event 0 of 1 on Some(7)
+        send -> 2: event 0 of 1 on Some(7)
+        send -> 3: event 0 of 1 on Some(7)
+        send -> 4: event 0 of 1 on Some(7)
+        send -> 5: event 0 of 1 on Some(7)
+        send -> 6: event 0 of 1 on Some(7)
+        send -> 7: event 0 of 1 on Some(7)
+        send -> 8: event 0 of 1 on Some(7)
+        send -> 9: event 0 of 1 on Some(7)
+        send -> 10: event 0 of 1 on Some(7)
+        send -> 11: event 0 of 1 on Some(7)
+        send -> 12: event 0 of 1 on Some(7)
+        send -> 13: event 0 of 1 on Some(7)
+        send -> 14: event 0 of 1 on Some(7)
+        send -> 15: event 0 of 1 on Some(7)
+        empty -> true
+    "#;
+    play(rt.alloc(), SIXTEEN, GERRIT, script)
+}

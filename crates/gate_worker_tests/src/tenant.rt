@@ -1,0 +1,109 @@
+//! Scripts over a tenant with two connections and two pipelines, and over one that lists no connection.
+mod steps;
+
+use gate_config::{Config, read_config};
+use gate_record::TenantId;
+use gate_tenant::Dispatch;
+use gate_test_lines::{comes_to, halves};
+use std::alloc::Global;
+use std::test::Fail;
+
+const MAIN: TenantId = TenantId(0);
+
+const IDLE: TenantId = TenantId(1);
+
+// `main` lists `gerrit` and `review`; its `check` selects what is uploaded to either of them, its `gate` what is uploaded
+// to or commented in `gerrit`.
+const CONFIG: &str =
+    r#"{"tenants":[{"name":"main","source":{"gerrit":{"untrusted-projects":["demo"]},"review":{"untrusted-projects":["demo"]}}},{"name":"idle","source":{}}],"config":{"main":[{"pipeline":{"name":"check","manager":"independent","trigger":{"gerrit":[{"event":"patchset-created"}],"review":[{"event":"patchset-created"}]}}},{"pipeline":{"name":"gate","manager":"dependent","trigger":{"gerrit":[{"event":"comment-added"},{"event":"patchset-created"}]}}}],"idle":[{"pipeline":{"name":"check","manager":"independent"}},{"pipeline":{"name":"gate","manager":"dependent"}}]}}"#;
+
+// Plays a script from the start of a tenant.
+fn play(alloc: Global, tenant: TenantId, script: &str) -> Result<(), Fail> {
+    let config = read_config(alloc, CONFIG.as_bytes())?;
+    play_with(alloc, &config, tenant, script)
+}
+
+fn play_with(alloc: Global, config: &Config, tenant: TenantId, script: &str) -> Result<(), Fail> {
+    let mut dispatch = Dispatch::new(alloc, config, tenant)?;
+    play_over(alloc, &mut dispatch, script)
+}
+
+// Takes each step of a script, and compares what it comes to with what stands behind the arrow.
+fn play_over(alloc: Global, dispatch: &mut Dispatch<'_>, script: &str) -> Result<(), Fail> {
+    for line in script.trim().lines() {
+        play_line(alloc, dispatch, line)?;
+    }
+    Ok(())
+}
+
+fn play_line(alloc: Global, dispatch: &mut Dispatch<'_>, line: &str) -> Result<(), Fail> {
+    let (step, wanted) = halves(line);
+    let found = steps::take(alloc, dispatch, step)?;
+    comes_to(line, found.as_str(), wanted)
+}
+
+#[test]
+fn events_go_to_each_pipeline_that_selects_them(rt: HostRuntime) -> Result<(), Fail> {
+    let script = "
+        event 0 0 patchset-created
+        event 1 0 comment-added
+        event 0 1 comment-added
+        event 1 1 patchset-created
+        match
+        give -> 0:0/0 1:0/0 1:0/1 0:1/1
+    ";
+    play(rt.alloc(), MAIN, script)
+}
+
+#[test]
+fn end_marks_follow_the_last_connection(rt: HostRuntime) -> Result<(), Fail> {
+    let script = "
+        end 1
+        event 0 4 comment-added
+        match
+        give -> 1:0/4
+        event 0 5 patchset-created
+        end 0
+        match
+        give -> 0:0/5 1:0/5 0:end 1:end
+        ended -> true
+    ";
+    play(rt.alloc(), MAIN, script)
+}
+
+#[test]
+fn a_tenant_without_connections_begins_with_its_end_marks(rt: HostRuntime) -> Result<(), Fail> {
+    let script = "
+        empty -> false
+        give -> 0:end 1:end
+        empty -> true
+    ";
+    play(rt.alloc(), IDLE, script)
+}
+
+#[test]
+fn an_item_that_was_not_given_is_the_first_again(rt: HostRuntime) -> Result<(), Fail> {
+    let script = "
+        event 0 7 patchset-created
+        match
+        back
+        give -> 0:0/7 1:0/7
+    ";
+    play(rt.alloc(), MAIN, script)
+}
+
+#[test]
+fn room_is_left_for_256_items(rt: HostRuntime) -> Result<(), Fail> {
+    let script = "
+        room -> 256
+        event 0 0 patchset-created
+        room -> 255
+        end 1 255
+        room -> 0
+        match
+        room -> 0
+        give -> 0:0/0 1:0/0
+        room -> 256
+    ";
+    play(rt.alloc(), MAIN, script)
+}
