@@ -2,48 +2,81 @@
 #![tactic(auto)]
 
 use anyhow::{Context, Result};
-use gate_items::{Action, Items, JobResult, Key, Manage, ManagerKind};
+use gate_items::{Action, Items, JobResult, Key, Manage, ManagerKind, Outcome};
 use gate_record::{ConnId, Memory, Sequence, Text};
 use std::alloc::Global;
 use std::env;
-use std::time::Instant;
+use std::io::Print;
+use std::time::{Clock, Duration, Instant};
 
 fn main(rt: HostRuntime) -> Result<()> {
-    let words = env::args(&rt)?;
-    let mut words = words.skip(1);
-    let Some(count) = words.next() else {
-        return Ok(());
-    };
-    let changes = count
-        .as_str()
-        .parse::<u32>()
-        .context("the number of changes")?;
-    let manager = match words.next() {
-        None => ManagerKind::Independent,
-        Some(_) => ManagerKind::Dependent,
-    };
-    let alloc = rt.alloc();
-    let mut items = Items::new(alloc, manager, 0);
-    let start = Instant::now(&rt)?;
-    trigger_all(alloc, &mut items, changes)?;
-    match manager {
-        ManagerKind::Independent => {
-            reset_all(&mut items, changes)?;
-            end_all(alloc, &mut items, changes)?;
-        }
-        ManagerKind::Dependent => end_queue(alloc, &mut items, changes)?,
+    let mut words = env::args(&rt)?;
+    match (words.nth(1), words.next()) {
+        (Some(count), None) => time(&rt, rt.alloc(), ManagerKind::Independent, count.as_str()),
+        (Some(count), Some(_)) => time(&rt, rt.alloc(), ManagerKind::Dependent, count.as_str()),
+        (None, _) => Ok(()),
     }
-    let took = start.elapsed(&rt)?;
-    let micros = took
-        .as_secs()
-        .saturating_mul(1_000_000)
-        .saturating_add(u64::from(took.subsec_micros()));
-    let left = items.items().count();
+}
+
+fn time<R: Clock + Print>(rt: &R, alloc: Global, manager: ManagerKind, count: &str) -> Result<()> {
+    let changes = count.parse::<u32>().context("the number of changes")?;
+    let timed = time_new(rt, alloc, manager, changes)?;
     println!(rt;
-        "{changes} changes, {micros} us, {} reported, {left} left",
-        items.reported().len()
+        "{changes} changes, {} us, {} reported, {} left",
+        timed.micros, timed.reported, timed.left
     )?;
     Ok(())
+}
+
+/// What the actions take, and what is there then.
+#[derive(Clone, Copy)]
+struct Timed {
+    micros: u64,
+    reported: usize,
+    left: usize,
+}
+
+fn time_new(
+    clock: &impl Clock,
+    alloc: Global,
+    manager: ManagerKind,
+    changes: u32,
+) -> Result<Timed> {
+    let mut items = Items::new(alloc, manager, 0);
+    time_over(clock, alloc, &mut items, manager, changes)
+}
+
+fn time_over(
+    clock: &impl Clock,
+    alloc: Global,
+    items: &mut Items,
+    manager: ManagerKind,
+    changes: u32,
+) -> Result<Timed> {
+    let start = Instant::now(clock)?;
+    act(alloc, items, manager, changes)?;
+    Ok(Timed {
+        micros: micros(start.elapsed(clock)?),
+        reported: items.reported().len(),
+        left: items.items().count(),
+    })
+}
+
+fn micros(time: Duration) -> u64 {
+    time.as_secs()
+        .saturating_mul(1_000_000)
+        .saturating_add(u64::from(time.subsec_micros()))
+}
+
+fn act(alloc: Global, items: &mut Items, manager: ManagerKind, changes: u32) -> Result<(), Memory> {
+    trigger_all(alloc, items, changes)?;
+    match manager {
+        ManagerKind::Independent => {
+            reset_all(items, changes)?;
+            end_all(alloc, items, changes)
+        }
+        ManagerKind::Dependent => end_queue(alloc, items, changes),
+    }
 }
 
 fn change(number: u32) -> Key {
@@ -56,39 +89,56 @@ fn change(number: u32) -> Key {
 // Each change with one job; all of them stand in the pipeline at once.
 fn trigger_all(alloc: Global, items: &mut Items, changes: u32) -> Result<(), Memory> {
     for number in 0..changes {
-        let mut jobs = Vec::new(alloc);
-        jobs.push(Text::copy(alloc, "build")?)?;
-        items.apply(&Action::Trigger(Some(change(number)), 1, Sequence::new(jobs)))?;
+        let jobs = one_job(alloc)?;
+        apply(items, Action::Trigger(Some(change(number)), 1, jobs))?;
     }
     Ok(())
+}
+
+fn one_job(alloc: Global) -> Result<Sequence<Text>, Memory> {
+    let mut jobs = Sequence::empty(alloc);
+    jobs.push(Text::copy(alloc, "build")?)?;
+    Ok(jobs)
+}
+
+fn apply(items: &mut Items, action: Action) -> Result<Outcome, Memory> {
+    items.apply(&action)
 }
 
 // A new build set for each, from the first.
 fn reset_all(items: &mut Items, changes: u32) -> Result<(), Memory> {
     for number in 0..changes {
-        items.apply(&Action::Manage(Manage::Reset(change(number))))?;
+        apply(items, Action::Manage(Manage::Reset(change(number))))?;
     }
     Ok(())
 }
 
+fn dequeue(items: &mut Items, number: u32) -> Result<(), Memory> {
+    apply(items, Action::Manage(Manage::Dequeue(change(number))))?;
+    Ok(())
+}
+
 // The one job of a build set succeeds.
-fn success(alloc: Global, set: u64) -> Result<Action, Memory> {
-    Ok(Action::Result(JobResult {
+fn succeed(alloc: Global, items: &mut Items, set: u64) -> Result<(), Memory> {
+    let job = Text::copy(alloc, "build")?;
+    let ended = JobResult {
         set,
-        job: Text::copy(alloc, "build")?,
+        job,
         success: true,
-    }))
+    };
+    apply(items, Action::Result(ended))?;
+    Ok(())
 }
 
 // A dequeue of each second change, and a result for each other one, from the first.
 fn end_all(alloc: Global, items: &mut Items, changes: u32) -> Result<(), Memory> {
     for number in 0..changes {
-        let action = if number % 2 == 0 {
-            Action::Manage(Manage::Dequeue(change(number)))
+        if number % 2 == 0 {
+            dequeue(items, number)?;
         } else {
-            success(alloc, u64::from(changes).saturating_add(u64::from(number)))?
-        };
-        items.apply(&action)?;
+            let set = u64::from(changes).saturating_add(u64::from(number));
+            succeed(alloc, items, set)?;
+        }
     }
     Ok(())
 }
@@ -96,9 +146,8 @@ fn end_all(alloc: Global, items: &mut Items, changes: u32) -> Result<(), Memory>
 // The first change succeeds and leaves, and the last but one is dequeued, until one is left.
 fn end_queue(alloc: Global, items: &mut Items, changes: u32) -> Result<(), Memory> {
     for number in 0..changes / 2 {
-        items.apply(&success(alloc, u64::from(number))?)?;
-        let late = changes.saturating_sub(2).saturating_sub(number);
-        items.apply(&Action::Manage(Manage::Dequeue(change(late))))?;
+        succeed(alloc, items, u64::from(number))?;
+        dequeue(items, changes.saturating_sub(2).saturating_sub(number))?;
     }
     Ok(())
 }
