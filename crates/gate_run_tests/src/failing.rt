@@ -2,13 +2,14 @@
 ghost use Rattle.std.specs.Prelude.{◌≡◌, IfOk};
 ghost use Rattle.gate_run.specs.Ports.{IsInboxFor};
 
-use crate::feeds::{Feed, record};
+use crate::feeds::Feed;
 use crate::gates::{Holding, Meeting, Silent, Stopping, Stops};
 use crate::runs::{EIGHTH, SEVENTH, TWO_PIPELINES, one, run};
 use gate_config::{Config, read_config};
 use gate_core::report_text;
 use gate_record::{Memory, Queue, Record};
 use gate_run::{FeedStep, Gate, Inbox, Posts, RecordFeed, serve};
+use gate_test_lines::{comes_to, record_of};
 use std::alloc::Global;
 use std::process::Abort;
 use std::sync::{Mutex, Wait};
@@ -39,7 +40,7 @@ impl Failing {
     {
         let mut records = Queue::new(alloc);
         for line in [SEVENTH, r#"{"type":"#, EIGHTH] {
-            records.push(record(alloc, line)?)?;
+            records.push(record_of(alloc, line)?)?;
         }
         Ok(Failing {
             records,
@@ -129,7 +130,7 @@ fn a_feed_fails_after_each_call(rt: HostRuntime) -> Result<(), Fail> {
     Ok(())
 }
 
-fn fails_after<R: Threads + Wait + Clock + Abort + Sync>(
+fn fails_after<R: Threads + Wait + Clock + Sync>(
     rt: &R,
     alloc: Global,
     config: &Config,
@@ -138,8 +139,7 @@ fn fails_after<R: Threads + Wait + Clock + Abort + Sync>(
 ) -> Result<(), Fail> {
     let feed = Failing::after(alloc, calls, Failure::Fault)?;
     let text = report(rt, alloc, config, feed)?;
-    assert_eq!(rt; text.as_str(), wanted);
-    Ok(())
+    comes_to("a report", text.as_str(), wanted)
 }
 
 #[test]

@@ -1,7 +1,8 @@
 //! Feeds of records that they have, and that they tell.
 use crate::gates::Meeting;
-use gate_record::{Memory, Queue, Record, Sequence};
+use gate_record::{Memory, Queue, Record};
 use gate_run::{FeedStep, RecordFeed};
+use gate_test_lines::record_of;
 use std::alloc::Global;
 use std::sync::Wait;
 
@@ -19,7 +20,7 @@ impl<'a> Feed<'a> {
     pub(crate) fn of(alloc: Global, lines: &[&str]) -> Result<Feed<'a>, Memory> {
         let mut records = Queue::new(alloc);
         for line in lines {
-            records.push(record(alloc, line)?)?;
+            records.push(record_of(alloc, line)?)?;
         }
         Ok(Feed {
             records,
@@ -31,7 +32,7 @@ impl<'a> Feed<'a> {
     pub(crate) fn repeated(alloc: Global, line: &str, count: u32) -> Result<Feed<'a>, Memory> {
         let mut records = Queue::new(alloc);
         for _ in 0..count {
-            records.push(record(alloc, line)?)?;
+            records.push(record_of(alloc, line)?)?;
         }
         Ok(Feed {
             records,
@@ -89,8 +90,4 @@ fn is_over(meeting: Option<&Meeting>) -> bool {
         Some(meeting) => meeting.is_over(),
         None => true,
     }
-}
-
-pub(crate) fn record(alloc: Global, line: &str) -> Result<Record, Memory> {
-    Ok(Record::Line(Sequence::new(line.as_bytes().to_vec(alloc)?)))
 }

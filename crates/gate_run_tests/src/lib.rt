@@ -1,5 +1,4 @@
-//! Tests of `serve`: what comes of what feeds have, whatever the schedule. They stand apart from the other libraries' tests, which
-//! are proved while `serve` is.
+//! Tests of `serve`: what comes of what feeds have, whatever the schedule.
 #![tactic(auto)]
 
 #[cfg(test)]

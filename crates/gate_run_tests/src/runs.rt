@@ -6,8 +6,8 @@ use crate::gates::Silent;
 use gate_config::{Config, ConfigFault, read_config};
 use gate_core::report_text;
 use gate_run::{Gate, Inbox, Posts, Served, serve, serve_over};
+use gate_test_lines::comes_to;
 use std::alloc::Global;
-use std::process::Abort;
 use std::sync::Wait;
 use std::test::Fail;
 use std::thread::Threads;
@@ -53,7 +53,7 @@ pub(crate) fn run<'f, G: Gate + Sync, R: Threads + Wait + Clock + Sync>(
 }
 
 // Runs a configuration over these feeds, with nothing posted, and sees what is reported.
-pub(crate) fn reports<G: Gate + Sync, R: Threads + Wait + Clock + Abort + Sync>(
+pub(crate) fn reports<G: Gate + Sync, R: Threads + Wait + Clock + Sync>(
     rt: &R,
     alloc: Global,
     config: &Config,
@@ -64,8 +64,7 @@ pub(crate) fn reports<G: Gate + Sync, R: Threads + Wait + Clock + Abort + Sync>(
     let (_posts, inbox) = Posts::open(alloc, config)?;
     let served = run(rt, alloc, config, feeds, inbox, gate)?;
     let text = report_text(alloc, config, &served.report)?;
-    assert_eq!(rt; text.as_str(), wanted);
-    Ok(())
+    comes_to("a report", text.as_str(), wanted)
 }
 
 pub(crate) fn one(alloc: Global) -> Result<Config, ConfigFault> {
@@ -111,7 +110,7 @@ fn a_long_run(rt: HostRuntime) -> Result<(), Fail> {
 }
 
 // Runs a configuration with two places for the records of each connection, so that records are refused often.
-fn run_with_two_places<R: Threads + Wait + Clock + Abort + Sync>(
+fn run_with_two_places<R: Threads + Wait + Clock + Sync>(
     rt: &R,
     alloc: Global,
     config: &Config,
@@ -124,8 +123,7 @@ fn run_with_two_places<R: Threads + Wait + Clock + Abort + Sync>(
     let (_posts, inbox) = Posts::open(alloc, config)?;
     let served = serve_over(rt, alloc, 2, config, feeds, inbox, &Silent)?;
     let text = report_text(alloc, config, &served.report)?;
-    assert_eq!(rt; text.as_str(), wanted);
-    Ok(())
+    comes_to("a report", text.as_str(), wanted)
 }
 
 #[test]

@@ -6,6 +6,7 @@ use crate::runs::{EIGHTH, SEVENTH, one};
 use gate_config::Config;
 use gate_core::{RunReport, report_text};
 use gate_run::{Inbox, Posts, ReaderFeed, serve};
+use gate_test_lines::comes_to;
 use std::alloc::Global;
 use std::sync::Wait;
 use std::test::Fail;
@@ -39,6 +40,5 @@ fn a_stream_is_cut_into_records(rt: HostRuntime) -> Result<(), Fail> {
     let text = report_text(rt.alloc(), &config, &report)?;
     let wanted =
         "connection \"gerrit\" accepted 3 ended\npipeline \"main\" \"check\" finished\ndone \"main\" \"check\" \"gerrit\" 0 2\n";
-    assert_eq!(&rt; text.as_str(), wanted);
-    Ok(())
+    comes_to("a report", text.as_str(), wanted)
 }

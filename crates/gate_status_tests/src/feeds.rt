@@ -1,6 +1,7 @@
 //! Feeds of records that they have.
-use gate_record::{Memory, Queue, Record, Sequence};
+use gate_record::{Memory, Queue, Record};
 use gate_run::{FeedStep, RecordFeed};
+use gate_test_lines::record_of;
 use std::alloc::Global;
 use std::sync::Wait;
 
@@ -18,7 +19,7 @@ impl Feed {
     /// The feed of one line.
     pub(crate) fn of(alloc: Global, line: &str) -> Result<Feed, Memory> {
         let mut records = Queue::new(alloc);
-        records.push(Record::Line(Sequence::new(line.as_bytes().to_vec(alloc)?)))?;
+        records.push(record_of(alloc, line)?)?;
         Ok(Feed { records })
     }
 }
