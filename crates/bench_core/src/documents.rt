@@ -6,33 +6,48 @@ const RECORD: &str =
 /// So many tenants that list the project `demo` under one connection, each with so many pipelines that ask for new patch
 /// sets.
 pub fn configuration(alloc: Global, each: u32) -> Result<String, AllocError> {
-    let mut document = String::from_str(alloc, "{\"tenants\":[")?;
+    let pipelines = pipelines(alloc, each)?;
+    configuration_of(alloc, each, pipelines.as_str())
+}
+
+fn configuration_of(alloc: Global, each: u32, pipelines: &str) -> Result<String, AllocError> {
+    let mut document = String::new(alloc);
+    push_tenants(&mut document, each, pipelines)?;
+    Ok(document)
+}
+
+fn push_tenants(document: &mut String, each: u32, pipelines: &str) -> Result<(), AllocError> {
+    document.push_str("{\"tenants\":[")?;
     for tenant in 0..each {
-        let comma = if tenant > 0 { "," } else { "" };
-        let entry = format!(in alloc;
-            "{comma}{{\"name\":\"t{tenant}\",\"source\":{{\"gerrit\":{{\"untrusted-projects\":[\"demo\"]}}}}}}"
+        write!(
+            document,
+            "{}{{\"name\":\"t{tenant}\",\"source\":{{\"gerrit\":{{\"untrusted-projects\":[\"demo\"]}}}}}}",
+            comma_before(tenant)
         )?;
-        document.push_str(entry.as_str())?;
     }
     document.push_str("],\"config\":{")?;
-    let pipelines = pipelines(alloc, each)?;
     for tenant in 0..each {
-        let comma = if tenant > 0 { "," } else { "" };
-        let items = format!(in alloc; "{comma}\"t{tenant}\":[{pipelines}]")?;
-        document.push_str(items.as_str())?;
+        write!(
+            document,
+            "{}\"t{tenant}\":[{pipelines}]",
+            comma_before(tenant)
+        )?;
     }
-    document.push_str("}}")?;
-    Ok(document)
+    document.push_str("}}")
+}
+
+fn comma_before(number: u32) -> &'static str {
+    if number > 0 { "," } else { "" }
 }
 
 fn pipelines(alloc: Global, each: u32) -> Result<String, AllocError> {
     let mut pipelines = String::new(alloc);
     for pipeline in 0..each {
-        let comma = if pipeline > 0 { "," } else { "" };
-        let item = format!(in alloc;
-            "{comma}{{\"pipeline\":{{\"name\":\"p{pipeline}\",\"manager\":\"independent\",\"trigger\":{{\"gerrit\":[{{\"event\":\"patchset-created\"}}]}}}}}}"
+        write!(
+            pipelines,
+            "{}{{\"pipeline\":{{\"name\":\"p{pipeline}\",\"manager\":\"independent\",\"trigger\":{{\"gerrit\":[{{\"event\":\"patchset-created\"}}]}}}}}}",
+            comma_before(pipeline)
         )?;
-        pipelines.push_str(item.as_str())?;
     }
     Ok(pipelines)
 }
@@ -41,38 +56,56 @@ fn pipelines(alloc: Global, each: u32) -> Result<String, AllocError> {
 /// these are.
 pub fn script_of(alloc: Global, records: u32, each: u32) -> Result<(String, u64), AllocError> {
     let round = round_of(alloc, each)?;
+    let script = repeated(alloc, round.as_str(), records)?;
+    Ok((script, lines_of(each).saturating_mul(u64::from(records))))
+}
+
+fn repeated(alloc: Global, round: &str, records: u32) -> Result<String, AllocError> {
     let mut script = String::new(alloc);
     for _ in 0..records {
-        script.push_str(round.as_str())?;
+        script.push_str(round)?;
     }
+    Ok(script)
+}
+
+// How many lines bring one record its whole way.
+fn lines_of(each: u32) -> u64 {
     let ways = u64::from(each).saturating_mul(u64::from(each));
-    let lines = ways
-        .saturating_mul(4)
+    ways.saturating_mul(4)
         .saturating_add(u64::from(each).saturating_mul(3))
-        .saturating_add(2);
-    Ok((script, lines.saturating_mul(u64::from(records))))
+        .saturating_add(2)
 }
 
 // The lines of one record: it is offered, taken and sent; each tenant fetches, matches and gives it; each pipeline turns.
 fn round_of(alloc: Global, each: u32) -> Result<String, AllocError> {
-    let mut round = String::from_str(alloc, RECORD)?;
+    let mut round = String::new(alloc);
+    push_round(&mut round, each)?;
+    Ok(round)
+}
+
+fn push_round(round: &mut String, each: u32) -> Result<(), AllocError> {
+    round.push_str(RECORD)?;
     for _ in 0..each {
         round.push_str("send 0\n")?;
     }
     for tenant in 0..each {
-        push_tenant(&mut round, tenant, each)?;
+        push_tenant(round, tenant, each)?;
     }
-    Ok(round)
+    Ok(())
 }
 
 fn push_tenant(round: &mut String, tenant: u32, each: u32) -> Result<(), AllocError> {
-    let alloc = *round.allocator();
-    let gathered = format!(in alloc; "fetch {tenant} 1\nmatch {tenant}\n")?;
-    round.push_str(gathered.as_str())?;
+    write!(round, "fetch {tenant} 1\nmatch {tenant}\n")?;
     for pipeline in 0..each {
-        let turn = format!(in alloc; "turn {tenant} {pipeline}\n")?;
-        let given = format!(in alloc; "give {tenant}\n{turn}{turn}{turn}")?;
-        round.push_str(given.as_str())?;
+        push_turns(round, tenant, pipeline)?;
+    }
+    Ok(())
+}
+
+fn push_turns(round: &mut String, tenant: u32, pipeline: u32) -> Result<(), AllocError> {
+    write!(round, "give {tenant}\n")?;
+    for _ in 0..3 {
+        write!(round, "turn {tenant} {pipeline}\n")?;
     }
     Ok(())
 }

@@ -24,52 +24,52 @@ pub fn queue_script(
     dependent: bool,
 ) -> Result<(String, u64), AllocError> {
     let mut script = String::new(alloc);
+    push_script(&mut script, changes, dependent)?;
+    Ok((script, lines_of(changes, dependent)))
+}
+
+fn lines_of(changes: u32, dependent: bool) -> u64 {
+    let ways = u64::from(changes).saturating_mul(9);
+    let posts = u64::from(if dependent { changes / 2 } else { changes });
+    ways.saturating_add(1)
+        .saturating_add(posts.saturating_mul(2).saturating_mul(POSTED))
+}
+
+fn push_script(script: &mut String, changes: u32, dependent: bool) -> Result<(), AllocError> {
     for change in 0..changes {
-        let offer = format!(in alloc;
-            "offer 0 {{\"type\":\"patchset-created\",\"change\":{{\"project\":\"demo\",\"branch\":\"master\",\"number\":{change}}},\"patchSet\":{{\"number\":1}}}}\n{WAY}"
-        )?;
-        script.push_str(offer.as_str())?;
+        push_change(script, change)?;
     }
     script.push_str("show 0 0\n")?;
     if dependent {
-        push_ends(&mut script, changes)?;
+        push_ends(script, changes)
     } else {
-        push_resets(&mut script, changes)?;
+        push_resets(script, changes)
     }
-    let ways = u64::from(changes).saturating_mul(9);
-    let posts = if dependent {
-        u64::from(changes / 2)
-    } else {
-        u64::from(changes)
-    };
-    let lines = ways
-        .saturating_add(1)
-        .saturating_add(posts.saturating_mul(2).saturating_mul(POSTED));
-    Ok((script, lines))
+}
+
+fn push_change(script: &mut String, change: u32) -> Result<(), AllocError> {
+    write!(
+        script,
+        "offer 0 {{\"type\":\"patchset-created\",\"change\":{{\"project\":\"demo\",\"branch\":\"master\",\"number\":{change}}},\"patchSet\":{{\"number\":1}}}}\n{WAY}"
+    )
 }
 
 // Each change is reset, so that its build set has the next number, and then its job succeeds.
 fn push_resets(script: &mut String, changes: u32) -> Result<(), AllocError> {
-    let alloc = *script.allocator();
     for change in 0..changes {
         let set = u64::from(changes).saturating_add(u64::from(change));
-        let reset = format!(in alloc; "reset 0 0 change 0 {change}\n{TURNS}")?;
-        let ended = format!(in alloc; "result 0 0 {set} success build\n{TURNS}")?;
-        script.push_str(reset.as_str())?;
-        script.push_str(ended.as_str())?;
+        write!(script, "reset 0 0 change 0 {change}\n{TURNS}")?;
+        write!(script, "result 0 0 {set} success build\n{TURNS}")?;
     }
     Ok(())
 }
 
 // The job of the first change succeeds, and the last change is taken out, until none is left.
 fn push_ends(script: &mut String, changes: u32) -> Result<(), AllocError> {
-    let alloc = *script.allocator();
     for change in 0..changes / 2 {
         let last = changes.saturating_sub(change).saturating_sub(1);
-        let ended = format!(in alloc; "result 0 0 {change} success build\n{TURNS}")?;
-        let dequeue = format!(in alloc; "dequeue 0 0 change 0 {last}\n{TURNS}")?;
-        script.push_str(ended.as_str())?;
-        script.push_str(dequeue.as_str())?;
+        write!(script, "result 0 0 {change} success build\n{TURNS}")?;
+        write!(script, "dequeue 0 0 change 0 {last}\n{TURNS}")?;
     }
     Ok(())
 }
