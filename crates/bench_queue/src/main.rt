@@ -9,32 +9,63 @@ mod shared;
 
 use crate::free::Taking;
 use anyhow::{Context, Result};
+use std::alloc::Global;
 use std::env;
-use std::time::Duration;
+use std::io::Print;
+use std::sync::Wait;
+use std::thread::Threads;
+use std::time::{Clock, Duration};
 
 // The places of each queue that is timed.
 const PLACES: usize = 4096;
 
 fn main(rt: HostRuntime) -> Result<()> {
-    let Some(count) = env::args(&rt)?.nth(1) else {
-        return Ok(());
-    };
-    let each = count
-        .as_str()
-        .parse::<u64>()
-        .context("the number of values")?;
-    for (name, senders) in [("pair", 1), ("four", 4)] {
-        let took = plain::run(&rt, rt.alloc(), senders, each)?;
-        println!(rt; "{name} plain {}", per_second(senders, each, took))?;
-        let took = shared::run(&rt, rt.alloc(), senders, each)?;
-        println!(rt; "{name} shared {}", per_second(senders, each, took))?;
-        let took = plain_free::run(&rt, rt.alloc(), senders, each)?;
-        println!(rt; "{name} plain-free {}", per_second(senders, each, took))?;
-        let took = free::run(&rt, rt.alloc(), senders, each, Taking::Singly)?;
-        println!(rt; "{name} free {}", per_second(senders, each, took))?;
-        let took = free::run(&rt, rt.alloc(), senders, each, Taking::InBatches)?;
-        println!(rt; "{name} batches {}", per_second(senders, each, took))?;
+    match env::args(&rt)?.nth(1) {
+        Some(count) => time(&rt, rt.alloc(), count.as_str()),
+        None => Ok(()),
     }
+}
+
+fn time<R: Threads + Wait + Clock + Print + Sync>(
+    rt: &R,
+    alloc: Global,
+    count: &str,
+) -> Result<()> {
+    let each = count.parse::<u64>().context("the number of values")?;
+    for (name, senders) in [("pair", 1), ("four", 4)] {
+        time_bound(rt, alloc, name, senders, each)?;
+        time_free(rt, alloc, name, senders, each)?;
+    }
+    Ok(())
+}
+
+fn time_bound<R: Threads + Wait + Clock + Print + Sync>(
+    rt: &R,
+    alloc: Global,
+    name: &str,
+    senders: usize,
+    each: u64,
+) -> Result<()> {
+    let took = plain::run(rt, alloc, senders, each)?;
+    println!(rt; "{name} plain {}", per_second(senders, each, took))?;
+    let took = shared::run(rt, alloc, senders, each)?;
+    println!(rt; "{name} shared {}", per_second(senders, each, took))?;
+    Ok(())
+}
+
+fn time_free<R: Threads + Wait + Clock + Print + Sync>(
+    rt: &R,
+    alloc: Global,
+    name: &str,
+    senders: usize,
+    each: u64,
+) -> Result<()> {
+    let took = plain_free::run(rt, alloc, senders, each)?;
+    println!(rt; "{name} plain-free {}", per_second(senders, each, took))?;
+    let took = free::run(rt, alloc, senders, each, Taking::Singly)?;
+    println!(rt; "{name} free {}", per_second(senders, each, took))?;
+    let took = free::run(rt, alloc, senders, each, Taking::InBatches)?;
+    println!(rt; "{name} batches {}", per_second(senders, each, took))?;
     Ok(())
 }
 
