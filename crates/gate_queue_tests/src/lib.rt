@@ -1,7 +1,9 @@
-//! Tests of gate_queue and gate_source: queues in one thread and in several, streams in pieces, and what stops their sources.
+//! Tests of gate_queue: queues with a bound and without one, in one thread and in several.
 #![tactic(auto)]
 
 #[cfg(test)]
-mod queue;
+mod bound;
 #[cfg(test)]
-mod source;
+mod free;
+#[cfg(test)]
+mod threads;

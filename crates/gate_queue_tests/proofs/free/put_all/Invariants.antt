@@ -1,5 +1,5 @@
 use Rattle.gate_queue.specs.Seats.{IsTailOf}
-use Rattle.gate_queue_tests.proofs.queue.free.put_all.Given as goal
+use Rattle.gate_queue_tests.proofs.free.put_all.Given as goal
 
 abbrev pub invariant-loop-value : goal.invariant-loop-value
 invariant-loop-value g l = IsTailOf l.queue l.tail

@@ -1,6 +1,4 @@
-mod free;
-mod threads;
-
+//! The queue with a bound.
 ghost use Rattle.std.specs.Prelude.{◌≡◌};
 ghost use Rattle.gate_queue.specs.Seats.{IsHeadOf, IsTailOf, AreAllTailsOf};
 
@@ -11,20 +9,21 @@ use std::process::Abort;
 use std::sync::Wait;
 use std::test::Fail;
 
-fn is_refused(rt: &impl Abort, alloc: Global, capacity: usize, senders: usize, wanted: OpenFault) {
-    let refused = open::<u8>(alloc, capacity, senders).err();
-    assert!(rt;
-        refused == Some(wanted),
-        "at {capacity} places, {senders} senders"
-    );
+// Why a queue of so many places and senders isn't opened.
+fn refusal(alloc: Global, places: usize, senders: usize) -> &'static str {
+    match open::<u8>(alloc, places, senders) {
+        Ok(_) => "opened",
+        Err(OpenFault::Capacity) => "capacity",
+        Err(OpenFault::Memory) => "memory",
+    }
 }
 
 #[test]
-fn refuses_no_capacity(rt: HostRuntime) {
-    is_refused(&rt, rt.alloc(), 0, 1, OpenFault::Capacity);
-    is_refused(&rt, rt.alloc(), 0, usize::MAX, OpenFault::Capacity);
-    is_refused(&rt, rt.alloc(), 1, usize::MAX, OpenFault::Memory);
-    is_refused(&rt, rt.alloc(), usize::MAX, 1, OpenFault::Memory);
+fn refuses_no_capacity(rt: HostRuntime) -> Result<(), Fail> {
+    comes_to("no place", refusal(rt.alloc(), 0, 1), "capacity")?;
+    comes_to("neither", refusal(rt.alloc(), 0, usize::MAX), "capacity")?;
+    comes_to("many senders", refusal(rt.alloc(), 1, usize::MAX), "memory")?;
+    comes_to("many places", refusal(rt.alloc(), usize::MAX, 1), "memory")
 }
 
 #[test]

@@ -2,29 +2,26 @@
 ghost use Rattle.std.specs.Prelude.{◌+◌, ◌<◌, ◌≤◌, vec_len};
 ghost use Rattle.gate_queue.specs.Seats.{IsHeadOf, IsTailOf, AreAllTailsOf};
 
-use gate_queue::{FreeHead, FreeQueue, FreeTail, Memory, Tagged, open_free};
+use gate_queue::{FreeHead, FreeQueue, FreeTail, Tagged, open_free};
 use std::alloc::{AllocError, Global};
 use std::process::Abort;
 use std::sync::Wait;
 use std::test::Fail;
-use std::thread::Threads;
 use std::thread;
+use std::thread::Threads;
 
-// The sender with this number puts a value, unless there is no memory for it.
-fn put<R: Wait>(
+// The sender with this number puts a value.
+fn put<R: Wait + Abort>(
     rt: &R,
     queue: &FreeQueue<char>,
     tails: &mut Vec<FreeTail<char>>,
     sender: usize,
     value: char,
-) -> Result<(), Fail>
+)
     requires { AreAllTailsOf queue.now tails.old.items × (sender < queue.now.name.senders) }
     ensures { AreAllTailsOf queue.now tails.new.items }
 {
-    match queue.put(rt, &mut tails[sender], value) {
-        Ok(()) => Ok(()),
-        Err(Memory(_)) => Err(Fail::from("memory")),
-    }
+    assert!(rt; queue.put(rt, &mut tails[sender], value).is_ok(), "{value}");
 }
 
 fn take<R: Wait + Abort>(
@@ -88,6 +85,40 @@ fn gather<T: Drop, R: Wait>(
     Ok(gathered)
 }
 
+// Sees that batches of at most eight have these values.
+fn take_all<R: Wait + Abort>(
+    rt: &R,
+    alloc: Global,
+    queue: &FreeQueue<char>,
+    head: &mut FreeHead<char>,
+    wanted: &[Tagged<char>],
+)
+    requires { IsHeadOf queue.now head.old }
+    ensures { IsHeadOf queue.now head.new }
+{
+    match gather(rt, alloc, queue, head, 8, wanted.len(), 1_000) {
+        Ok(got) => assert!(rt; got.as_slice() == wanted),
+        Err(AllocError) => panic!(rt; "memory"),
+    }
+}
+
+// Sees that a batch of at most so many values has no more.
+fn take_few<R: Wait + Abort>(
+    rt: &R,
+    alloc: Global,
+    queue: &FreeQueue<char>,
+    head: &mut FreeHead<char>,
+    most: usize,
+)
+    requires { IsHeadOf queue.now head.old }
+    ensures { IsHeadOf queue.now head.new }
+{
+    match gather(rt, alloc, queue, head, most, 1, 1) {
+        Ok(few) => assert!(rt; few.len() <= most, "{most}"),
+        Err(AllocError) => panic!(rt; "memory"),
+    }
+}
+
 // What waits in the end. Where memory is refused, everything comes back, and a second call gives it.
 fn rest_of<T: Drop, R: Wait>(
     rt: &R,
@@ -131,11 +162,11 @@ fn refuses_too_many_senders(rt: HostRuntime) {
 #[test]
 fn batches_then_one(rt: HostRuntime) -> Result<(), Fail> {
     let (queue, mut tails, mut head) = open_free(rt.alloc(), 2)?;
-    put(&rt, &queue, &mut tails, 1, 'a')?;
-    put(&rt, &queue, &mut tails, 0, 'b')?;
-    let got = gather(&rt, rt.alloc(), &queue, &mut head, 8, 2, 1_000)?;
-    assert!(rt; got.as_slice() == [tagged(1, 'a'), tagged(0, 'b')].as_slice());
-    put(&rt, &queue, &mut tails, 0, 'c')?;
+    put(&rt, &queue, &mut tails, 1, 'a');
+    put(&rt, &queue, &mut tails, 0, 'b');
+    let wanted = [tagged(1, 'a'), tagged(0, 'b')];
+    take_all(&rt, rt.alloc(), &queue, &mut head, &wanted);
+    put(&rt, &queue, &mut tails, 0, 'c');
     take(&rt, &queue, &mut head, 0, 'c');
     leave(&rt, queue, tails, head, &[])
 }
@@ -143,13 +174,11 @@ fn batches_then_one(rt: HostRuntime) -> Result<(), Fail> {
 #[test]
 fn a_batch_has_at_most_as_many(rt: HostRuntime) -> Result<(), Fail> {
     let (queue, mut tails, mut head) = open_free(rt.alloc(), 1)?;
-    put(&rt, &queue, &mut tails, 0, 'a')?;
-    put(&rt, &queue, &mut tails, 0, 'b')?;
-    put(&rt, &queue, &mut tails, 0, 'c')?;
-    let few = gather(&rt, rt.alloc(), &queue, &mut head, 2, 1, 1)?;
-    assert!(rt; few.len() <= 2);
-    let none = gather(&rt, rt.alloc(), &queue, &mut head, 0, 1, 1)?;
-    assert!(rt; none.len() == 0);
+    put(&rt, &queue, &mut tails, 0, 'a');
+    put(&rt, &queue, &mut tails, 0, 'b');
+    put(&rt, &queue, &mut tails, 0, 'c');
+    take_few(&rt, rt.alloc(), &queue, &mut head, 2);
+    take_few(&rt, rt.alloc(), &queue, &mut head, 0);
     Ok(())
 }
 
@@ -168,12 +197,12 @@ fn first_of<R: Wait>(
 #[test]
 fn nothing_is_lost_with_a_batch(rt: HostRuntime) -> Result<(), Fail> {
     let (queue, mut tails, mut head) = open_free(rt.alloc(), 2)?;
-    put(&rt, &queue, &mut tails, 0, 'a')?;
-    put(&rt, &queue, &mut tails, 1, 'b')?;
-    put(&rt, &queue, &mut tails, 0, 'c')?;
-    put(&rt, &queue, &mut tails, 1, 'd')?;
-    put(&rt, &queue, &mut tails, 1, 'e')?;
-    put(&rt, &queue, &mut tails, 0, 'f')?;
+    put(&rt, &queue, &mut tails, 0, 'a');
+    put(&rt, &queue, &mut tails, 1, 'b');
+    put(&rt, &queue, &mut tails, 0, 'c');
+    put(&rt, &queue, &mut tails, 1, 'd');
+    put(&rt, &queue, &mut tails, 1, 'e');
+    put(&rt, &queue, &mut tails, 0, 'f');
     assert!(rt; first_of(&rt, &queue, &mut head) == Some(tagged(0, 'a')));
     take(&rt, &queue, &mut head, 1, 'b');
     leave(
@@ -215,22 +244,35 @@ fn pour<R: Threads + Wait + Sync>(
     alloc: Global,
     all: &[u64],
 ) -> Result<Vec<Tagged<u64>>, Fail> {
-    let (queue, mut tails, mut head) = open_free(alloc, 1)?;
-    let shared = &queue;
-    let tail = tails.pop().ok_or("a seat")?;
+    let (queue, mut tails, head) = open_free(alloc, 1)?;
+    match tails.pop() {
+        Some(tail) => pour_between(rt, alloc, &queue, tail, head, all),
+        None => Err(Fail::from("a seat")),
+    }
+}
+
+fn pour_between<R: Threads + Wait + Sync>(
+    rt: &R,
+    alloc: Global,
+    queue: &FreeQueue<u64>,
+    tail: FreeTail<u64>,
+    mut head: FreeHead<u64>,
+    all: &[u64],
+) -> Result<Vec<Tagged<u64>>, Fail>
+    requires { IsTailOf queue.now tail × IsHeadOf queue.now head }
+{
     let (put, gathered) = thread::join(
         rt,
         move || -> bool
-            requires { IsTailOf shared.now tail }
-        { put_all(rt, shared, tail, all) },
+            requires { IsTailOf queue.now tail }
+        { put_all(rt, queue, tail, all) },
         move || -> Result<Vec<Tagged<u64>>, AllocError>
-            requires { IsHeadOf shared.now head }
-        { gather(rt, alloc, shared, &mut head, 64, all.len(), 1_000_000_000) },
+            requires { IsHeadOf queue.now head }
+        { gather(rt, alloc, queue, &mut head, 64, all.len(), 1_000_000_000) },
     );
-    if put {
-        Ok(gathered?)
-    } else {
-        Err(Fail::from("memory"))
+    match (put, gathered) {
+        (true, Ok(gathered)) => Ok(gathered),
+        _ => Err(Fail::from("memory")),
     }
 }
 

@@ -9,8 +9,8 @@ use std::alloc::{AllocError, Global};
 use std::process::Abort;
 use std::sync::Wait;
 use std::test::Fail;
-use std::thread::Threads;
 use std::thread;
+use std::thread::Threads;
 
 // Puts all these values. Where the queue is full it tries again.
 fn put_all<R: Wait>(rt: &R, queue: &EventQueue<u64>, mut tail: Tail<u64>, all: &[u64]) -> Tail<u64>
@@ -206,8 +206,27 @@ fn all_put<R: Threads + Wait + Sync>(
             ensures { IsHeadOf shared.entry.now result.0 }
         { take_all(rt, alloc, shared, head, count) },
     );
-    let rest = queue.settle(rt, tails?, head).ok().ok_or("memory")?;
-    Ok((taken, rest))
+    match tails {
+        Ok(tails) => settled(rt, queue, tails, head, taken),
+        Err(AllocError) => Err(Fail::from("memory")),
+    }
+}
+
+// What was taken, and what then waits.
+fn settled<R: Wait>(
+    rt: &R,
+    queue: EventQueue<u64>,
+    tails: Vec<Tail<u64>>,
+    head: Head<u64>,
+    taken: Vec<Tagged<u64>>,
+) -> Result<(Vec<Tagged<u64>>, Vec<Tagged<u64>>), Fail>
+    requires tails { AreAllTailsOf queue tails.items }
+    requires head { IsHeadOf queue head }
+{
+    match queue.settle(rt, tails, head) {
+        Ok(rest) => Ok((taken, rest)),
+        Err(_) => Err(Fail::from("memory")),
+    }
 }
 
 #[test]

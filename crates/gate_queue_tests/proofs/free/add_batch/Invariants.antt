@@ -1,7 +1,7 @@
 use Rattle.std.proofs.Common.{◌≡◌, ◌+◌, ◌≤◌, vec_len}
 use Rattle.gate_queue.specs.Batches.{batch_head, batch_lender, batch_left}
 use Rattle.gate_queue.specs.Seats.{IsHeadOf}
-use Rattle.gate_queue_tests.proofs.queue.free.add_batch.Given as goal
+use Rattle.gate_queue_tests.proofs.free.add_batch.Given as goal
 
 abbrev pub invariant-loop-item : goal.invariant-loop-item
 invariant-loop-item g l =

@@ -6,8 +6,8 @@ use gate_record::Memory;
 use gate_source::{StopCause, StopCell, StopNote};
 use std::process::Abort;
 use std::test::Fail;
-use std::thread::Threads;
 use std::thread;
+use std::thread::Threads;
 
 // Sees which cause stands once this one was asked for.
 fn request(

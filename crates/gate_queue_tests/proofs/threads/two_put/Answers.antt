@@ -4,7 +4,7 @@ use Rattle.std.specs.Prelude.{All}
 use Rattle.gate_queue.specs.declared.tagged.Tagged.{Tagged}
 use Rattle.gate_queue.specs.Seats.{SenderSeat}
 use Rattle.gate_queue.specs.States.{IsDelivered}
-use Rattle.gate_queue_tests.proofs.queue.threads.two_put.Goals as goal
+use Rattle.gate_queue_tests.proofs.threads.two_put.Goals as goal
 
 -- what each of two settled seats tells, by the seat's number and by what was put
 told : (taken rest : List (Tagged ℕ)) (tails : List (SenderSeat ℕ)) (a b : SenderSeat ℕ) → tails ≡ a ∷ b ∷ [] → All (λ t. IsDelivered taken rest t.sender t.put) tails

@@ -1,3 +1,0 @@
-mod cuttings;
-mod sources;
-mod stops;
