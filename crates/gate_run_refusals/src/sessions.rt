@@ -33,7 +33,7 @@ pub(crate) fn run<R: AllocGlobal + Wait>(rt: &R, log: &mut Log) -> Result<(), El
     let config = config_of(log, alloc, WHOLE)?;
     let board = board_of(log, alloc, &config)?;
     tell_status(log, alloc, &config, &board)?;
-    talk_all(rt, log, &config, &Mutex::new(board))
+    open_and_talk(rt, log, &config, &Mutex::new(board))
 }
 
 fn board_of(log: &mut Log, alloc: Global, config: &Config) -> Result<Board, Elsewhere> {
@@ -63,15 +63,27 @@ fn tell_status(
     Ok(())
 }
 
-fn talk_all<R: AllocGlobal + Wait>(
+fn open_and_talk<R: AllocGlobal + Wait>(
     rt: &R,
     log: &mut Log,
     config: &Config,
     board: &Mutex<Board>,
 ) -> Result<(), Elsewhere> {
     let (mut posts, _inbox) = opened(log, rt.alloc(), config)?;
+    talk_all(rt, log, config, board, &mut posts)
+}
+
+fn talk_all<R: AllocGlobal + Wait>(
+    rt: &R,
+    log: &mut Log,
+    config: &Config,
+    board: &Mutex<Board>,
+    posts: &mut Posts,
+) -> Result<(), Elsewhere>
+    requires { ArePostsFor config.now posts.old }
+{
     for line in LINES {
-        talk(rt, log, config, board, &mut posts, line)?;
+        talk(rt, log, config, board, posts, line)?;
     }
     Ok(())
 }
