@@ -1,6 +1,9 @@
+pub mod Bytes
 pub mod Categories
+pub mod EventBytes
 pub mod Fitting
 pub mod Found
+pub mod JsonBytes
 pub mod JsonOf
 pub mod Kept
 pub mod LineExamples

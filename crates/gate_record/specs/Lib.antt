@@ -1,5 +1,7 @@
 pub mod Approvals
+pub mod Bytes
 pub mod Characters
+pub mod EachOnce
 pub mod Entries
 pub mod Events
 pub mod Inner

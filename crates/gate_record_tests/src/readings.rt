@@ -6,6 +6,18 @@ use gate_test_lines::comes_to;
 use std::alloc::{AllocError, Global};
 use std::test::Fail;
 
+const PATCH_SET: &str =
+    r#"{"type":"patchset-created","change":{"project":"demo","branch":"master","number":7},"patchSet":{"number":1}}"#;
+
+#[test]
+fn the_front_of_a_record_is_no_json(rt: HostRuntime) -> Result<(), Fail> {
+    let line = PATCH_SET.as_bytes();
+    for end in 0..line.len() {
+        check(rt.alloc(), &line[..end], "nothing NotJson\n")?;
+    }
+    Ok(())
+}
+
 #[test]
 fn reads_records_by_their_form(rt: HostRuntime) -> Result<(), Fail> {
     let script = r#"
