@@ -11,7 +11,8 @@ use Rattle.std.proofs.lemmas.Map.Keys.{IsDistinct-push}
 use Rattle.std.proofs.lemmas.Slice.Eq.{bytes_eq-Decides}
 use Rattle.indexmap.specs.IndexSet.{insert_key, insert_all}
 use Rattle.gate_record.specs.declared.event.Event.{Event}
-use Rattle.gate_intern.specs.Columns.{field_of, each_once, is_same_vote, number_in, texts_of}
+use Rattle.gate_record.specs.EachOnce.{each_once}
+use Rattle.gate_intern.specs.Columns.{field_of, is_same_vote, number_in, texts_of}
 use Rattle.gate_intern.specs.GivenBack.{FieldsComeBack, TextsAreDistinct, ApprovalsAreDistinct, ZeroIsMissing, named}
 use Rattle.gate_intern.proofs.Numbered.{AreIn, IsIn, all_in}
 

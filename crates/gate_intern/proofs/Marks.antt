@@ -11,7 +11,7 @@ use Rattle.std.proofs.lemmas.List.FromFn.{length-range_with_len}
 use Rattle.gate_record.specs.declared.event.Event.{Event}
 use Rattle.gate_lanes.specs.Masks.{is_among, is_in_row, mark_if}
 use Rattle.gate_intern.specs.Columns.{approval_cells_of, approvals_of, field_of, is_same_vote, number_in, slots_of, texts_of}
-use Rattle.gate_intern.specs.Marks.{ApprovalsMarkTheirEvents, TextsMarkTheirEvents, numbers_where, passes}
+use Rattle.gate_intern.specs.Marks.{ApprovalsMarkTheirEvents, TextsMarkTheirEvents, numbers_from, numbers_where, passes}
 use Rattle.gate_intern.proofs.GivenBack.{alike_by, found_at, same_vote}
 use Rattle.gate_intern.proofs.Numbered.{AreIn, IsIn, all_in}
 use Rattle.gate_intern.proofs.Rows.{cell_is, enough, inside, vote_is_in}
@@ -28,35 +28,32 @@ other_number_above n m l = grind (arith, nat_tests)
 
 -- ---- numbers of texts
 
-abbrev from : {A : Type 0} → ℕ → (A → Bool) → List A → List ℕ
-from n test keys = map (λ entry. entry.0) (filter (λ entry. test entry.1) (enumerate_from n keys))
-
-not_below : {A : Type 0} (test : A → Bool) (keys : List A) (n q : ℕ) → q < n → list_any (λ id. q == id) (from n test keys) ≡ false
+not_below : {A : Type 0} (test : A → Bool) (keys : List A) (n q : ℕ) → q < n → list_any (λ id. q == id) (numbers_from n test keys) ≡ false
 not_below test [] n q l = refl
 not_below {A} test (x ∷ keys) n q l = by (test x) (not_below test keys (n + 1) q (omega arith))
   where
-    by : (b : Bool) → list_any (λ id. q == id) (from (n + 1) test keys) ≡ false → list_any (λ id. q == id) (map (λ (entry : ℕ × A). entry.0) (cond b ((n, x) ∷ filter (λ entry. test entry.1) (enumerate_from (n + 1) keys)) (filter (λ entry. test entry.1) (enumerate_from (n + 1) keys)))) ≡ false
-    by true rest = ap (λ b. b || list_any (λ id. q == id) (from (n + 1) test keys)) (other_number q n l) ∙ rest
+    by : (b : Bool) → list_any (λ id. q == id) (numbers_from (n + 1) test keys) ≡ false → list_any (λ id. q == id) (map (λ (entry : ℕ × A). entry.0) (cond b ((n, x) ∷ filter (λ entry. test entry.1) (enumerate_from (n + 1) keys)) (filter (λ entry. test entry.1) (enumerate_from (n + 1) keys)))) ≡ false
+    by true rest = ap (λ b. b || list_any (λ id. q == id) (numbers_from (n + 1) test keys)) (other_number q n l) ∙ rest
     by false rest = rest
 
-among : {A : Type 0} (test : A → Bool) (keys : List A) (n p q : ℕ) → q ≡ n + p → list_any (λ id. q == id) (from n test keys) ≡ passes test (slice_get keys p)
+among : {A : Type 0} (test : A → Bool) (keys : List A) (n p q : ℕ) → q ≡ n + p → list_any (λ id. q == id) (numbers_from n test keys) ≡ passes test (slice_get keys p)
 among test [] n p q e = refl
 among {A} test (x ∷ keys) n zero q e = by (test x)
   where
-    rest : list_any (λ id. q == id) (from (n + 1) test keys) ≡ false
+    rest : list_any (λ id. q == id) (numbers_from (n + 1) test keys) ≡ false
     rest = not_below test keys (n + 1) q (omega arith)
 
     by : (b : Bool) → list_any (λ id. q == id) (map (λ (entry : ℕ × A). entry.0) (cond b ((n, x) ∷ filter (λ entry. test entry.1) (enumerate_from (n + 1) keys)) (filter (λ entry. test entry.1) (enumerate_from (n + 1) keys)))) ≡ b
     by true =
         let is : q ≡ n = omega arith in
-        ap (λ b. b || list_any (λ id. q == id) (from (n + 1) test keys)) (same_number q n is)
+        ap (λ b. b || list_any (λ id. q == id) (numbers_from (n + 1) test keys)) (same_number q n is)
     by false = rest
 among {A} test (x ∷ keys) n (suc p) q e = by (test x) (among test keys (n + 1) p q (omega arith))
   where
-    by : (b : Bool) → list_any (λ id. q == id) (from (n + 1) test keys) ≡ passes test (slice_get keys p) → list_any (λ id. q == id) (map (λ (entry : ℕ × A). entry.0) (cond b ((n, x) ∷ filter (λ entry. test entry.1) (enumerate_from (n + 1) keys)) (filter (λ entry. test entry.1) (enumerate_from (n + 1) keys)))) ≡ passes test (slice_get keys p)
+    by : (b : Bool) → list_any (λ id. q == id) (numbers_from (n + 1) test keys) ≡ passes test (slice_get keys p) → list_any (λ id. q == id) (map (λ (entry : ℕ × A). entry.0) (cond b ((n, x) ∷ filter (λ entry. test entry.1) (enumerate_from (n + 1) keys)) (filter (λ entry. test entry.1) (enumerate_from (n + 1) keys)))) ≡ passes test (slice_get keys p)
     by true rest =
         let above : n < q = omega arith in
-        ap (λ b. b || list_any (λ id. q == id) (from (n + 1) test keys)) (other_number_above q n above) ∙ rest
+        ap (λ b. b || list_any (λ id. q == id) (numbers_from (n + 1) test keys)) (other_number_above q n above) ∙ rest
     by false rest = rest
 
 marked : {A : Type 0} (same : A → A → Bool) → ((x y : A) → Decides (same x y) (x ≡ y)) → (test : A → Bool) (keys : List A) (o : Option A) → IsIn same keys o → is_among (numbers_where test keys) (number_in same keys o) ≡ passes test o

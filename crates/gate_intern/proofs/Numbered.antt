@@ -7,7 +7,8 @@ use Rattle.std.proofs.lemmas.List.Elements.{filter_map-append}
 use Rattle.std.proofs.lemmas.List.Folds.{list_any-append}
 use Rattle.std.proofs.lemmas.List.Sums.{fold-append}
 use Rattle.indexmap.specs.IndexSet.{insert_key, insert_all}
-use Rattle.gate_intern.specs.Columns.{each_once, number_in}
+use Rattle.gate_record.specs.EachOnce.{each_once}
+use Rattle.gate_intern.specs.Columns.{number_in}
 
 -- ---- one key more
 

@@ -3,16 +3,12 @@ use Rattle.std.specs.Prelude.{◌+◌, ◌&&◌, ℕ, ℤ, max, List, [], ◌∷
 use Rattle.std.specs.List.{filter_map, position_or_len, range_with_len}
 use Rattle.std.specs.Ordering.{int_eq}
 use Rattle.std.specs.Str.{bytes_eq}
-use Rattle.indexmap.specs.IndexSet.{insert_all}
 use Rattle.gate_record.specs.declared.event.Event.{Event}
+use Rattle.gate_record.specs.EachOnce.{each_once}
 use Rattle.gate_record.specs.Events.{is_delete}
 use Rattle.gate_lanes.specs.Masks.{mark_if}
 use Rattle.gate_intern.specs.declared.field.Field.{Field}
 use Rattle.gate_intern.specs.declared.field.Field.TheVariants.{Kind, Project, Branch, Refname, Username, Email, Comment}
-
--- each value once, in order of first appearance: what is in a set that keeps its order, once they were put there in turn
-abbrev pub each_once : {A : Type 0} → (A → A → Bool) → List A → List A
-each_once same values = insert_all same [] values
 
 -- the number of a key: one more than its place among the keys, and 0 where there is none
 abbrev pub number_in : {A : Type 0} → (A → A → Bool) → List A → Option A → ℕ

@@ -6,9 +6,13 @@ use Rattle.gate_lanes.specs.Masks.{mark_if, marked_any, marked_slots}
 use Rattle.gate_intern.specs.Columns.{approval_cells_of, approvals_of, column_of, field_of, is_same_vote, number_in, texts_of}
 use Rattle.gate_intern.specs.declared.field.Field.{Field}
 
--- the numbers of the keys that pass a test
+-- the numbers of the keys that pass a test, where the first key has this number
+abbrev pub numbers_from : {A : Type 0} → ℕ → (A → Bool) → List A → List ℕ
+numbers_from n test keys = map (λ entry. entry.0) (filter (λ entry. test entry.1) (enumerate_from n keys))
+
+-- in a column the first key is 1, since 0 stands for none
 abbrev pub numbers_where : {A : Type 0} → (A → Bool) → List A → List ℕ
-numbers_where test keys = map (λ entry. entry.0) (filter (λ entry. test entry.1) (enumerate_from 1 keys))
+numbers_where test keys = numbers_from 1 test keys
 
 -- what is there passes the test
 abbrev pub passes : {A : Type 0} → (A → Bool) → Option A → Bool

@@ -87,7 +87,7 @@ impl<'e> Approvals<'e> {
     }
 
     // The number of an approval, and 0 of none.
-    fn number(&self, approval: Option<&(Text, i64)>) -> Result<u32, Memory>
+    pub(crate) fn number(&self, approval: Option<&(Text, i64)>) -> Result<u32, Memory>
         ensures { IfOk result (λ n. n ≡ number_in is_same_vote self.now (option_copied approval.entry)) }
     {
         let Some(approval) = approval else {

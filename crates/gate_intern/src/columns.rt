@@ -1,12 +1,12 @@
-ghost use Rattle.std.specs.Prelude.{◌≡◌, ◌≤◌, ◌%◌, length, map, IfOk};
-ghost use Rattle.gate_intern.specs.Columns.{approval_cells_of, approvals_of, column_at, column_of, columns_of, deletes_of, texts_of};
+ghost use Rattle.std.specs.Prelude.{◌≡◌, ◌≤◌, ◌%◌, length, map, IfOk, Some};
+ghost use Rattle.gate_intern.specs.Columns.{approval_cells_of, approvals_of, column_at, column_of, columns_of, deletes_of, is_same_vote, number_in, texts_of};
 ghost use Rattle.gate_intern.specs.Limits.{most_rows};
 
 use crate::approvals::Approvals;
 use crate::column::Column;
 use crate::field::{FIELDS, Field};
 use gate_lanes::MARKED;
-use gate_record::{Event, Memory, Sequence, Shared};
+use gate_record::{Event, Memory, Sequence, Shared, Text};
 use std::alloc::Global;
 use std::marker::Model;
 
@@ -109,6 +109,14 @@ impl<'e> Columns<'e> {
         ensures { map (λ vote. (vote.0.now, vote.1)) result.now ≡ approvals_of self.now }
     {
         self.approvals.votes()
+    }
+
+    /// The number that an approval has in the cells: one more than its place in `approvals`, and one that stands in no cell where
+    /// no event has it. `Memory` where there are too many approvals to be counted.
+    pub fn approval_number(&self, approval: &(Text, i64)) -> Result<u32, Memory>
+        ensures { IfOk result (λ number. number ≡ number_in is_same_vote (approvals_of self.now) (Some approval.now)) }
+    {
+        self.approvals.number(Some(approval))
     }
 
     /// The numbers of the events' approvals, slot after slot, `rows` words each: the cell of event `i` in slot `s` is

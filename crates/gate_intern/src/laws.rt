@@ -1,5 +1,13 @@
+ghost use Rattle.std.specs.Prelude.{◌≡◌};
 ghost use Rattle.gate_intern.specs.GivenBack.{ApprovalsAreDistinct, ApprovalsComeBack, FieldsComeBack, TextsAreDistinct, ZeroIsMissing};
+ghost use Rattle.gate_intern.specs.Limits.{most_rows};
 ghost use Rattle.gate_intern.specs.Marks.{ApprovalsMarkTheirEvents, TextsMarkTheirEvents};
+ghost use Rattle.gate_intern.specs.declared.columns.TheConstants.{MAX_ROWS};
+
+/// The constant is the number that definitions name.
+pub fn the_limit_is_as_defined()
+    ensures { MAX_ROWS ≡ most_rows }
+{}
 
 /// The texts that a column's numbers stand for are the field's in each event, and what stands for none is where it is missing.
 #[tactic(auto, using(crate::proofs::GivenBack::fields_come_back))]

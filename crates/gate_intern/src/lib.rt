@@ -15,5 +15,6 @@ pub use columns::{Columns, MAX_ROWS};
 pub use field::Field;
 pub use laws::{
     approvals_are_distinct, approvals_mark_their_events, cells_give_approvals_back,
-    columns_give_fields_back, texts_are_distinct, texts_mark_their_events, zero_is_a_missing_field,
+    columns_give_fields_back, texts_are_distinct, texts_mark_their_events, the_limit_is_as_defined,
+    zero_is_a_missing_field,
 };

@@ -1,8 +1,12 @@
 -- Masks of columns: a word for each row, all ones where the row is marked, and 0 where it isn't.
-use Rattle.std.specs.Prelude.{◌==◌, ◌+◌, ◌*◌, ◌/◌, ℕ, List, map, length, slice_index, count_by, Bool, if◌then◌else◌, bit_and, bit_or}
+use Rattle.std.specs.Prelude.{◌==◌, ◌+◌, ◌-◌, ◌*◌, ◌/◌, ◌^◌, ℕ, List, map, length, slice_index, count_by, Bool, if◌then◌else◌, bit_and, bit_or}
 use Rattle.std.specs.List.{list_any, range_with_len}
 use Rattle.std.specs.Simd.Lanes.{zip2}
 use Rattle.gate_lanes.specs.declared.TheConstants.{MARKED}
+
+-- a word of 32 bits, each of them a one
+abbrev pub all_ones : ℕ
+all_ones = 2 ^ 32 - 1
 
 -- the word of a row that is marked, or not
 abbrev pub mark_if : Bool → ℕ

@@ -8,11 +8,13 @@ mod counting;
 mod groups;
 mod ids;
 mod joining;
+mod laws;
 mod slots;
 
 pub use counting::count;
 pub use ids::mark_any;
 pub use joining::{and_into, clear_where, or_into};
+pub use laws::a_marked_word_is_all_ones;
 pub use slots::mark_slots;
 
 /// The word of a row that is marked.
