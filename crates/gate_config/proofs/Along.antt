@@ -3,10 +3,10 @@ use Rattle.std.proofs.Common.{◌≡◌, ◌∙◌, ◌+◌, ◌<◌, ◌≤◌,
 use Rattle.std.proofs.lemmas.List.{map-append, take_all}
 use Rattle.gate_config.specs.declared.fault.ConfigFault.{ConfigFault}
 use Rattle.serde_json.specs.Data.{Data}
-use Rattle.gate_config.specs.declared.document.Entry.{Entry}
+use Rattle.gate_config.specs.declared.document.Found.{Found}
 use Rattle.gate_config.specs.Checks.{along, along_from, source_checks, tenant_checks}
 use Rattle.gate_config.specs.Document.{names_in, sources_of, tenant_of}
-use Rattle.gate_config.specs.Inner.Entry.{entry_view, key_view}
+use Rattle.gate_config.specs.Inner.Found.{found_view, key_view}
 use Rattle.gate_config.specs.Faults.{Check}
 use Rattle.gate_config.specs.Inner.Faults.{HasPassed, HasFault}
 use Rattle.gate_config.specs.Names.{with_name, with_names}
@@ -80,22 +80,22 @@ module _ {known : List (List ℕ)} {place : List ℕ} {sources : Option Data} {k
   sources_all {i} h s = (along_all h s.tested, s.says ∙ ap (λ ks. with_names known (map key_view ks)) (take_all i keys h))
 
 -- the first i entries pass, and these are the names of their connections
-pub record TenantsSoFar (entries : List Entry) (i : ℕ) (names : List (List ℕ)) : Type 0 where
-  pub tested : AlongSoFar tenant_checks entry_view entries i
-  pub says : names ≡ names_in (map entry_view (take i entries))
+pub record TenantsSoFar (entries : List Found) (i : ℕ) (names : List (List ℕ)) : Type 0 where
+  pub tested : AlongSoFar tenant_checks found_view entries i
+  pub says : names ≡ names_in (map found_view (take i entries))
 
-module _ {entries : List Entry} where
+module _ {entries : List Found} where
   pub tenants_none : TenantsSoFar entries 0 []
   tenants_none = record { tested = along_none; says = refl }
 
-  pub tenants_more : {i : ℕ} {names next : List (List ℕ)} (entry : Entry) → i < length entries → entry ≡ get_or entries i entry → TenantsSoFar entries i names → HasPassed (tenant_checks (map entry_view (take i entries)) (entry_view entry)) → next ≡ with_names names (sources_of (tenant_of (entry_view entry).1)) → TenantsSoFar entries (i + 1) next
+  pub tenants_more : {i : ℕ} {names next : List (List ℕ)} (entry : Found) → i < length entries → entry ≡ get_or entries i entry → TenantsSoFar entries i names → HasPassed (tenant_checks (map found_view (take i entries)) (found_view entry)) → next ≡ with_names names (sources_of (tenant_of (found_view entry).1)) → TenantsSoFar entries (i + 1) next
   tenants_more {i} {names} entry h e t p n = record {
     tested = along_more entry h e t.tested p;
-    says = n ∙ names_more (λ (entry : ℕ × Data). sources_of (tenant_of entry.1)) entry_view [] names entries i entry h e t.says;
+    says = n ∙ names_more (λ (entry : ℕ × Data). sources_of (tenant_of entry.1)) found_view [] names entries i entry h e t.says;
   }
 
-  pub tenants_all : {i : ℕ} {names : List (List ℕ)} → length entries ≤ i → TenantsSoFar entries i names → HasPassed (along tenant_checks (map entry_view entries)) × (names ≡ names_in (map entry_view entries))
-  tenants_all {i} h t = (along_all h t.tested, t.says ∙ ap (λ es. names_in (map entry_view es)) (take_all i entries h))
+  pub tenants_all : {i : ℕ} {names : List (List ℕ)} → length entries ≤ i → TenantsSoFar entries i names → HasPassed (along tenant_checks (map found_view entries)) × (names ≡ names_in (map found_view entries))
+  tenants_all {i} h t = (along_all h t.tested, t.says ∙ ap (λ es. names_in (map found_view es)) (take_all i entries h))
 
 -- the first i items pass, and what was read of them has these texts
 pub record ReadAlong {X A T B : Type 0} (checks : List A → A → List Check) (v : X → A) (texts : T → B) (gives : A → B) (items : List X) (i : ℕ) (out : List T) : Type 0 where

@@ -17,7 +17,7 @@ use Rattle.gate_rule.specs.declared.rule.Rule.{Rule}
 use Rattle.gate_config.specs.Inner.Attributes.{unlisted, with_attribute}
 use Rattle.gate_config.specs.Checks.{attribute_checks}
 use Rattle.gate_config.specs.Document.{RuleTexts, flag, pattern_texts, rule_texts, votes}
-use Rattle.gate_config.specs.Inner.Entry.{key_view}
+use Rattle.gate_config.specs.Inner.Found.{key_view}
 use Rattle.gate_config.specs.Inner.Faults.{HasPassed}
 use Rattle.gate_config.specs.Parts.{keys_in, keys_of, optional, unless_null}
 use Rattle.gate_config.specs.Texts.{texts_of_rule}

@@ -1,21 +1,20 @@
 -- Lists of names, each once.
-use Rattle.std.proofs.Common.{◌≡◌, ◌∙◌, ◌+◌, ◌<◌, ℕ, List, [], ◌∷◌, ◌++◌, Bool, true, false, cond, Option, Some, None, Result, Ok, Err, map, length, get_or, take, refl, sym, ap, append_assoc, option_to_list}
-use Rattle.std.specs.Prelude.{◌||◌, not, unwrap_or}
+use Rattle.std.proofs.Common.{◌≡◌, ◌∙◌, ◌==◌, arith, ◌+◌, ◌<◌, ℕ, List, [], ◌∷◌, ◌++◌, Bool, true, false, cond, Option, Some, None, Result, Ok, Err, map, length, get_or, take, refl, sym, ap, option_to_list}
+use Rattle.std.specs.Prelude.{◌||◌, unwrap_or}
 use Rattle.std.specs.Result.{OnOk}
-use Rattle.std.specs.List.{filter, filter_map, flat_map, list_any}
+use Rattle.std.specs.List.{filter_map, flat_map, list_any}
 use Rattle.std.specs.Str.{bytes_eq}
 use Rattle.std.proofs.lemmas.Grind.{flat_map-append}
 use Rattle.std.proofs.lemmas.List.{append-nil}
-use Rattle.std.proofs.lemmas.List.Elements.{filter-append}
 use Rattle.std.proofs.lemmas.List.Folds.{list_any-append}
 use Rattle.std.proofs.lemmas.Slice.Eq.{bytes_eq-Decides}
 use Rattle.serde_json.specs.View.{view}
 use Rattle.serde_json.specs.declared.value.Value.{Value}
+use Rattle.gate_record.specs.EachOnce.{each_once}
 use Rattle.gate_config.proofs.Attributes.{same_bytes}
 use Rattle.gate_config.proofs.Each.{map_more}
 use Rattle.gate_config.proofs.Picked.{filter_map_more}
 use Rattle.gate_config.specs.Document.{name_in}
-use Rattle.gate_config.specs.Jobs.{firsts}
 use Rattle.gate_config.specs.Inner.Jobs.{with_job, with_jobs}
 
 -- ---- one more name
@@ -33,44 +32,7 @@ one_more names job name =
     ∙ ap (λ b. list_any (bytes_eq name) names || (b || false)) (same_bytes job name)
     ∙ sym (list_any-append (bytes_eq name) names (job ∷ []))
 
--- the names other than y
-abbrev others : List ℕ → List (List ℕ) → List (List ℕ)
-others y names = filter (λ other. not (bytes_eq y other)) names
-
-found_by : (x y z : List ℕ) (zs : List (List ℕ)) (b : Bool) → bytes_eq y z ≡ b → bytes_eq x y ≡ false → list_any (bytes_eq x) (others y zs) ≡ list_any (bytes_eq x) zs → list_any (bytes_eq x) (cond (not b) (z ∷ others y zs) (others y zs)) ≡ (bytes_eq x z || list_any (bytes_eq x) zs)
-found_by x y z zs true same differs rest =
-    rest ∙ ap (λ b. b || list_any (bytes_eq x) zs) (sym (ap (bytes_eq x) (sym ((bytes_eq-Decides y z).0 same)) ∙ differs))
-found_by x y z zs false same differs rest = ap (λ b. bytes_eq x z || b) rest
-
--- another name than y is found among the others as before
-found : (x y : List ℕ) (zs : List (List ℕ)) → bytes_eq x y ≡ false → list_any (bytes_eq x) (others y zs) ≡ list_any (bytes_eq x) zs
-found x y [] e = refl
-found x y (z ∷ zs) e = found_by x y z zs (bytes_eq y z) refl e (found x y zs e)
-
-others_more : (x y : List ℕ) (names : List (List ℕ)) (b : Bool) → bytes_eq x y ≡ b → others y (names ++ x ∷ []) ≡ others y names ++ cond (not b) (x ∷ []) []
-others_more x y names b e =
-    filter-append (λ other. not (bytes_eq y other)) names (x ∷ [])
-    ∙ ap (λ c. others y names ++ cond (not c) (x ∷ []) []) (same_bytes y x ∙ e)
-
-step : (x y : List ℕ) (names : List (List ℕ)) (b m : Bool) → bytes_eq x y ≡ b → list_any (bytes_eq x) names ≡ m → y ∷ others y (cond m names (names ++ x ∷ [])) ≡ cond (b || list_any (bytes_eq x) (others y names)) (y ∷ others y names) (y ∷ (others y names ++ x ∷ []))
-step x y names true true e f = refl
-step x y names true false e f = ap (λ rest. y ∷ rest) (others_more x y names true e ∙ append-nil (others y names))
-step x y names false true e f = sym (ap (λ c. cond c (y ∷ others y names) (y ∷ (others y names ++ x ∷ []))) (found x y names e ∙ f))
-step x y names false false e f =
-    ap (λ rest. y ∷ rest) (others_more x y names false e)
-    ∙ sym (ap (λ c. cond c (y ∷ others y names) (y ∷ (others y names ++ x ∷ []))) (found x y names e ∙ f))
-
-firsts_more : (xs : List (List ℕ)) (x : List ℕ) → firsts (xs ++ x ∷ []) ≡ with_job (firsts xs) x
-firsts_more [] x = refl
-firsts_more (y ∷ xs) x =
-    ap (λ rest. y ∷ others y rest) (firsts_more xs x) ∙ step x y (firsts xs) (bytes_eq x y) (list_any (bytes_eq x) (firsts xs)) refl refl
-
 -- ---- several more names
-
-firsts-append : (xs ys : List (List ℕ)) → firsts (xs ++ ys) ≡ with_jobs (firsts xs) ys
-firsts-append xs [] = ap firsts (append-nil xs)
-firsts-append xs (y ∷ ys) =
-    ap firsts (sym (append_assoc xs (y ∷ []) ys)) ∙ firsts-append (xs ++ y ∷ []) ys ∙ ap (λ names. with_jobs names ys) (firsts_more xs y)
 
 with_jobs-append : (names xs ys : List (List ℕ)) → with_jobs names (xs ++ ys) ≡ with_jobs (with_jobs names xs) ys
 with_jobs-append names [] ys = refl
@@ -91,11 +53,11 @@ pub job_none : (items : List Value) (i : ℕ) (x : Value) (start before : List (
 job_none items i x start before l e so_far n = so_far ∙ named items i x start None l e n
 
 -- one more stanza
-pub stanza_more : {X A : Type 0} (jobs : A → List (List ℕ)) (v : X → A) (items : List X) (i : ℕ) (x : X) (before after : List (List ℕ)) → i < length items → x ≡ get_or items i x → before ≡ firsts (flat_map jobs (map v (take i items))) → after ≡ with_jobs before (jobs (v x)) → after ≡ firsts (flat_map jobs (map v (take (i + 1) items)))
+pub stanza_more : {X A : Type 0} (jobs : A → List (List ℕ)) (v : X → A) (items : List X) (i : ℕ) (x : X) (before after : List (List ℕ)) → i < length items → x ≡ get_or items i x → before ≡ each_once bytes_eq (flat_map jobs (map v (take i items))) → after ≡ with_jobs before (jobs (v x)) → after ≡ each_once bytes_eq (flat_map jobs (map v (take (i + 1) items)))
 stanza_more jobs v items i x before after l e so_far added =
     added ∙ ap (λ names. with_jobs names (jobs (v x))) so_far
-    ∙ sym (firsts-append (flat_map jobs (map v (take i items))) (jobs (v x)))
-    ∙ ap firsts (sym (ap (flat_map jobs) (map_more v items i x l e) ∙ flat_map-append jobs (map v (take i items)) (v x ∷ [])
+    ∙ sym (with_jobs-append [] (flat_map jobs (map v (take i items))) (jobs (v x)))
+    ∙ ap (each_once bytes_eq) (sym (ap (flat_map jobs) (map_more v items i x l e) ∙ flat_map-append jobs (map v (take i items)) (v x ∷ [])
     ∙ ap (λ rest. flat_map jobs (map v (take i items)) ++ rest) (append-nil (jobs (v x)))))
 
 -- ---- the jobs of projects
@@ -103,6 +65,12 @@ stanza_more jobs v items i x before after l e so_far added =
 added_by : (at : List ℕ → Option (List (List ℕ))) (project other : List ℕ) (names list : List (List ℕ)) (b : Bool) → bytes_eq project other ≡ b → list ≡ with_jobs (unwrap_or (at project) []) names → unwrap_or (cond b (Some list) (at other)) [] ≡ with_jobs (unwrap_or (at other) []) (cond b names [])
 added_by at project other names list true e h = h ∙ ap (λ p. with_jobs (unwrap_or (at p) []) names) ((bytes_eq-Decides project other).0 e)
 added_by at project other names list false e h = refl
+
+-- no names are added to any list
+pub none_added : (items : List Value) (names : List (List ℕ)) (b : Bool) → (length items == 0) ≡ true → names ≡ with_jobs names (cond b (filter_map name_in (map view items)) [])
+none_added [] names true e = refl
+none_added [] names false e = refl
+none_added (x ∷ items) names b e = absurd (grind (arith, e))
 
 -- the list of one project is changed, by one more names
 pub added : (at next : List ℕ → Option (List (List ℕ))) (project : List ℕ) (names list : List (List ℕ)) → ((other : List ℕ) → next other ≡ cond (bytes_eq project other) (Some list) (at other)) → list ≡ with_jobs (unwrap_or (at project) []) names → (other : List ℕ) → unwrap_or (next other) [] ≡ with_jobs (unwrap_or (at other) []) (cond (bytes_eq project other) names [])

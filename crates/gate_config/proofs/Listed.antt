@@ -6,10 +6,10 @@ use Rattle.std.specs.Str.{bytes_eq}
 use Rattle.serde_json.specs.Data.{Data}
 use Rattle.serde_json.specs.View.{view}
 use Rattle.serde_json.specs.declared.value.Value.{Value}
-use Rattle.gate_config.specs.declared.document.Entry.{Entry}
+use Rattle.gate_config.specs.declared.document.Found.{Found}
 use Rattle.gate_config.specs.Checks.{is_named, is_nameless, is_taken}
 use Rattle.gate_config.specs.Document.{name_of, tenant_name}
-use Rattle.gate_config.specs.Inner.Entry.{entry_view}
+use Rattle.gate_config.specs.Inner.Found.{found_view}
 use Rattle.gate_config.specs.Names.{with_name, with_names}
 use Rattle.gate_config.proofs.Each.{map_more}
 use Rattle.gate_config.proofs.Picked.{filter_map_more}
@@ -46,8 +46,8 @@ any_seen test v (x ∷ xs) = ap (λ b. test (v x) || b) (any_seen test v xs)
 pub nameless_seen : (items : List Value) → list_any (λ item. is_nameless (view item)) items ≡ list_any is_nameless (map view items)
 nameless_seen items = any_seen is_nameless view items
 
-pub taken_seen : (entries : List Entry) (name : List ℕ) → list_any (λ (entry : Entry). bytes_eq (tenant_name (view entry.value.now)) name) entries ≡ is_taken (map entry_view entries) name
-taken_seen entries name = any_seen (λ (entry : ℕ × Data). bytes_eq (tenant_name entry.1) name) entry_view entries
+pub taken_seen : (entries : List Found) (name : List ℕ) → list_any (λ (entry : Found). bytes_eq (tenant_name (view entry.value.now)) name) entries ≡ is_taken (map found_view entries) name
+taken_seen entries name = any_seen (λ (entry : ℕ × Data). bytes_eq (tenant_name entry.1) name) found_view entries
 
-pub named_seen : (entries : List Entry) (name : List ℕ) → list_any (λ (entry : Entry). bytes_eq (name_of (view entry.value.now)) name) entries ≡ is_named (map entry_view entries) name
-named_seen entries name = any_seen (λ (entry : ℕ × Data). bytes_eq (name_of entry.1) name) entry_view entries
+pub named_seen : (entries : List Found) (name : List ℕ) → list_any (λ (entry : Found). bytes_eq (name_of (view entry.value.now)) name) entries ≡ is_named (map found_view entries) name
+named_seen entries name = any_seen (λ (entry : ℕ × Data). bytes_eq (name_of entry.1) name) found_view entries

@@ -1,15 +1,13 @@
 -- Loops that pick some of the items of a list.
-use Rattle.std.proofs.Common.{◌≡◌, ◌∙◌, ◌+◌, ◌<◌, ℕ, List, [], ◌∷◌, ◌++◌, true, false, cond, Option, Some, None, map, length, get_or, take, refl, sym, ap, arith, append_assoc, add-zero, zero-add, option_map, option_to_list}
+use Rattle.std.proofs.Common.{◌≡◌, ◌∙◌, ◌+◌, ◌<◌, ℕ, List, [], ◌∷◌, ◌++◌, true, false, cond, Option, Some, None, map, length, get_or, take, refl, sym, ap, arith, add-zero, zero-add, option_map, option_to_list}
 use Rattle.std.specs.List.{filter_map, cons_option, enumerate_from}
 use Rattle.std.proofs.lemmas.List.{append-nil, map-append}
 use Rattle.serde_json.specs.Data.{Data}
-use Rattle.serde_json.specs.Find.{as_str}
 use Rattle.serde_json.specs.View.{view}
 use Rattle.serde_json.specs.declared.value.Value.{Value}
-use Rattle.gate_config.specs.declared.document.Entry.{Entry}
+use Rattle.gate_config.specs.declared.document.Found.{Found}
 use Rattle.gate_config.specs.Document.{is_ignored, picked, tenant_at}
-use Rattle.gate_config.specs.Inner.Entry.{entry_view}
-use Rattle.gate_config.specs.Parts.{texts_in}
+use Rattle.gate_config.specs.Inner.Found.{found_view}
 use Rattle.gate_config.proofs.Each.{map_more, count}
 
 cons_option-append : {A : Type 0} (o : Option A) (xs ys : List A) → cons_option o (xs ++ ys) ≡ cons_option o xs ++ ys
@@ -44,15 +42,15 @@ more : (pick : Data → Option Data) (items : List Value) (i : ℕ) (x : Value) 
 more pick items i x l e = ap (picked pick) (map_more view items i x l e) ∙ one_more pick (map view (take i items)) (view x) i (count view items i l)
 
 -- one more item, of which something is picked
-pub picked_some : (pick : Data → Option Data) (items : List Value) (i : ℕ) (x : Value) (out : List Entry) (entry : Entry) → i < length items → x ≡ get_or items i x → map entry_view out ≡ picked pick (map view (take i items)) → entry.position ≡ i → Some (view entry.value.now) ≡ pick (view x) → map entry_view (out ++ entry ∷ []) ≡ picked pick (map view (take (i + 1) items))
+pub picked_some : (pick : Data → Option Data) (items : List Value) (i : ℕ) (x : Value) (out : List Found) (entry : Found) → i < length items → x ≡ get_or items i x → map found_view out ≡ picked pick (map view (take i items)) → entry.position ≡ i → Some (view entry.value.now) ≡ pick (view x) → map found_view (out ++ entry ∷ []) ≡ picked pick (map view (take (i + 1) items))
 picked_some pick items i x out entry l e so_far at found =
-    map-append entry_view out (entry ∷ []) ∙ ap (λ front. front ++ entry_view entry ∷ []) so_far
+    map-append found_view out (entry ∷ []) ∙ ap (λ front. front ++ found_view entry ∷ []) so_far
     ∙ ap (λ n. picked pick (map view (take i items)) ++ (n, view entry.value.now) ∷ []) at
     ∙ ap (λ o. picked pick (map view (take i items)) ++ option_to_list (option_map (λ (found : Data). (i, found)) o)) found
     ∙ sym (more pick items i x l e)
 
 -- one more item, of which nothing is picked
-pub picked_none : (pick : Data → Option Data) (items : List Value) (i : ℕ) (x : Value) (out : List Entry) → i < length items → x ≡ get_or items i x → map entry_view out ≡ picked pick (map view (take i items)) → None ≡ pick (view x) → map entry_view out ≡ picked pick (map view (take (i + 1) items))
+pub picked_none : (pick : Data → Option Data) (items : List Value) (i : ℕ) (x : Value) (out : List Found) → i < length items → x ≡ get_or items i x → map found_view out ≡ picked pick (map view (take i items)) → None ≡ pick (view x) → map found_view out ≡ picked pick (map view (take (i + 1) items))
 picked_none pick items i x out l e so_far found =
     so_far ∙ sym (append-nil (picked pick (map view (take i items))))
     ∙ ap (λ o. picked pick (map view (take i items)) ++ option_to_list (option_map (λ (found : Data). (i, found)) o)) found
@@ -69,17 +67,3 @@ tenant_ignored entry e = ap (λ b. cond b None (Some entry)) (sym e)
 pub nothing : {A B : Type 0} (f : A → B) (o : Option B) (r : Option A) → option_map f r ≡ o → ((x : A) → r ≡ Some x → ⊥) → None ≡ o
 nothing f o None e h = e
 nothing f o (Some x) e h = absurd (h x refl)
-
--- one more value, which is a text
-pub text_some : (items : List Value) (i : ℕ) (x : Value) (start out : List (List ℕ)) (text copy : List ℕ) → i < length items → x ≡ get_or items i x → out ≡ start ++ texts_in (map view (take i items)) → Some text ≡ as_str (view x) → copy ≡ text → out ++ copy ∷ [] ≡ start ++ texts_in (map view (take (i + 1) items))
-text_some items i x start out text copy l e so_far found same =
-    ap (λ front. front ++ copy ∷ []) so_far ∙ append_assoc start (texts_in (map view (take i items))) (copy ∷ [])
-    ∙ ap (λ t. start ++ (texts_in (map view (take i items)) ++ t ∷ [])) same
-    ∙ ap (λ o. start ++ (texts_in (map view (take i items)) ++ option_to_list o)) found
-    ∙ ap (λ rest. start ++ rest) (sym (filter_map_more as_str view items i x l e))
-
-pub text_none : (items : List Value) (i : ℕ) (x : Value) (start out : List (List ℕ)) → i < length items → x ≡ get_or items i x → out ≡ start ++ texts_in (map view (take i items)) → None ≡ as_str (view x) → out ≡ start ++ texts_in (map view (take (i + 1) items))
-text_none items i x start out l e so_far found =
-    so_far ∙ ap (λ rest. start ++ rest) (sym (append-nil (texts_in (map view (take i items))))
-    ∙ ap (λ o. texts_in (map view (take i items)) ++ option_to_list o) found
-    ∙ sym (filter_map_more as_str view items i x l e))

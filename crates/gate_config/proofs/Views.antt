@@ -4,7 +4,7 @@ use Rattle.serde_json.specs.Data.{Data}
 use Rattle.serde_json.specs.View.{view, items_view, members_view, items_of}
 use Rattle.serde_json.specs.declared.value.Value.{Value}
 use Rattle.gate_config.specs.Document.{only}
-use Rattle.gate_config.specs.Inner.Entry.{key_view}
+use Rattle.gate_config.specs.Inner.Found.{key_view}
 use Rattle.gate_config.specs.Parts.{keys_in}
 use Rattle.gate_record.specs.Json.{items_in}
 

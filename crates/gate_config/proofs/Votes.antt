@@ -8,7 +8,7 @@ use Rattle.serde_json.specs.View.{view}
 use Rattle.serde_json.specs.declared.value.Value.{Value}
 use Rattle.gate_config.specs.Checks.{each, objects_checks, vote_checks, votes_checks}
 use Rattle.gate_config.specs.Document.{vote_at, votes_of}
-use Rattle.gate_config.specs.Inner.Entry.{key_view}
+use Rattle.gate_config.specs.Inner.Found.{key_view}
 use Rattle.gate_config.specs.Inner.Faults.{HasPassed, HasFault}
 use Rattle.gate_config.specs.Places.{nth}
 use Rattle.gate_config.specs.declared.fault.ConfigFault.{ConfigFault}

@@ -3,7 +3,7 @@ use Rattle.std.specs.Prelude.{◌+◌, ℕ, List, [], ◌∷◌, ◌++◌, Bool,
 use Rattle.std.specs.List.{flat_map, list_any, enumerate_from}
 use Rattle.std.specs.Str.{bytes_eq}
 use Rattle.serde_json.specs.Data.{Data, Items}
-use Rattle.serde_json.specs.Find.{get, as_array, as_str}
+use Rattle.serde_json.specs.Find.{get, as_str}
 use Rattle.gate_record.specs.Json.{items_in, json_of}
 use Rattle.gate_config.specs.declared.fault.ConfigFault.TheVariants.{NotJson, Shape, Limit, Manager, Attribute, Repeated}
 use Rattle.gate_config.specs.Document.{tenant_entries, tenant_of, tenant_name, name_of, name_in, group, sources_of, names_in, config_items, pipeline_items, pipeline_names, project_items, is_stanza, job_list, manager_named, vote_at, votes_of}
@@ -95,19 +95,39 @@ tenant_checks before entry = tenant_checks_at before (nth (codes "tenants") entr
 
 -- ---- rules
 
--- a text that is built as a pattern
-abbrev pub text_checks : List ℕ → Option (List ℕ) → List Check
-text_checks place (Some text) = Builds text place ∷ []
-text_checks place None = Asks false (Shape place) ∷ []
+-- the keys of an entry that is an object
+abbrev pub entry_keys : List (List ℕ)
+entry_keys = codes "negate" ∷ codes "regex" ∷ []
 
--- an entry of a list of patterns
+abbrev pub entry_key_checks : List ℕ → List ℕ → List Check
+entry_key_checks here key = Asks (list_any (bytes_eq key) entry_keys) (Shape (below here key)) ∷ []
+
+-- an object, whose keys are taken in byte order, with a text `regex` that is built as a pattern, and perhaps `negate`
+abbrev pub regex_checks : List ℕ → Data → List Check
+regex_checks here value =
+    Asks (is_object value) (Shape here)
+    ∷ (flat_map (entry_key_checks here) (keys_of (Some value))
+    ++ Asks (is_there is_text (get (codes "regex") value)) (Shape (below here (codes "regex")))
+    ∷ Asks (is_fine is_flag (optional (codes "negate") value)) (Shape (below here (codes "negate")))
+    ∷ Builds (text_of_member (codes "regex") value) (below here (codes "regex"))
+    ∷ [])
+
+-- an entry of an attribute of patterns: a text that is built as a pattern, or an object
+abbrev pub text_or_object_checks : List ℕ → Option (List ℕ) → Data → List Check
+text_or_object_checks here (Some text) value = Builds text here ∷ []
+text_or_object_checks here None value = regex_checks here value
+
+abbrev pub entry_checks_at : List ℕ → Data → List Check
+entry_checks_at here value = text_or_object_checks here (as_str value) value
+
+-- an entry of a list, of which at most `most_entries` stand in an attribute
 abbrev pub entry_checks : List ℕ → ℕ → Data → List Check
-entry_checks place position value = Asks (nat_lt position most_entries) (Limit place) ∷ text_checks (nth place position) (as_str value)
+entry_checks place position value = Asks (nat_lt position most_entries) (Limit place) ∷ entry_checks_at (nth place position) value
 
--- the patterns of an attribute: a text or a list of texts, if it is there
+-- an attribute of patterns: an entry or a list of entries, if it is there
 abbrev pub pattern_checks : List ℕ → Option Data → List Check
 pattern_checks place None = []
-pattern_checks place (Some value) = one_or_list (each (entry_checks place)) (λ text. text_checks place (as_str text)) value
+pattern_checks place (Some value) = one_or_list (each (entry_checks place)) (entry_checks_at place) value
 
 -- The vote at a key of an object of approvals: at most `most_entries` stand in an attribute, and it is a number. `rank` votes
 -- stand before it.

@@ -5,13 +5,12 @@ use Rattle.std.specs.Str.{bytes_eq}
 use Rattle.serde_json.specs.Data.{Data, Items}
 use Rattle.serde_json.specs.Find.{get, as_bool, as_str, as_array}
 use Rattle.gate_record.specs.Approvals.{category}
-use Rattle.gate_record.specs.Json.{items_in}
+use Rattle.gate_record.specs.EachOnce.{each_once}
 use Rattle.gate_record.specs.Numbers.{number_of}
 use Rattle.gate_record.specs.declared.ids.ManagerKind.{ManagerKind}
 use Rattle.gate_record.specs.declared.ids.ManagerKind.TheVariants.{Independent, Dependent}
-use Rattle.gate_config.specs.Jobs.{firsts}
 use Rattle.gate_config.specs.Names.{is_among, with_names}
-use Rattle.gate_config.specs.Parts.{by_kind, is_object, is_text, items_of, keys_of, one_or_list, optional, optional_in, text_of_member, texts_in}
+use Rattle.gate_config.specs.Parts.{by_kind, is_object, is_text, items_of, keys_of, one_or_list, optional, optional_in, text_of_member}
 
 -- what is picked of the values, each with the position of the value that it was picked of
 abbrev pub picked : (Data → Option Data) → List Data → List (ℕ × Data)
@@ -102,10 +101,27 @@ manager_named text =
     if bytes_eq text (codes "independent") then Some Independent
     else (if bytes_eq text (codes "dependent") then Some Dependent else None)
 
--- the texts of a pattern attribute: one text, or those of a list
-abbrev pub pattern_texts : Option Data → List (List ℕ)
+-- an entry of an attribute of patterns: the pattern's text, and whether it is negated
+pub record EntryTexts : Type 0 where
+  pub text : List ℕ
+  pub negate : Bool
+
+-- false where it isn't there
+abbrev pub negates : Data → Bool
+negates value = unwrap_or (option_and_then as_bool (optional (codes "negate") value)) false
+
+-- a text, or an object with a text `regex`, and perhaps `negate`
+abbrev pub entry_said : Option (List ℕ) → Data → EntryTexts
+entry_said (Some text) value = record { text = text; negate = false }
+entry_said None value = record { text = text_of_member (codes "regex") value; negate = negates value }
+
+abbrev pub entry_in : Data → EntryTexts
+entry_in value = entry_said (as_str value) value
+
+-- the entries of an attribute of patterns: those of a list, or the one entry
+abbrev pub pattern_texts : Option Data → List EntryTexts
 pattern_texts None = []
-pattern_texts (Some value) = one_or_list texts_in (λ text. option_to_list (as_str text)) value
+pattern_texts (Some value) = one_or_list (map entry_in) (λ one. entry_in one ∷ []) value
 
 -- the vote that an object of approvals asks for at a key
 abbrev pub vote_at : Data → List ℕ → Option (List ℕ × ℤ)
@@ -126,12 +142,12 @@ flag value = unwrap_or (option_and_then as_bool value) true
 
 -- a rule as the document has it, by attribute
 pub record RuleTexts : Type 0 where
-  pub event : List (List ℕ)
-  pub branch : List (List ℕ)
-  pub refname : List (List ℕ)
-  pub username : List (List ℕ)
-  pub email : List (List ℕ)
-  pub comment : List (List ℕ)
+  pub event : List EntryTexts
+  pub branch : List EntryTexts
+  pub refname : List EntryTexts
+  pub username : List EntryTexts
+  pub email : List EntryTexts
+  pub comment : List EntryTexts
   pub approval : List (List ℕ × ℤ)
   pub ignore_deletes : Bool
 
@@ -203,7 +219,7 @@ jobs_for pipeline project stanza =
 
 -- the jobs of a project in a pipeline: those of all its stanzas in order, each once
 abbrev pub jobs_in : List (ℕ × Data) → List ℕ → List ℕ → List (List ℕ)
-jobs_in stanzas pipeline project = firsts (flat_map (λ (entry : ℕ × Data). jobs_for pipeline project entry.1) stanzas)
+jobs_in stanzas pipeline project = each_once bytes_eq (flat_map (λ (entry : ℕ × Data). jobs_for pipeline project entry.1) stanzas)
 
 -- the names of the pipelines among items, in order
 abbrev pub pipeline_names : List Data → List (List ℕ)

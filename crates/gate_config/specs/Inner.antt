@@ -1,7 +1,7 @@
 -- What only private contracts and proofs cite: no public contract rests on it.
 pub mod Attributes
-pub mod Entry
 pub mod Faults
+pub mod Found
 pub mod Jobs
 pub mod Keyed
 pub mod Lookups

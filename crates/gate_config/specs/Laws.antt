@@ -1,12 +1,11 @@
 -- What holds of all configurations that were read.
-use Rattle.std.specs.Prelude.{◌≡◌, ℕ, List, Bool, false, IfSome, is_some, map, option_map, unwrap_or}
+use Rattle.std.specs.Prelude.{◌≡◌, ℕ, List, Bool, false, is_some, map, option_map, unwrap_or}
 use Rattle.serde_json.specs.Data.{Data}
-use Rattle.gate_record.specs.declared.event.Event.{Event}
-use Rattle.gate_rule.specs.Laws.{AreBytes}
+use Rattle.gate_record.specs.declared.record.Record.{Record}
 use Rattle.gate_config.specs.declared.config.Config.{Config}
 use Rattle.gate_config.specs.Document.{jobs_among, pipelines_among, rules_among, sources_among, tenants_in}
 use Rattle.gate_config.specs.Lookups as lookups
-use Rattle.gate_config.specs.Selection.{selects_event}
+use Rattle.gate_config.specs.Selection.{selects}
 use Rattle.gate_config.specs.Texts.{IsReadFrom, texts_of_pipeline, texts_of_rule}
 
 -- Each look-up of the configuration is what the document says there.
@@ -20,16 +19,7 @@ pub record AnswersFor (document : Data) (config : Config) : Type 0 where
 abbrev pub LookUpsAreOfTheDocument : Type 0
 LookUpsAreOfTheDocument = (document : Data) (config : Config) → IsReadFrom document config → AnswersFor document config
 
--- the texts of an event consist of bytes, as those of each event that a program has
-pub record HasBytes (event : Event) : Type 0 where
-  pub kind : AreBytes event.kind
-  pub branch : IfSome event.branch AreBytes
-  pub refname : IfSome event.refname AreBytes
-  pub username : IfSome event.username AreBytes
-  pub email : IfSome event.email AreBytes
-  pub comment : IfSome event.comment AreBytes
-
--- Two configurations that were read from one document select the same events.
+-- Two configurations that were read from one document select the same records.
 abbrev pub OneDocumentSelectsAlike : Type 0
 OneDocumentSelectsAlike = (document : Data) (a b : Config) → IsReadFrom document a → IsReadFrom document b →
-    (t p c : ℕ) (event : Event) → HasBytes event → selects_event a t p c event ≡ selects_event b t p c event
+    (t p c : ℕ) (record' : Record) → selects a t p c record' ≡ selects b t p c record'

@@ -3,7 +3,6 @@ pub mod Checks
 pub mod Document
 pub mod Faults
 pub mod Inner
-pub mod Jobs
 pub mod Laws
 pub mod Limits
 pub mod Lookups

@@ -7,16 +7,16 @@ most_tenants = 16
 
 -- the connections of a configuration
 abbrev pub most_connections : ℕ
-most_connections = 16
+most_connections = 64
 
 -- the pipelines of a tenant
 abbrev pub most_pipelines : ℕ
-most_pipelines = 16
+most_pipelines = 64
 
 -- the rules that a pipeline has for a connection
 abbrev pub most_rules : ℕ
 most_rules = 64
 
--- the patterns of an attribute of a rule, and the votes that it asks for
+-- the entries of an attribute of patterns, and the votes that a rule asks for
 abbrev pub most_entries : ℕ
 most_entries = 32

@@ -1,6 +1,5 @@
 -- Parts of a JSON value. Where a value is of another kind than asked for, it has no such parts.
 use Rattle.std.specs.Prelude.{ℕ, List, [], ◌∷◌, Bool, true, false, Option, Some, None, is_some, option_and_then, unwrap_or, option_map}
-use Rattle.std.specs.List.{filter_map}
 use Rattle.serde_json.specs.Data.{Data, Items, null, boolean, number, string, array, object, Members, no_members, member}
 use Rattle.serde_json.specs.Find.{get, as_bool, as_str, as_array, as_object}
 use Rattle.gate_record.specs.Json.{items_in}
@@ -67,7 +66,3 @@ optional_in key value = option_and_then (optional key) value
 -- the text of a required member, once it was checked
 abbrev pub text_of_member : List ℕ → Data → List ℕ
 text_of_member key value = unwrap_or (option_and_then as_str (get key value)) []
-
--- the texts among values
-abbrev pub texts_in : List Data → List (List ℕ)
-texts_in values = filter_map as_str values

@@ -1,22 +1,26 @@
 -- A configuration's texts: what of it a document can name.
 use Rattle.std.specs.Prelude.{◌≡◌, Some, map, option_map}
 use Rattle.serde_json.specs.Data.{Data}
+use Rattle.gate_rule.specs.declared.entry.Entry.{Entry}
 use Rattle.gate_rule.specs.declared.rule.Rule.{Rule}
 use Rattle.gate_rule.specs.Pattern.{text_of}
 use Rattle.gate_config.specs.declared.config.Config.{Config}
 use Rattle.gate_config.specs.declared.config.TenantSpec.{TenantSpec}
 use Rattle.gate_config.specs.declared.config.PipelineSpec.{PipelineSpec}
-use Rattle.gate_config.specs.Lookups.{has_project, jobs_under}
-use Rattle.gate_config.specs.Document.{RuleTexts, PipelineTexts, TenantTexts, connection_names, tenants_in}
+use Rattle.gate_config.specs.Lookups.{connections_of, has_project, jobs_under, tenants_of}
+use Rattle.gate_config.specs.Document.{EntryTexts, RuleTexts, PipelineTexts, TenantTexts, connection_names, tenants_in}
+
+abbrev pub texts_of_entry : Entry → EntryTexts
+texts_of_entry entry = record { text = text_of entry.pattern; negate = entry.negate }
 
 abbrev pub texts_of_rule : Rule → RuleTexts
 texts_of_rule rule = record {
-  event = map text_of rule.event;
-  branch = map text_of rule.branch;
-  refname = map text_of rule.refname;
-  username = map text_of rule.username;
-  email = map text_of rule.email;
-  comment = map text_of rule.comment;
+  event = map texts_of_entry rule.event;
+  branch = map texts_of_entry rule.branch;
+  refname = map texts_of_entry rule.refname;
+  username = map texts_of_entry rule.username;
+  email = map texts_of_entry rule.email;
+  comment = map texts_of_entry rule.comment;
   approval = rule.approval;
   ignore_deletes = rule.ignore_deletes;
 }
@@ -29,5 +33,5 @@ texts_of_tenant tenant = record { name = tenant.name; sources = map (option_map 
 
 -- the configuration says what the document says: the names of its connections, and its tenants with all that they have
 pub record IsReadFrom (document : Data) (config : Config) : Type 0 where
-  pub connections : config.connections ≡ connection_names document
-  pub tenants : map texts_of_tenant config.tenants ≡ tenants_in document
+  pub connections : connections_of config ≡ connection_names document
+  pub tenants : map texts_of_tenant (tenants_of config) ≡ tenants_in document

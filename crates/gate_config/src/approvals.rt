@@ -5,7 +5,7 @@ ghost use Rattle.serde_json.specs.View.{view};
 ghost use Rattle.gate_record.specs.Numbers.{number_of};
 ghost use Rattle.gate_config.specs.Checks.{each, approval_checks, objects_checks, vote_checks, votes_checks};
 ghost use Rattle.gate_config.specs.Document.{vote_at, votes, votes_of};
-ghost use Rattle.gate_config.specs.Inner.Entry.{key_view};
+ghost use Rattle.gate_config.specs.Inner.Found.{key_view};
 ghost use Rattle.gate_config.specs.Inner.Faults.{Reads};
 ghost use Rattle.gate_config.specs.Places.{nth};
 

@@ -1,7 +1,7 @@
 ghost use Rattle.std.specs.Prelude.{◌≡◌, ℕ, IfOk, map};
 ghost use Rattle.serde_json.specs.Data.{Data};
 ghost use Rattle.serde_json.specs.View.{view};
-ghost use Rattle.gate_config.specs.Inner.Entry.{entry_view};
+ghost use Rattle.gate_config.specs.Inner.Found.{found_view};
 ghost use Rattle.gate_config.specs.Document.{is_ignored, tenant_at, tenant_of, picked};
 ghost use Rattle.gate_config.specs.Parts.{optional};
 
@@ -12,19 +12,19 @@ use std::alloc::Global;
 
 // A value, with the position of the item that it was found at.
 #[derive(Clone, Copy)]
-pub(crate) struct Entry<'v> {
+pub(crate) struct Found<'v> {
     pub(crate) position: usize,
     pub(crate) value: &'v Value,
 }
 
 // The tenants among the items of `tenants`.
-pub(crate) fn tenant_entries(alloc: Global, items: &[Value]) -> Result<Vec<Entry<'_>>, Memory>
-    ensures { IfOk result (λ entries. map entry_view entries.items ≡ picked tenant_at (map view items.now)) }
+pub(crate) fn tenant_entries(alloc: Global, items: &[Value]) -> Result<Vec<Found<'_>>, Memory>
+    ensures { IfOk result (λ entries. map found_view entries.items ≡ picked tenant_at (map view items.now)) }
 {
     let mut entries = Vec::new(alloc);
     for (position, value) in items.iter().enumerate() {
         if !is_no_tenant(value) {
-            entries.push(Entry { position, value })?;
+            entries.push(Found { position, value })?;
         }
     }
     Ok(entries)
@@ -49,13 +49,13 @@ pub(crate) fn entries_at<'v>(
     alloc: Global,
     items: &'v [Value],
     key: &str,
-) -> Result<Vec<Entry<'v>>, Memory>
-    ensures { IfOk result (λ entries. map entry_view entries.items ≡ picked (optional key.now) (map view items.now)) }
+) -> Result<Vec<Found<'v>>, Memory>
+    ensures { IfOk result (λ entries. map found_view entries.items ≡ picked (optional key.now) (map view items.now)) }
 {
     let mut entries = Vec::new(alloc);
     for (position, item) in items.iter().enumerate() {
         if let Some(value) = member(item, key) {
-            entries.push(Entry { position, value })?;
+            entries.push(Found { position, value })?;
         }
     }
     Ok(entries)

@@ -40,11 +40,14 @@ impl Jobs {
         }
     }
 
-    // Adds the jobs that are named for a project.
+    // Adds the jobs that are named for a project. Where none is, the project has no list for it.
     pub(crate) fn add(&mut self, alloc: Global, project: &str, jobs: &[Value]) -> Result<(), Memory>
         ensures { OnOk result ((other : List ℕ) → jobs_under self.new other
             ≡ with_jobs (jobs_under self.old other) (if bytes_eq project.now other then filter_map name_in (map view jobs.now) else [])) }
     {
+        if jobs.is_empty() {
+            return Ok(());
+        }
         match self.lists.get_mut(project) {
             Some(list) => add_names(alloc, list, jobs),
             None => {

@@ -5,6 +5,7 @@
 mod approvals;
 mod config;
 mod document;
+mod entries;
 mod fault;
 mod job_list;
 mod jobs;

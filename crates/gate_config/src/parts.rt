@@ -1,11 +1,11 @@
-ghost use Rattle.std.specs.Prelude.{◌≡◌, ◌∷◌, [], IfOk, Some, map, option_map};
-ghost use Rattle.serde_json.specs.Find.{get, as_array};
+ghost use Rattle.std.specs.Prelude.{◌≡◌, ◌∷◌, [], IfOk, Some, map, option_and_then, option_map};
+ghost use Rattle.serde_json.specs.Find.{get, as_array, as_bool};
 ghost use Rattle.serde_json.specs.View.{view, members_view};
 ghost use Rattle.gate_record.specs.Json.{items_in};
-ghost use Rattle.gate_config.specs.Inner.Entry.{key_view};
+ghost use Rattle.gate_config.specs.Inner.Found.{key_view};
 ghost use Rattle.gate_config.specs.Faults.{Asks};
 ghost use Rattle.gate_config.specs.Inner.Faults.{Reads, Tests};
-ghost use Rattle.gate_config.specs.Parts.{is_object, is_list, is_text, is_there, is_fine, keys_in, items_of, keys_of, unless_null, optional, optional_in, text_of_member};
+ghost use Rattle.gate_config.specs.Parts.{is_flag, is_object, is_list, is_text, is_there, is_fine, keys_in, items_of, keys_of, unless_null, optional, optional_in, text_of_member};
 ghost use Rattle.gate_config.specs.Places.{below};
 ghost use Rattle.gate_config.specs.declared.fault.ConfigFault.TheVariants.{Shape};
 
@@ -127,6 +127,24 @@ pub(crate) fn optional_list<'v>(
             None => Err(ConfigFault::Shape(Text::copy(alloc, place)?)),
         },
         None => Ok(&[]),
+    }
+}
+
+// True or false, if it is there. `Shape` at the place where the value is another.
+pub(crate) fn optional_flag(
+    alloc: Global,
+    place: &str,
+    value: Option<&Value>,
+) -> Result<Option<bool>, ConfigFault>
+    ensures { Reads (Asks (is_fine is_flag (option_map (λ v. view v.now) value.entry)) (Shape place.now) ∷ [])
+        (λ flag. flag ≡ option_and_then as_bool (option_map (λ v. view v.now) value.entry)) result }
+{
+    match value {
+        Some(value) => match value.as_bool() {
+            Some(flag) => Ok(Some(flag)),
+            None => Err(ConfigFault::Shape(Text::copy(alloc, place)?)),
+        },
+        None => Ok(None),
     }
 }
 

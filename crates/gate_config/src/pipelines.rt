@@ -4,7 +4,7 @@ ghost use Rattle.std.specs.Str.{bytes_eq};
 ghost use Rattle.serde_json.specs.View.{view};
 ghost use Rattle.gate_config.specs.Checks.{along, each, config_checks, all_items_checks, items_checks, item_checks, is_named, pipeline_checks, pipeline_checks_at, manager_checks};
 ghost use Rattle.gate_config.specs.Document.{name_of, tenant_texts, pipeline_texts, pipeline_items, manager_named, jobs_in, pipeline_names, project_items};
-ghost use Rattle.gate_config.specs.Inner.Entry.{entry_view};
+ghost use Rattle.gate_config.specs.Inner.Found.{found_view};
 ghost use Rattle.gate_config.specs.Faults.{Asks};
 ghost use Rattle.gate_config.specs.Inner.Faults.{Reads, Tests};
 ghost use Rattle.gate_config.specs.Limits.{most_pipelines};
@@ -15,7 +15,7 @@ ghost use Rattle.gate_config.specs.Texts.{texts_of_tenant, texts_of_pipeline};
 ghost use Rattle.gate_config.specs.declared.fault.ConfigFault.TheVariants.{Limit, Repeated};
 
 use crate::config::{PipelineSpec, TenantSpec};
-use crate::document::{Entry, entries_at, tenant_of};
+use crate::document::{Found, entries_at, tenant_of};
 use crate::fault::ConfigFault;
 use crate::jobs::Jobs;
 use crate::limits::MAX_PIPELINES;
@@ -36,10 +36,10 @@ pub(crate) fn read_tenants(
     table: &mut PatternTable,
     config: &Value,
     connections: &[Text],
-    entries: &[Entry<'_>],
+    entries: &[Found<'_>],
 ) -> Result<Sequence<TenantSpec>, ConfigFault>
-    ensures { Reads (flat_map (config_checks (Some (view config.now)) connections.now) (map entry_view entries.now))
-        (λ tenants. map texts_of_tenant tenants ≡ map (tenant_texts (Some (view config.now)) connections.now) (map entry_view entries.now)) result }
+    ensures { Reads (flat_map (config_checks (Some (view config.now)) connections.now) (map found_view entries.now))
+        (λ tenants. map texts_of_tenant tenants ≡ map (tenant_texts (Some (view config.now)) connections.now) (map found_view entries.now)) result }
 {
     let mut tenants = Vec::new(alloc);
     for entry in entries {
@@ -54,10 +54,10 @@ fn read_tenant(
     table: &mut PatternTable,
     config: &Value,
     connections: &[Text],
-    entry: &Entry<'_>,
+    entry: &Found<'_>,
 ) -> Result<TenantSpec, ConfigFault>
-    ensures { Reads (config_checks (Some (view config.now)) connections.now (entry_view entry.now))
-        (λ tenant. texts_of_tenant tenant ≡ tenant_texts (Some (view config.now)) connections.now (entry_view entry.now)) result }
+    ensures { Reads (config_checks (Some (view config.now)) connections.now (found_view entry.now))
+        (λ tenant. texts_of_tenant tenant ≡ tenant_texts (Some (view config.now)) connections.now (found_view entry.now)) result }
 {
     let name = tenant_name(entry.value);
     let place = member_place(alloc, "config", name)?;
@@ -128,10 +128,10 @@ fn read_pipelines(
     table: &mut PatternTable,
     connections: &[Text],
     place: &str,
-    entries: &[Entry<'_>],
+    entries: &[Found<'_>],
 ) -> Result<Sequence<PipelineSpec>, ConfigFault>
-    ensures { Reads (along (pipeline_checks connections.now place.now) (map entry_view entries.now))
-        (λ pipelines. map texts_of_pipeline pipelines ≡ map (pipeline_texts connections.now) (map entry_view entries.now)) result }
+    ensures { Reads (along (pipeline_checks connections.now place.now) (map found_view entries.now))
+        (λ pipelines. map texts_of_pipeline pipelines ≡ map (pipeline_texts connections.now) (map found_view entries.now)) result }
 {
     let mut pipelines = Vec::new(alloc);
     for (rank, entry) in entries.iter().enumerate() {
@@ -146,11 +146,11 @@ fn read_entry(
     table: &mut PatternTable,
     connections: &[Text],
     place: &str,
-    before: &[Entry<'_>],
-    entry: &Entry<'_>,
+    before: &[Found<'_>],
+    entry: &Found<'_>,
 ) -> Result<PipelineSpec, ConfigFault>
-    ensures { Reads (pipeline_checks connections.now place.now (map entry_view before.now) (entry_view entry.now))
-        (λ pipeline. texts_of_pipeline pipeline ≡ pipeline_texts connections.now (entry_view entry.now)) result }
+    ensures { Reads (pipeline_checks connections.now place.now (map found_view before.now) (found_view entry.now))
+        (λ pipeline. texts_of_pipeline pipeline ≡ pipeline_texts connections.now (found_view entry.now)) result }
 {
     let item = item_place(alloc, place, entry.position)?;
     let here = member_place(alloc, item.as_str(), "pipeline")?;
@@ -172,10 +172,10 @@ fn read_pipeline(
     connections: &[Text],
     item: &str,
     here: &str,
-    before: &[Entry<'_>],
+    before: &[Found<'_>],
     pipeline: &Value,
 ) -> Result<PipelineSpec, ConfigFault>
-    ensures { Reads (pipeline_checks_at connections.now item.now here.now (map entry_view before.now) (view pipeline.now))
+    ensures { Reads (pipeline_checks_at connections.now item.now here.now (map found_view before.now) (view pipeline.now))
         (λ read. texts_of_pipeline read ≡ pipeline_texts connections.now (0, view pipeline.now)) result }
 {
     check_object(alloc, here, pipeline)?;
@@ -192,8 +192,8 @@ fn read_pipeline(
 }
 
 // `Repeated` at a name that an earlier pipeline has.
-fn check_new(alloc: Global, before: &[Entry<'_>], here: &str, name: &str) -> Result<(), ConfigFault>
-    ensures { Tests (Asks (not (is_named (map entry_view before.now) name.now)) (Repeated (below here.now (codes "name"))) ∷ []) result }
+fn check_new(alloc: Global, before: &[Found<'_>], here: &str, name: &str) -> Result<(), ConfigFault>
+    ensures { Tests (Asks (not (is_named (map found_view before.now) name.now)) (Repeated (below here.now (codes "name"))) ∷ []) result }
 {
     if is_named(before, name) {
         return Err(ConfigFault::Repeated(member_place(alloc, here, "name")?));
@@ -201,7 +201,7 @@ fn check_new(alloc: Global, before: &[Entry<'_>], here: &str, name: &str) -> Res
     Ok(())
 }
 
-fn is_named(before: &[Entry<'_>], name: &str) -> bool
+fn is_named(before: &[Found<'_>], name: &str) -> bool
     ensures { result ≡ list_any (λ entry. bytes_eq (name_of (view entry.value.now)) name.now) before.now }
 {
     before
@@ -210,8 +210,8 @@ fn is_named(before: &[Entry<'_>], name: &str) -> bool
 }
 
 // `Limit` at the item of a pipeline that is one too many.
-fn check_room(alloc: Global, before: &[Entry<'_>], item: &str) -> Result<(), ConfigFault>
-    ensures { Tests (Asks (nat_lt (length (map entry_view before.now)) most_pipelines) (Limit item.now) ∷ []) result }
+fn check_room(alloc: Global, before: &[Found<'_>], item: &str) -> Result<(), ConfigFault>
+    ensures { Tests (Asks (nat_lt (length (map found_view before.now)) most_pipelines) (Limit item.now) ∷ []) result }
 {
     if before.len() >= MAX_PIPELINES {
         return Err(ConfigFault::Limit(Text::copy(alloc, item)?));

@@ -4,7 +4,7 @@ ghost use Rattle.serde_json.specs.View.{view};
 ghost use Rattle.gate_record.specs.Json.{json_of};
 ghost use Rattle.gate_config.specs.Checks.{checks_of, document_checks, entries_checks};
 ghost use Rattle.gate_config.specs.Document.{connection_names, names_in, tenant_texts, tenants_in};
-ghost use Rattle.gate_config.specs.Inner.Entry.{entry_view};
+ghost use Rattle.gate_config.specs.Inner.Found.{found_view};
 ghost use Rattle.gate_config.specs.Faults.{AllPass, Asks, IsFaultOf};
 ghost use Rattle.gate_config.specs.Inner.Faults.{Reads, Tests};
 ghost use Rattle.gate_config.specs.Limits.{most_tenants};
@@ -12,7 +12,7 @@ ghost use Rattle.gate_config.specs.Texts.{IsReadFrom, texts_of_tenant};
 ghost use Rattle.gate_config.specs.declared.fault.ConfigFault.TheVariants.{Limit};
 
 use crate::config::Config;
-use crate::document::{Entry, tenant_entries};
+use crate::document::{Found, tenant_entries};
 use crate::fault::ConfigFault;
 use crate::limits::MAX_TENANTS;
 use crate::parts::{check_object, required_list, required_object};
@@ -58,10 +58,10 @@ fn read_document(alloc: Global, document: &Value) -> Result<Config, ConfigFault>
 }
 
 // All tenants, and then their lists in `config`.
-fn read_entries(alloc: Global, config: &Value, entries: &[Entry<'_>]) -> Result<Config, ConfigFault>
-    ensures { Reads (entries_checks (Some (view config.now)) (map entry_view entries.now))
-        (λ read. (read.connections ≡ names_in (map entry_view entries.now))
-        × (map texts_of_tenant read.tenants ≡ map (tenant_texts (Some (view config.now)) (names_in (map entry_view entries.now))) (map entry_view entries.now))) result }
+fn read_entries(alloc: Global, config: &Value, entries: &[Found<'_>]) -> Result<Config, ConfigFault>
+    ensures { Reads (entries_checks (Some (view config.now)) (map found_view entries.now))
+        (λ read. (read.connections ≡ names_in (map found_view entries.now))
+        × (map texts_of_tenant read.tenants ≡ map (tenant_texts (Some (view config.now)) (names_in (map found_view entries.now))) (map found_view entries.now))) result }
 {
     check_count(alloc, entries)?;
     let names = check_tenants(alloc, entries)?;
@@ -75,8 +75,8 @@ fn read_entries(alloc: Global, config: &Value, entries: &[Entry<'_>]) -> Result<
 }
 
 // `Limit` where there are too many tenants.
-fn check_count(alloc: Global, entries: &[Entry<'_>]) -> Result<(), ConfigFault>
-    ensures { Tests (Asks (nat_le (length (map entry_view entries.now)) most_tenants) (Limit (codes "tenants")) ∷ []) result }
+fn check_count(alloc: Global, entries: &[Found<'_>]) -> Result<(), ConfigFault>
+    ensures { Tests (Asks (nat_le (length (map found_view entries.now)) most_tenants) (Limit (codes "tenants")) ∷ []) result }
 {
     if entries.len() > MAX_TENANTS {
         return Err(ConfigFault::Limit(Text::copy(alloc, "tenants")?));

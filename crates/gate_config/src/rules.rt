@@ -4,7 +4,7 @@ ghost use Rattle.serde_json.specs.View.{view};
 ghost use Rattle.gate_config.specs.Checks.{each, trigger_checks, connection_checks, rule_checks, rule_checks_at, rule_list_checks, rules_checks, attribute_checks, flag_checks, is_asking};
 ghost use Rattle.gate_config.specs.Inner.Attributes.{unlisted, with_attribute};
 ghost use Rattle.gate_config.specs.Document.{flag, rule_texts, rules_at, rules_under};
-ghost use Rattle.gate_config.specs.Inner.Entry.{key_view};
+ghost use Rattle.gate_config.specs.Inner.Found.{key_view};
 ghost use Rattle.gate_config.specs.Faults.{Asks};
 ghost use Rattle.gate_config.specs.Inner.Faults.{Reads, Tests};
 ghost use Rattle.gate_config.specs.Parts.{is_there, keys_of, optional};
@@ -15,7 +15,9 @@ ghost use Rattle.gate_config.specs.declared.fault.ConfigFault.TheVariants.{Shape
 use crate::approvals::read_approvals;
 use crate::fault::ConfigFault;
 use crate::limits::MAX_RULES;
-use crate::parts::{check_object, check_optional_object, keys, list, member, member_of};
+use crate::parts::{
+    check_object, check_optional_object, keys, list, member, member_of, optional_flag,
+};
 use crate::pattern_table::PatternTable;
 use crate::patterns::read_patterns;
 use crate::places::{item_place, member_place};
@@ -240,13 +242,7 @@ fn read_flag(alloc: Global, place: &str, value: Option<&Value>) -> Result<bool, 
     ensures { Reads (flag_checks place.now (option_map (λ v. view v.now) value.entry))
         (λ read. read ≡ flag (option_map (λ v. view v.now) value.entry)) result }
 {
-    match value {
-        None => Ok(true),
-        Some(value) => match value.as_bool() {
-            Some(flag) => Ok(flag),
-            None => Err(ConfigFault::Shape(Text::copy(alloc, place)?)),
-        },
-    }
+    Ok(optional_flag(alloc, place, value)?.unwrap_or(true))
 }
 
 // `Shape` at an `event` that is missing, null or an empty list.

@@ -3,14 +3,14 @@ ghost use Rattle.std.specs.List.{flat_map};
 ghost use Rattle.serde_json.specs.View.{view};
 ghost use Rattle.gate_config.specs.Checks.{each, job_checks, jobs_checks, part_checks, parts_checks, stanza_checks, stanza_checks_at};
 ghost use Rattle.gate_config.specs.Document.{jobs_for, jobs_in, plain_name, project_items, project_of};
-ghost use Rattle.gate_config.specs.Inner.Entry.{entry_view};
+ghost use Rattle.gate_config.specs.Inner.Found.{found_view};
 ghost use Rattle.gate_config.specs.Inner.Faults.{Reads, Tests};
 ghost use Rattle.gate_config.specs.Inner.Jobs.{with_jobs};
 ghost use Rattle.gate_config.specs.Lookups.{jobs_under};
 ghost use Rattle.gate_config.specs.Inner.Lookups.{names_of};
 
 use crate::config::PipelineSpec;
-use crate::document::{Entry, entries_at};
+use crate::document::{Found, entries_at};
 use crate::fault::ConfigFault;
 use crate::jobs::Jobs;
 use crate::names::name_in;
@@ -40,9 +40,9 @@ fn check_stanzas(
     alloc: Global,
     pipelines: &[PipelineSpec],
     place: &str,
-    entries: &[Entry<'_>],
+    entries: &[Found<'_>],
 ) -> Result<(), ConfigFault>
-    ensures { Tests (flat_map (stanza_checks (names_of pipelines.now) place.now) (map entry_view entries.now)) result }
+    ensures { Tests (flat_map (stanza_checks (names_of pipelines.now) place.now) (map found_view entries.now)) result }
 {
     for entry in entries {
         check_entry(alloc, pipelines, place, entry)?;
@@ -54,9 +54,9 @@ fn check_entry(
     alloc: Global,
     pipelines: &[PipelineSpec],
     place: &str,
-    entry: &Entry<'_>,
+    entry: &Found<'_>,
 ) -> Result<(), ConfigFault>
-    ensures { Tests (stanza_checks (names_of pipelines.now) place.now (entry_view entry.now)) result }
+    ensures { Tests (stanza_checks (names_of pipelines.now) place.now (found_view entry.now)) result }
 {
     let item = item_place(alloc, place, entry.position)?;
     let here = member_place(alloc, item.as_str(), "project")?;
@@ -166,9 +166,9 @@ fn plain_name(name: &str) -> Option<&str>
 fn read_jobs(
     alloc: Global,
     pipelines: &[PipelineSpec],
-    entries: &[Entry<'_>],
+    entries: &[Found<'_>],
 ) -> Result<Sequence<Jobs>, Memory>
-    ensures { IfOk result (λ jobs. map jobs_under jobs ≡ map (jobs_in (map entry_view entries.now)) (names_of pipelines.now)) }
+    ensures { IfOk result (λ jobs. map jobs_under jobs ≡ map (jobs_in (map found_view entries.now)) (names_of pipelines.now)) }
 {
     let mut jobs = Vec::new(alloc);
     for pipeline in pipelines {
@@ -177,8 +177,8 @@ fn read_jobs(
     Ok(Sequence::new(jobs))
 }
 
-fn read_pipeline_jobs(alloc: Global, pipeline: &str, entries: &[Entry<'_>]) -> Result<Jobs, Memory>
-    ensures { IfOk result (λ jobs. (project : List ℕ) → jobs_under jobs project ≡ jobs_in (map entry_view entries.now) pipeline.now project) }
+fn read_pipeline_jobs(alloc: Global, pipeline: &str, entries: &[Found<'_>]) -> Result<Jobs, Memory>
+    ensures { IfOk result (λ jobs. (project : List ℕ) → jobs_under jobs project ≡ jobs_in (map found_view entries.now) pipeline.now project) }
 {
     let mut jobs = Jobs::new(alloc);
     for entry in entries {

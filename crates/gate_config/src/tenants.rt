@@ -4,7 +4,7 @@ ghost use Rattle.std.specs.Str.{bytes_eq};
 ghost use Rattle.serde_json.specs.View.{view};
 ghost use Rattle.gate_config.specs.Checks.{along, each, is_taken, tenant_checks, tenant_checks_at, tenant_place, named_checks, sources_checks, source_checks, listing_checks, list_checks, project_checks};
 ghost use Rattle.gate_config.specs.Document.{names_in, sources_of, tenant_name, tenant_of};
-ghost use Rattle.gate_config.specs.Inner.Entry.{entry_view, key_view};
+ghost use Rattle.gate_config.specs.Inner.Found.{found_view, key_view};
 ghost use Rattle.gate_config.specs.Faults.{Asks};
 ghost use Rattle.gate_config.specs.Inner.Faults.{Reads, Tests};
 ghost use Rattle.gate_config.specs.Names.{with_name, with_names};
@@ -12,7 +12,7 @@ ghost use Rattle.gate_config.specs.Parts.{is_fine, is_object, optional};
 ghost use Rattle.gate_config.specs.Places.{below};
 ghost use Rattle.gate_config.specs.declared.fault.ConfigFault.TheVariants.{Repeated, Shape};
 
-use crate::document::{Entry, tenant_of};
+use crate::document::{Found, tenant_of};
 use crate::fault::ConfigFault;
 use crate::limits::MAX_CONNECTIONS;
 use crate::name_set::NameSet;
@@ -27,8 +27,8 @@ use serde_json::Value;
 use std::alloc::Global;
 
 // Each tenant, in order. Gives the names of the connections that they list.
-pub(crate) fn check_tenants(alloc: Global, entries: &[Entry<'_>]) -> Result<NameSet, ConfigFault>
-    ensures { Reads (along tenant_checks (map entry_view entries.now)) (λ names. names ≡ names_in (map entry_view entries.now)) result }
+pub(crate) fn check_tenants(alloc: Global, entries: &[Found<'_>]) -> Result<NameSet, ConfigFault>
+    ensures { Reads (along tenant_checks (map found_view entries.now)) (λ names. names ≡ names_in (map found_view entries.now)) result }
 {
     let mut names = NameSet::new(alloc);
     for (rank, entry) in entries.iter().enumerate() {
@@ -40,13 +40,13 @@ pub(crate) fn check_tenants(alloc: Global, entries: &[Entry<'_>]) -> Result<Name
 // An entry behind those before it, which list the connections of these names.
 fn check_entry(
     alloc: Global,
-    before: &[Entry<'_>],
-    entry: &Entry<'_>,
+    before: &[Found<'_>],
+    entry: &Found<'_>,
     names: &mut NameSet,
 ) -> Result<(), ConfigFault>
-    requires { names.old ≡ names_in (map entry_view before.now) }
-    ensures { Reads (tenant_checks (map entry_view before.now) (entry_view entry.now))
-        (λ _. names.new ≡ with_names names.old (sources_of (tenant_of (entry_view entry.now).1))) result }
+    requires { names.old ≡ names_in (map found_view before.now) }
+    ensures { Reads (tenant_checks (map found_view before.now) (found_view entry.now))
+        (λ _. names.new ≡ with_names names.old (sources_of (tenant_of (found_view entry.now).1))) result }
 {
     let here = item_place(alloc, "tenants", entry.position)?;
     check_wrapper(alloc, here.as_str(), entry.value)?;
@@ -75,13 +75,13 @@ fn tenant_place(alloc: Global, here: &str, entry: &Value) -> Result<Text, Memory
 // A tenant: it has a name of its own, and perhaps sources.
 fn check_tenant(
     alloc: Global,
-    before: &[Entry<'_>],
+    before: &[Found<'_>],
     here: &str,
     tenant: &Value,
     names: &mut NameSet,
 ) -> Result<(), ConfigFault>
-    requires { names.old ≡ names_in (map entry_view before.now) }
-    ensures { Reads (named_checks (map entry_view before.now) here.now (view tenant.now))
+    requires { names.old ≡ names_in (map found_view before.now) }
+    ensures { Reads (named_checks (map found_view before.now) here.now (view tenant.now))
         (λ _. names.new ≡ with_names names.old (sources_of (view tenant.now))) result }
 {
     let name = required_text(alloc, here, tenant, "name")?;
@@ -90,8 +90,8 @@ fn check_tenant(
 }
 
 // `Repeated` at a name that an earlier tenant has.
-fn check_new(alloc: Global, before: &[Entry<'_>], here: &str, name: &str) -> Result<(), ConfigFault>
-    ensures { Tests (Asks (not (is_taken (map entry_view before.now) name.now)) (Repeated (below here.now (codes "name"))) ∷ []) result }
+fn check_new(alloc: Global, before: &[Found<'_>], here: &str, name: &str) -> Result<(), ConfigFault>
+    ensures { Tests (Asks (not (is_taken (map found_view before.now) name.now)) (Repeated (below here.now (codes "name"))) ∷ []) result }
 {
     if is_taken(before, name) {
         return Err(ConfigFault::Repeated(member_place(alloc, here, "name")?));
@@ -99,7 +99,7 @@ fn check_new(alloc: Global, before: &[Entry<'_>], here: &str, name: &str) -> Res
     Ok(())
 }
 
-fn is_taken(before: &[Entry<'_>], name: &str) -> bool
+fn is_taken(before: &[Found<'_>], name: &str) -> bool
     ensures { result ≡ list_any (λ entry. bytes_eq (tenant_name (view entry.value.now)) name.now) before.now }
 {
     before.iter().any(|entry| tenant_name(entry.value) == name)

@@ -1,6 +1,7 @@
 //! Rules as a configuration has them, and whether records meet them: tables of `meets JSON -> true` (`config::asked`).
 mod approvals;
 mod attributes;
+mod entries;
 mod patterns;
 
 use gate_record::{Sequence, Text};

@@ -1,5 +1,5 @@
 -- What the parser of `regex` refuses.
-use Rattle.std.proofs.Common.{◌≡◌, ◌≢◌, ◌⊎◌, ℕ, List, inl, inr}
+use Rattle.std.proofs.Common.{◌≢◌, ℕ, List, inl, inr}
 use Rattle.regex.specs.Patterns.{default_config}
 use Rattle.regex_syntax.specs.Verdict.{Refuses}
 use Rattle.regex_syntax.specs.declared.error.ErrorKind.{ErrorKind}

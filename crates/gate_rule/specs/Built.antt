@@ -22,7 +22,8 @@ IsUnread text =
 abbrev pub IsRead : List ℕ → Type 0
 IsRead text = IsPattern default_config text
 
--- `regex` refuses the text: its grammar doesn't read it, or does, and what is built of it is too large
+-- What is told of a text that is refused: the grammar of `regex` doesn't read it, or reads it. Which texts are too large to be built no
+-- definition says, so this rules out no text.
 abbrev pub IsRefused : List ℕ → Type 0
 IsRefused text = IsUnread text ⊎ IsRead text
 

@@ -1,11 +1,8 @@
 -- What holds of all patterns.
-use Rattle.std.specs.Prelude.{◌≡◌, ◌<◌, ℕ, List, slice_index}
+use Rattle.std.specs.Prelude.{◌≡◌, ℕ, List}
+use Rattle.gate_record.specs.Bytes.{AreBytes}
 use Rattle.gate_rule.specs.declared.pattern.Pattern.{Pattern}
 use Rattle.gate_rule.specs.Pattern.{text_of, front, within}
-
--- each number is one of a byte, as in every `&str`
-abbrev pub AreBytes : List ℕ → Type 0
-AreBytes text = (place : ℕ) → slice_index text place < 256
 
 -- two patterns of one text answer alike on every text
 abbrev pub SameTextSameAnswers : Type 0

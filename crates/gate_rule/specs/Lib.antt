@@ -1,4 +1,5 @@
 pub mod Built
+pub mod Entry
 pub mod Inner
 pub mod Laws
 pub mod Pattern

@@ -1,29 +1,29 @@
 ghost use Rattle.std.specs.Prelude.{◌≡◌, IfOk, option_map};
 ghost use Rattle.std.specs.List.{list_any};
-ghost use Rattle.gate_rule.specs.Pattern.{front, within};
+ghost use Rattle.gate_rule.specs.Entry.{entry_front, entry_within};
 ghost use Rattle.gate_rule.specs.Rule.{meets, is_approved, is_given, is_met};
 
-use crate::pattern::Pattern;
+use crate::entry::Entry;
 use gate_record::{Event, Memory, Sequence, Text};
 use std::alloc::Global;
 
 /// A trigger rule (Zuul's documentation, "Gerrit", trigger configuration, in this project's profile). An event meets it
 /// where it meets each attribute that is listed; an empty list isn't listed. A listed attribute isn't met by an event
-/// in which its field is missing. The patterns of one attribute are alternatives.
+/// in which its field is missing, also where its entries are negated. The entries of one attribute are alternatives.
 #[derive(Drop)]
 pub struct Rule {
-    /// One of these matches at the front of the event's type.
-    pub event: Sequence<Pattern>,
-    /// One of these matches at the front of the branch.
-    pub branch: Sequence<Pattern>,
-    /// The attribute `ref`: one of these matches at the front of the ref's name, as Gerrit gives it.
-    pub refname: Sequence<Pattern>,
-    /// One of these matches anywhere in the account's username.
-    pub username: Sequence<Pattern>,
-    /// One of these matches anywhere in the account's email address.
-    pub email: Sequence<Pattern>,
-    /// One of these matches anywhere in the comment.
-    pub comment: Sequence<Pattern>,
+    /// One of these is met at the front of the event's type.
+    pub event: Sequence<Entry>,
+    /// One of these is met at the front of the branch.
+    pub branch: Sequence<Entry>,
+    /// The attribute `ref`: one of these is met at the front of the ref's name, as Gerrit gives it.
+    pub refname: Sequence<Entry>,
+    /// One of these is met anywhere in the account's username.
+    pub username: Sequence<Entry>,
+    /// One of these is met anywhere in the account's email address.
+    pub email: Sequence<Entry>,
+    /// One of these is met anywhere in the comment.
+    pub comment: Sequence<Entry>,
     /// Each of these categories is among the event's approvals, with the same vote.
     pub approval: Sequence<(Text, i64)>,
     /// Whether the rule isn't met by a `ref-updated` that tells that its ref was deleted.
@@ -58,25 +58,25 @@ fn text(field: &Option<Text>) -> Option<&str>
 
 fn is_met_at_front(
     alloc: Global,
-    patterns: &Sequence<Pattern>,
+    entries: &Sequence<Entry>,
     field: Option<&str>,
 ) -> Result<bool, Memory>
-    ensures { IfOk result (λ met. met ≡ is_met front patterns.now (option_map (λ t. t.now) field.entry)) }
+    ensures { IfOk result (λ met. met ≡ is_met entry_front entries.now (option_map (λ t. t.now) field.entry)) }
 {
-    if patterns.len() == 0 {
+    if entries.len() == 0 {
         return Ok(true);
     }
     match field {
         None => Ok(false),
-        Some(text) => any_at_front(alloc, patterns.as_slice(), text),
+        Some(text) => any_at_front(alloc, entries.as_slice(), text),
     }
 }
 
-fn any_at_front(alloc: Global, patterns: &[Pattern], text: &str) -> Result<bool, Memory>
-    ensures { IfOk result (λ met. met ≡ list_any (λ pattern. front pattern text.now) patterns.now) }
+fn any_at_front(alloc: Global, entries: &[Entry], text: &str) -> Result<bool, Memory>
+    ensures { IfOk result (λ met. met ≡ list_any (λ entry. entry_front entry text.now) entries.now) }
 {
-    for pattern in patterns {
-        if pattern.front(alloc, text)? {
+    for entry in entries {
+        if entry.front(alloc, text)? {
             return Ok(true);
         }
     }
@@ -85,25 +85,25 @@ fn any_at_front(alloc: Global, patterns: &[Pattern], text: &str) -> Result<bool,
 
 fn is_met_within(
     alloc: Global,
-    patterns: &Sequence<Pattern>,
+    entries: &Sequence<Entry>,
     field: Option<&str>,
 ) -> Result<bool, Memory>
-    ensures { IfOk result (λ met. met ≡ is_met within patterns.now (option_map (λ t. t.now) field.entry)) }
+    ensures { IfOk result (λ met. met ≡ is_met entry_within entries.now (option_map (λ t. t.now) field.entry)) }
 {
-    if patterns.len() == 0 {
+    if entries.len() == 0 {
         return Ok(true);
     }
     match field {
         None => Ok(false),
-        Some(text) => any_within(alloc, patterns.as_slice(), text),
+        Some(text) => any_within(alloc, entries.as_slice(), text),
     }
 }
 
-fn any_within(alloc: Global, patterns: &[Pattern], text: &str) -> Result<bool, Memory>
-    ensures { IfOk result (λ met. met ≡ list_any (λ pattern. within pattern text.now) patterns.now) }
+fn any_within(alloc: Global, entries: &[Entry], text: &str) -> Result<bool, Memory>
+    ensures { IfOk result (λ met. met ≡ list_any (λ entry. entry_within entry text.now) entries.now) }
 {
-    for pattern in patterns {
-        if pattern.within(alloc, text)? {
+    for entry in entries {
+        if entry.within(alloc, text)? {
             return Ok(true);
         }
     }

@@ -1,7 +1,6 @@
 -- Beside `Faults`: what private contracts and proofs cite.
 use Rattle.std.specs.Prelude.{List, Result, Ok, Err}
 use Rattle.gate_config.specs.declared.fault.ConfigFault.{ConfigFault}
-use Rattle.gate_config.specs.declared.fault.ConfigFault.TheVariants as fault
 use Rattle.gate_config.specs.Faults.{AllPass, Check, IsFaultOf}
 
 -- `AllPass` and `IsFaultOf` as records, whose lists of checks a proof can read off

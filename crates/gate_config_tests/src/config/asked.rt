@@ -3,10 +3,11 @@
 //!
 //! - `connections`, `tenants`, `pipelines TENANT`, with their managers, and `jobs TENANT PIPELINE PROJECT`
 //! - `listed TENANT CONN` and `belongs TENANT CONN PROJECT`
-//! - `rules TENANT PIPELINE CONN`, how many; the first of 0 0 0 as text, `rule`, and whether a record meets it, `meets JSON`
+//! - `rules TENANT PIPELINE CONN`, how many; the first of 0 0 0 as text, `rule`, where a negated entry has `!=`, and whether a record
+//!   meets it, `meets JSON`
 use gate_config::{Config, PipelineSpec, TenantSpec};
 use gate_record::{ConnId, Event, PipelineId, Sequence, TenantId, Text};
-use gate_rule::{Pattern, Rule};
+use gate_rule::{Entry, Rule};
 use gate_test_lines::{event_of, word_and_rest};
 use std::alloc::{AllocError, Global};
 use std::test::Fail;
@@ -151,25 +152,27 @@ fn first_rule(config: &Config) -> Result<&Rule, Fail> {
 }
 
 fn push_rule(text: &mut String, rule: &Rule) -> Result<(), Fail> {
-    push_patterns(text, "event", &rule.event)?;
-    push_patterns(text, "branch", &rule.branch)?;
-    push_patterns(text, "ref", &rule.refname)?;
-    push_patterns(text, "username", &rule.username)?;
-    push_patterns(text, "email", &rule.email)?;
-    push_patterns(text, "comment", &rule.comment)?;
+    push_entries(text, "event", &rule.event)?;
+    push_entries(text, "branch", &rule.branch)?;
+    push_entries(text, "ref", &rule.refname)?;
+    push_entries(text, "username", &rule.username)?;
+    push_entries(text, "email", &rule.email)?;
+    push_entries(text, "comment", &rule.comment)?;
     push_approvals(text, &rule.approval)?;
     push_word(text, "ignore-deletes=")?;
     Ok(text.push_str(truth(rule.ignore_deletes))?)
 }
 
-fn push_patterns(
+// Each entry behind its attribute, with `!=` where it is negated.
+fn push_entries(
     text: &mut String,
     attribute: &str,
-    patterns: &Sequence<Pattern>,
+    entries: &Sequence<Entry>,
 ) -> Result<(), AllocError> {
-    for pattern in patterns.as_slice() {
+    for entry in entries.as_slice() {
         push_word(text, attribute)?;
-        write!(text, "={}", pattern.text())?;
+        let sign = if entry.negate { "!=" } else { "=" };
+        write!(text, "{sign}{}", entry.pattern.text())?;
     }
     Ok(())
 }

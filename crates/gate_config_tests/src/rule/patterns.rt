@@ -11,7 +11,7 @@ fn found(alloc: Global, pattern: &Pattern, text: &str) -> Result<&'static str, F
     Ok(both(front, within))
 }
 
-fn both(front: bool, within: bool) -> &'static str {
+pub(super) fn both(front: bool, within: bool) -> &'static str {
     match (front, within) {
         (true, true) => "true true",
         (true, false) => "true false",
@@ -21,7 +21,7 @@ fn both(front: bool, within: bool) -> &'static str {
 }
 
 // A text in quotes, without them.
-fn quoted(text: &str) -> &str {
+pub(super) fn quoted(text: &str) -> &str {
     text.trim_matches('"')
 }
 

@@ -1,7 +1,7 @@
 use Rattle.std.proofs.Common.{◌≡◌, ◌∙◌, ap, map, Some}
 use Rattle.serde_json.specs.View.{view}
 use Rattle.gate_config.proofs.Faults.{after_one}
-use Rattle.gate_config.specs.Inner.Entry.{key_view}
+use Rattle.gate_config.specs.Inner.Found.{key_view}
 use Rattle.gate_config.specs.Parts.{keys_of}
 use Rattle.gate_config.proofs.approvals.push_object.Goals as goal
 

@@ -1,14 +1,14 @@
 use Rattle.std.proofs.Common.{◌∙◌, map}
 use Rattle.gate_config.proofs.Faults.{exit, fault_later, fault_front, fault_rest, passed_more, passed_both}
-use Rattle.gate_config.specs.Inner.Entry.{entry_view}
+use Rattle.gate_config.specs.Inner.Found.{found_view}
 use Rattle.gate_config.specs.Texts.{texts_of_tenant}
 use Rattle.gate_config.proofs.WithinLimits.{few_connections, few_tenants}
 use Rattle.gate_config.proofs.read.read_entries.Goals as goal
 
 pub invariant_of-result : goal.invariant_of-result
 invariant_of-result c = record {
-  few_connections = few_connections (map entry_view c.args.entries.now) c.in_ok-connections.connections c.in_ok-names.ensures.0 (c.in_ok-connections.ensures ∙ c.in_ok-names.ensures.1);
-  few_tenants = few_tenants entry_view c.args.entries.now texts_of_tenant _ c.in_ok-tenants.tenants c.in_ok-tenants.ensures.1 c.in_ok-check_count.ensures.0;
+  few_connections = few_connections (map found_view c.args.entries.now) c.in_ok-connections.connections c.in_ok-names.ensures.0 (c.in_ok-connections.ensures ∙ c.in_ok-names.ensures.1);
+  few_tenants = few_tenants found_view c.args.entries.now texts_of_tenant _ c.in_ok-tenants.tenants c.in_ok-tenants.ensures.1 c.in_ok-check_count.ensures.0;
 }
 
 pub returns-in_err-check_count : goal.returns-in_err-check_count

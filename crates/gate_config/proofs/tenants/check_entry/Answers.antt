@@ -2,7 +2,7 @@ use Rattle.std.proofs.Common.{◌≡◌, ◌∙◌, ap, subst, map, codes}
 use Rattle.serde_json.specs.View.{view}
 use Rattle.gate_config.specs.Checks.{named_checks, tenant_place}
 use Rattle.gate_config.specs.Document.{sources_of}
-use Rattle.gate_config.specs.Inner.Entry.{entry_view}
+use Rattle.gate_config.specs.Inner.Found.{found_view}
 use Rattle.gate_config.specs.Inner.Faults.{Reads}
 use Rattle.gate_config.specs.Names.{with_names}
 use Rattle.gate_config.specs.Places.{nth}
@@ -16,7 +16,7 @@ returns-in_err-check_wrapper c =
 
 pub returns : goal.returns
 returns c =
-    let before = map entry_view c.args.before.now in
+    let before = map found_view c.args.before.now in
     let names = c.args.names.now in
     let next = c.check_tenant.new.names in
     let here = nth (codes "tenants") c.args.entry.now.position in

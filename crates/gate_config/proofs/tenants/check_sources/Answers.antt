@@ -2,7 +2,7 @@ use Rattle.std.proofs.Common.{◌≡◌, ◌∙◌, ap, map, codes, option_map, 
 use Rattle.serde_json.specs.View.{view}
 use Rattle.gate_config.specs.Checks.{along, source_checks}
 use Rattle.gate_config.specs.Document.{sources_of}
-use Rattle.gate_config.specs.Inner.Entry.{key_view}
+use Rattle.gate_config.specs.Inner.Found.{key_view}
 use Rattle.gate_config.specs.Inner.Faults.{Reads}
 use Rattle.gate_config.specs.Names.{with_names}
 use Rattle.gate_config.specs.Parts.{keys_of, optional}

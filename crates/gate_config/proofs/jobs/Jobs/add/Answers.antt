@@ -1,4 +1,4 @@
-use Rattle.std.proofs.Common.{rules, ◌∙◌, ap, Some, cond, map, [], string_bytes}
+use Rattle.std.proofs.Common.{rules, ◌∙◌, ap, sym, Some, cond, map, [], string_bytes}
 use Rattle.std.specs.Prelude.{unwrap_or}
 use Rattle.std.specs.BTreeMap.{get_by_text}
 use Rattle.std.specs.List.{filter_map}
@@ -7,8 +7,12 @@ use Rattle.std.proofs.lemmas.Map.Text.{btree_map_updates_text}
 use Rattle.serde_json.specs.View.{view}
 use Rattle.gate_config.specs.Document.{name_in}
 use Rattle.gate_config.specs.Inner.Jobs.{with_jobs}
-use Rattle.gate_config.proofs.JobLists.{added, on_ok}
+use Rattle.gate_config.specs.Lookups.{jobs_under}
+use Rattle.gate_config.proofs.JobLists.{added, none_added, on_ok}
 use Rattle.gate_config.proofs.jobs.Jobs.add.Goals as goal
+
+pub returns-then-is_empty : goal.returns-then-is_empty
+returns-then-is_empty c = λ other. none_added c.args.jobs.now (jobs_under c.args.self.now other) (bytes_eq c.args.project.now other) (sym c.is_empty.ensures ∙ c.if-is_empty.true)
 
 pub returns-in-Some : goal.returns-in-Some
 returns-in-Some c =

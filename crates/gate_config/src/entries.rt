@@ -1,0 +1,106 @@
+ghost use Rattle.std.specs.Prelude.{◌≡◌, ◌∷◌, [], Some, codes, false, map, unwrap_or, option_and_then};
+ghost use Rattle.std.specs.List.{flat_map};
+ghost use Rattle.serde_json.specs.View.{view};
+ghost use Rattle.gate_rule.specs.Pattern.{text_of};
+ghost use Rattle.gate_config.specs.Checks.{entry_checks_at, entry_key_checks, regex_checks};
+ghost use Rattle.gate_config.specs.Document.{entry_in, entry_said, negates};
+ghost use Rattle.gate_config.specs.Faults.{Asks, Builds};
+ghost use Rattle.gate_config.specs.Inner.Faults.{Reads, Tests};
+ghost use Rattle.gate_config.specs.Inner.Found.{key_view};
+ghost use Rattle.gate_config.specs.Parts.{is_fine, is_flag, is_object, keys_of, optional};
+ghost use Rattle.gate_config.specs.Places.{below};
+ghost use Rattle.gate_config.specs.Texts.{texts_of_entry};
+ghost use Rattle.gate_config.specs.declared.fault.ConfigFault.TheVariants.{Shape};
+
+use crate::fault::ConfigFault;
+use crate::parts::{check_object, keys, member, optional_flag, required_text};
+use crate::pattern_table::PatternTable;
+use crate::places::member_place;
+use gate_record::Text;
+use gate_rule::{Entry, Pattern, PatternFault};
+use serde_json::Value;
+use std::alloc::Global;
+
+// An entry of an attribute of patterns: a text, or an object with a text `regex`, and perhaps `negate`.
+pub(crate) fn read_entry(
+    alloc: Global,
+    table: &mut PatternTable,
+    here: &str,
+    value: &Value,
+) -> Result<Entry, ConfigFault>
+    ensures { Reads (entry_checks_at here.now (view value.now)) (λ entry. texts_of_entry entry ≡ entry_in (view value.now)) result }
+{
+    match value.as_str() {
+        Some(text) => Ok(Entry::new(build_pattern(alloc, table, here, text)?, false)),
+        None => read_object(alloc, table, here, value),
+    }
+}
+
+fn read_object(
+    alloc: Global,
+    table: &mut PatternTable,
+    here: &str,
+    value: &Value,
+) -> Result<Entry, ConfigFault>
+    ensures { Reads (regex_checks here.now (view value.now)) (λ entry. texts_of_entry entry ≡ entry_said None (view value.now)) result }
+{
+    check_keys(alloc, here, value)?;
+    let text = required_text(alloc, here, value, "regex")?;
+    let negate = read_negate(alloc, here, value)?;
+    let place = member_place(alloc, here, "regex")?;
+    let pattern = build_pattern(alloc, table, place.as_str(), text)?;
+    Ok(Entry::new(pattern, negate))
+}
+
+// An object that has no other keys than those of an entry. `Shape` at the first other one.
+fn check_keys(alloc: Global, here: &str, value: &Value) -> Result<(), ConfigFault>
+    ensures { Tests (Asks (is_object (view value.now)) (Shape here.now) ∷ flat_map (entry_key_checks here.now) (keys_of (Some (view value.now)))) result }
+{
+    check_object(alloc, here, value)?;
+    let keys = keys(alloc, Some(value))?;
+    check_each_key(alloc, here, keys.as_slice())
+}
+
+fn check_each_key(alloc: Global, here: &str, keys: &[&String]) -> Result<(), ConfigFault>
+    ensures { Tests (flat_map (entry_key_checks here.now) (map key_view keys.now)) result }
+{
+    for key in keys {
+        check_key(alloc, here, key.as_str())?;
+    }
+    Ok(())
+}
+
+fn check_key(alloc: Global, here: &str, key: &str) -> Result<(), ConfigFault>
+    ensures { Tests (entry_key_checks here.now key.now) result }
+{
+    match key {
+        "negate" | "regex" => Ok(()),
+        _ => Err(ConfigFault::Shape(member_place(alloc, here, key)?)),
+    }
+}
+
+// Whether an entry is negated; it isn't where nothing says so.
+fn read_negate(alloc: Global, here: &str, value: &Value) -> Result<bool, ConfigFault>
+    ensures { Reads (Asks (is_fine is_flag (optional (codes "negate") (view value.now))) (Shape (below here.now (codes "negate"))) ∷ [])
+        (λ negate. negate ≡ negates (view value.now)) result }
+{
+    let place = member_place(alloc, here, "negate")?;
+    let negate = optional_flag(alloc, place.as_str(), member(value, "negate"))?;
+    Ok(negate.unwrap_or(false))
+}
+
+// The pattern of a text. `Pattern` at the place where `regex` refuses it.
+fn build_pattern(
+    alloc: Global,
+    table: &mut PatternTable,
+    place: &str,
+    text: &str,
+) -> Result<Pattern, ConfigFault>
+    ensures { Reads (Builds text.now place.now ∷ []) (λ pattern. text_of pattern ≡ text.now) result }
+{
+    match table.pattern(alloc, text) {
+        Ok(pattern) => Ok(pattern),
+        Err(PatternFault::Memory) => Err(ConfigFault::Memory),
+        Err(PatternFault::Refused) => Err(ConfigFault::Pattern(Text::copy(alloc, place)?)),
+    }
+}
