@@ -5,7 +5,7 @@ use Rattle.std.specs.List.{list_all, list_any, zip}
 use Rattle.std.proofs.lemmas.List.{length-map}
 use Rattle.std.proofs.lemmas.List.Elements.{All-head, All-tail}
 use Rattle.std.proofs.lemmas.List.Folds.{list_all_more, list_any-append}
-use Rattle.std.proofs.lemmas.Simd.{zip2-map}
+use Rattle.std.proofs.lemmas.Simd.{map-map, zip2-map}
 use Rattle.std.proofs.lemmas.Slice.Zip.{seconds-zip}
 use Rattle.std.proofs.Math.Bool.{or_assoc}
 use Rattle.gate_record.specs.declared.event.Event.{Event}
@@ -17,8 +17,7 @@ use Rattle.gate_match.specs.declared.active.Active.{Active}
 use Rattle.gate_match.specs.Inner.Choosing.{AreActive, active_in, chosen, chosen_of, has_all, is_conn_of, listed_in}
 use Rattle.gate_match.specs.Inner.Marks.{both, either}
 use Rattle.gate_match.specs.Inner.Tables.{meets_any}
-use Rattle.gate_match.proofs.Ids.{map_alike, map_twice}
-use Rattle.gate_match.proofs.Rows.{none_of}
+use Rattle.gate_match.proofs.Rows.{map_alike, none_of}
 
 or_false : (b : Bool) → (b || false) ≡ b
 or_false true = refl
@@ -69,7 +68,7 @@ module _ (config : Config) (t p : ℕ) where
       chosen_of config t p (map (λ (row : ℕ × Event). row.1) batch) active ≡ map (of_conn active.conn) batch
   unfolding of_conn
   chosen_is active batch e =
-      ap₂ both e (map_twice (meets_any (rules_of config t p active.conn)) (λ (row : ℕ × Event). row.1) batch)
+      ap₂ both e (map-map (meets_any (rules_of config t p active.conn)) (λ (row : ℕ × Event). row.1) batch)
       ∙ zip2-map (λ a b. a && b) (λ (row : ℕ × Event). row.0 == active.conn && is_listed config t active.conn row.1.project) (λ (row : ℕ × Event). meets_any (rules_of config t p active.conn) row.1) batch
 
   joined : (actives : List Active) (g : ℕ × Event → Bool) (batch : List (ℕ × Event)) → AreActive config t batch actives →

@@ -1,10 +1,10 @@
 pub mod Attributes
 pub mod Chosen
 pub mod Finding
-pub mod Ids
 pub mod Masks
 pub mod Narrowed
 pub mod Results
 pub mod Rows
+pub mod Texts
 pub mod Truncated
 pub mod Votes

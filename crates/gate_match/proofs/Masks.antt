@@ -26,6 +26,11 @@ pub words_of_map : {A : Type 0} (f : A → Bool) (xs : List A) → map (λ x. ma
 words_of_map f [] = refl
 words_of_map f (x ∷ xs) = ap (λ ws. mark_if (f x) ∷ ws) (words_of_map f xs)
 
+-- rows that are marked alike pass alike
+pub marked_alike : {A B : Type 0} (f : A → Bool) (g : B → Bool) (xs : List A) (ys : List B) → map (λ x. mark_if (f x)) xs ≡ map (λ y. mark_if (g y)) ys → map f xs ≡ map g ys
+marked_alike f g xs ys e =
+    sym (marks_are (map (λ x. mark_if (f x)) xs) (map f xs) (words_of_map f xs)) ∙ marks_are (map (λ x. mark_if (f x)) xs) (map g ys) (e ∙ words_of_map g ys)
+
 pub words_of_none : (n : ℕ) → replicate n 0 ≡ words_of (replicate n false)
 words_of_none zero = refl
 words_of_none (suc n) = ap (λ ws. 0 ∷ ws) (words_of_none n)

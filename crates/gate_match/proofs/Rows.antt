@@ -6,7 +6,10 @@ use Rattle.std.proofs.lemmas.Simd.{zip2-map}
 use Rattle.std.proofs.Math.Bool.{and_assoc}
 use Rattle.std.proofs.lemmas.List.{take_all}
 use Rattle.gate_match.specs.Inner.Marks.{both, either, marks_any, without}
-use Rattle.gate_match.proofs.Ids.{map_alike}
+
+pub map_alike : {A B : Type 0} (f g : A → B) (xs : List A) → ((x : A) → f x ≡ g x) → map f xs ≡ map g xs
+map_alike f g [] h = refl
+map_alike f g (x ∷ xs) h = ap₂ ◌∷◌ (h x) (map_alike f g xs h)
 
 or_left : (a b : Bool) → (a || b) ≡ false → a ≡ false
 or_left true b e = e

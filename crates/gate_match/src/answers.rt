@@ -1,31 +1,46 @@
-ghost use Rattle.std.specs.Prelude.{◌≡◌, IfOk, IfSome, OnOk, List, length};
+ghost use Rattle.std.specs.Prelude.{◌≡◌, IfOk, IfSome, OnOk, List, length, true};
 ghost use Rattle.gate_record.specs.declared.event.Event.{Event};
-ghost use Rattle.gate_rule.specs.Pattern.{text_of};
-ghost use Rattle.gate_match.specs.Inner.Finding.{HoldsOfText, found_in};
+ghost use Rattle.gate_config.specs.Texts.{texts_of_entry};
+ghost use Rattle.gate_match.specs.Inner.Finding.{HoldsOfEntry, met_in};
+ghost use Rattle.gate_match.specs.Inner.Knowing.{asked_in};
 ghost use Rattle.gate_match.specs.Inner.Marks.{either};
 
 use crate::asked::Asked;
+use crate::given::Approvals;
 use crate::mask::Mask;
 use crate::reach::reach_in;
 use crate::shelf::Shelf;
-use gate_intern::{Columns, Field, columns_give_fields_back};
+use gate_intern::{Columns, Field, texts_mark_their_events};
 use gate_record::Memory;
+use gate_rule::Entry;
 use std::alloc::Global;
 use std::collections::BTreeMap;
 
-// The rows of a batch in whose field patterns of a text are found.
+// The rows of a batch whose field meets the entries of a pattern's text that are negated, or those that aren't.
 #[derive(Drop)]
 pub(crate) struct Answer<'c> {
     field: Field,
     text: &'c str,
+    negate: bool,
     rows: Mask,
 }
 
-// What was found so far in the fields of a batch, by field and number of the pattern, so that no pattern is tried twice on a
-// field. What stands at a place tells of which field and text it is.
+// What was found so far in a batch: in its fields, by field and number of the pattern, so that no entry is tried twice on a
+// field; and of its approvals. What stands at a place tells of which field and entry it is.
 #[derive(Drop)]
 pub(crate) struct Answers<'c> {
     known: BTreeMap<usize, Answer<'c>>,
+    pub(crate) approvals: Approvals,
+}
+
+impl<'c> Answer<'c> {
+    // Whether this is the answer of the entry in the field.
+    fn is_of(&self, field: Field, entry: &Entry) -> bool
+        ensures field { result ≡ true → self.now.field ≡ field }
+        ensures entry { result ≡ true → asked_in self.now ≡ texts_of_entry entry.now }
+    {
+        self.field == field && self.negate == entry.negate && self.text == entry.pattern.text()
+    }
 }
 
 impl<'c> Answers<'c> {
@@ -37,10 +52,11 @@ impl<'c> Answers<'c> {
     {
         Answers {
             known: BTreeMap::new(alloc),
+            approvals: Approvals::none(alloc),
         }
     }
 
-    // Adds to the rows those in whose field the pattern is found.
+    // Adds to the rows those whose field meets the entry.
     pub(crate) fn add(
         &mut self,
         alloc: Global,
@@ -54,7 +70,7 @@ impl<'c> Answers<'c> {
         requires len { length out.old ≡ length columns.now }
         ensures right { AreRight columns.now self.new }
         ensures len { length out.new ≡ length columns.now }
-        ensures adds { OnOk result (out.new ≡ either out.old (found_in field asked.now.pattern.now columns.now)) }
+        ensures adds { OnOk result (out.new ≡ either out.old (met_in field asked.now.entry.now columns.now)) }
     {
         let place = place(shelf, field, asked);
         if let Some(rows) = self.find(place, field, asked) {
@@ -66,14 +82,12 @@ impl<'c> Answers<'c> {
         self.keep(place, field, asked, rows)
     }
 
-    // What is known of the pattern's text in the field.
+    // What is known of the entry in the field.
     fn find(&self, place: usize, field: Field, asked: &Asked<'c>) -> Option<&Mask>
-        ensures { (events : List Event) → AreRight events self.now → IfSome result (λ rows. rows.now ≡ found_in field asked.now.pattern.now events) }
+        ensures { (events : List Event) → AreRight events self.now → IfSome result (λ rows. rows.now ≡ met_in field asked.now.entry.now events) }
     {
         match self.known.get(&place) {
-            Some(answer) if answer.field == field && answer.text == asked.pattern.text() => {
-                Some(&answer.rows)
-            }
+            Some(answer) if answer.is_of(field, asked.entry) => Some(&answer.rows),
             _ => None,
         }
     }
@@ -85,15 +99,20 @@ impl<'c> Answers<'c> {
         asked: &Asked<'c>,
         rows: Mask,
     ) -> Result<(), Memory>
-        ensures { (events : List Event) → AreRight events self.old → HoldsOfText (text_of asked.now.pattern.now) (λ pattern. rows ≡ found_in field pattern events) → AreRight events self.new }
+        ensures { (events : List Event) → AreRight events self.old → HoldsOfEntry (texts_of_entry asked.now.entry.now) (λ entry. rows ≡ met_in field entry events) → AreRight events self.new }
     {
-        let text = asked.pattern.text();
-        self.known.insert(place, Answer { field, text, rows })?;
+        let answer = Answer {
+            field,
+            text: asked.entry.pattern.text(),
+            negate: asked.entry.negate,
+            rows,
+        };
+        self.known.insert(place, answer)?;
         Ok(())
     }
 }
 
-// The rows in whose field the pattern is found, and so each pattern of its text.
+// The rows whose field meets the entry, and so each entry of its texts.
 fn rows<'c>(
     alloc: Global,
     shelf: &Shelf<'c>,
@@ -101,9 +120,9 @@ fn rows<'c>(
     field: Field,
     asked: &Asked<'c>,
 ) -> Result<Mask, Memory>
-    ensures { IfOk result (λ rows. HoldsOfText (text_of asked.now.pattern.now) (λ pattern. rows ≡ found_in field pattern columns.now)) }
+    ensures { IfOk result (λ rows. HoldsOfEntry (texts_of_entry asked.now.entry.now) (λ entry. rows ≡ met_in field entry columns.now)) }
 {
-    columns_give_fields_back();
+    texts_mark_their_events();
     shelf.rows(
         alloc,
         asked,
@@ -113,11 +132,14 @@ fn rows<'c>(
     )
 }
 
-// Where the answer of a pattern is kept: behind the numbers of all patterns for each field before this one.
+// Where the answer of an entry is kept: behind the numbers of all patterns for each field before this one, and for each pattern
+// there are two.
 fn place(shelf: &Shelf<'_>, field: Field, asked: &Asked<'_>) -> usize {
     field_place(field)
         .wrapping_mul(shelf.len())
         .wrapping_add(asked.number)
+        .wrapping_mul(2)
+        .wrapping_add(usize::from(asked.entry.negate))
 }
 
 fn field_place(field: Field) -> usize {

@@ -1,8 +1,8 @@
-use gate_rule::Pattern;
+use gate_rule::Entry;
 
-// A pattern of a rule, with the number under which what is known of its text is looked up first.
+// An entry of a rule, with the number under which what is known of its pattern's text is looked up first.
 #[derive(Clone, Copy, Drop)]
 pub(crate) struct Asked<'c> {
-    pub(crate) pattern: &'c Pattern,
+    pub(crate) entry: &'c Entry,
     pub(crate) number: usize,
 }

@@ -44,7 +44,7 @@ impl<'c> Program<'c> {
     /// selects the event, an event of the connection that `conns` has at its place, and 0 where it doesn't. `Memory` where
     /// the masks, or what the searches need, find no room.
     ///
-    /// Each pattern is tried once on each distinct text of the batch, and only where a rule of a connection that is in
+    /// Each entry is tried once on each distinct text of the batch, and only where a rule of a connection that is in
     /// the batch asks for it.
     pub fn select(
         &self,

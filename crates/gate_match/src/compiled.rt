@@ -1,7 +1,7 @@
 use crate::asked::Asked;
 use gate_record::Text;
 
-// A rule with the numbers of its patterns' texts.
+// A rule with the numbers of its entries' texts.
 #[derive(Drop)]
 pub(crate) struct Compiled<'c> {
     pub(crate) event: Vec<Asked<'c>>,

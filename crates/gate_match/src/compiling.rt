@@ -1,12 +1,12 @@
 ghost use Rattle.std.specs.Prelude.{◌≡◌, IfOk};
 ghost use Rattle.gate_match.specs.Inner.Compiling.{rule_of, rules_in};
-ghost use Rattle.gate_match.specs.Inner.Narrowing.{patterns_of};
+ghost use Rattle.gate_match.specs.Inner.Narrowing.{entries_of};
 
 use crate::asked::Asked;
 use crate::compiled::Compiled;
 use crate::shelf::Shelf;
 use gate_record::Memory;
-use gate_rule::{Pattern, Rule};
+use gate_rule::{Entry, Rule};
 use std::alloc::Global;
 
 // The rules of a connection, in order.
@@ -52,18 +52,18 @@ fn compile_rule<'c>(
 fn all_asked<'c>(
     alloc: Global,
     shelf: &Shelf<'c>,
-    patterns: &'c [Pattern],
+    entries: &'c [Entry],
 ) -> Result<Vec<Asked<'c>>, Memory>
-    ensures { IfOk result (λ asked. patterns_of asked.items ≡ patterns.entry.now) }
+    ensures { IfOk result (λ asked. entries_of asked.items ≡ entries.entry.now) }
 {
-    let mut asked = Vec::with_capacity(alloc, patterns.len())?;
-    for pattern in patterns {
-        asked.push(shelf.asked(pattern))?;
+    let mut asked = Vec::with_capacity(alloc, entries.len())?;
+    for entry in entries {
+        asked.push(shelf.asked(entry))?;
     }
     Ok(asked)
 }
 
-// Makes the matchers of a rule's patterns, where their texts have none.
+// Makes the matchers of the patterns in a rule's entries, where their texts have none.
 pub(crate) fn keep_rule<'c>(
     alloc: Global,
     shelf: &mut Shelf<'c>,
@@ -77,13 +77,9 @@ pub(crate) fn keep_rule<'c>(
     keep_all(alloc, shelf, rule.comment.as_slice())
 }
 
-fn keep_all<'c>(
-    alloc: Global,
-    shelf: &mut Shelf<'c>,
-    patterns: &'c [Pattern],
-) -> Result<(), Memory> {
-    for pattern in patterns {
-        shelf.keep(alloc, pattern)?;
+fn keep_all<'c>(alloc: Global, shelf: &mut Shelf<'c>, entries: &'c [Entry]) -> Result<(), Memory> {
+    for entry in entries {
+        shelf.keep(alloc, &entry.pattern)?;
     }
     Ok(())
 }

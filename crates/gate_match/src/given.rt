@@ -1,66 +1,91 @@
-ghost use Rattle.std.specs.Prelude.{◌≡◌, ◌%◌, IfOk, length, map};
-ghost use Rattle.std.specs.List.{list_any, range_with_len};
-ghost use Rattle.gate_intern.specs.Columns.{is_same_vote};
+ghost use Rattle.std.specs.Prelude.{◌≡◌, IfOk, IfSome, OnOk, List, length, map};
+ghost use Rattle.std.specs.List.{range_with_len};
+ghost use Rattle.gate_record.specs.declared.event.Event.{Event};
+ghost use Rattle.gate_intern.specs.Columns.{approval_cells_of};
 ghost use Rattle.gate_lanes.specs.Masks.{is_in_row};
-ghost use Rattle.gate_match.specs.Inner.Finding.{ids_where};
+ghost use Rattle.gate_match.specs.Inner.Marks.{both};
 ghost use Rattle.gate_match.specs.Inner.Narrowing.{given_to};
 
 use crate::mask::Mask;
-use gate_intern::{Columns, cells_give_approvals_back};
+use gate_intern::{Columns, approvals_mark_their_events};
 use gate_record::{Memory, Text};
 use std::alloc::Global;
+use std::collections::BTreeMap;
 
-// The rows to which the category is given, with this vote.
-pub(crate) fn given_rows(
-    alloc: Global,
-    columns: &Columns<'_>,
-    wanted: &(Text, i64),
-) -> Result<Mask, Memory>
-    ensures { IfOk result (λ rows. rows ≡ given_to wanted.now columns.now) }
-{
-    cells_give_approvals_back();
-    let ids = ids_of(alloc, columns.approvals(), wanted)?;
-    any_in_row(
-        alloc,
-        columns.approval_cells(),
-        columns.rows(),
-        ids.as_slice(),
-    )
+// The rows of a batch that have an approval, by the number that it has in the cells.
+#[derive(Drop)]
+pub(crate) struct Given {
+    number: u32,
+    rows: Mask,
 }
 
-// The rows that have one of the ids in a cell.
-fn any_in_row(alloc: Global, cells: &[u32], rows: usize, ids: &[u32]) -> Result<Mask, Memory>
-    requires { length cells.now % rows ≡ 0 }
-    ensures { IfOk result (λ mask. mask ≡ map (λ row. list_any (λ id. is_in_row cells.now rows id row) ids.now) (range_with_len 0 rows)) }
-{
-    let mut any = Mask::none(alloc, rows)?;
-    for id in ids {
-        let mask = Mask::of_slots(alloc, cells, rows, *id)?;
-        any.or(&mask);
-    }
-    Ok(any)
+// What was found so far of the approvals of a batch, by their numbers. What stands at a place tells of which number it is.
+#[derive(Drop)]
+pub(crate) struct Approvals {
+    known: BTreeMap<u32, Given>,
 }
 
-// The ids of the approvals of this category and vote.
-fn ids_of(alloc: Global, votes: &[(&str, i64)], wanted: &(Text, i64)) -> Result<Vec<u32>, Memory>
-    ensures { IfOk result (λ ids. ids.items ≡ ids_where (λ vote. is_same_vote vote wanted.now) (map (λ vote. (vote.0.now, vote.1)) votes.now)) }
-{
-    let mut ids = Vec::new(alloc);
-    let mut id: u32 = 0;
-    for vote in votes {
-        let Some(next) = id.checked_add(1) else {
-            return Err(Memory);
-        };
-        id = next;
-        if is_vote(vote, wanted) {
-            ids.push(id)?;
+impl Approvals {
+    ghost use Rattle.gate_match.specs.Inner.Knowing.{AreGiven};
+
+    // Nothing was asked.
+    pub(crate) fn none(alloc: Global) -> Approvals
+        ensures { (events : List Event) → AreGiven events result }
+    {
+        Approvals {
+            known: BTreeMap::new(alloc),
         }
     }
-    Ok(ids)
+
+    // Leaves of the rows those to which the category is given, with this vote. Where none is left, it isn't looked for.
+    pub(crate) fn leave(
+        &mut self,
+        alloc: Global,
+        columns: &Columns<'_>,
+        wanted: &(Text, i64),
+        out: &mut Mask,
+    ) -> Result<(), Memory>
+        requires right { AreGiven columns.now self.old }
+        requires len { length out.old ≡ length columns.now }
+        ensures right { AreGiven columns.now self.new }
+        ensures len { length out.new ≡ length columns.now }
+        ensures leaves { OnOk result (out.new ≡ both out.old (given_to wanted.now columns.now)) }
+    {
+        if out.is_none() {
+            return Ok(());
+        }
+        approvals_mark_their_events();
+        let number = columns.approval_number(wanted)?;
+        if let Some(rows) = self.find(number) {
+            out.and(rows);
+            return Ok(());
+        }
+        let rows = rows(alloc, columns, number)?;
+        out.and(&rows);
+        self.keep(number, rows)
+    }
+
+    // What is known of the number.
+    fn find(&self, number: u32) -> Option<&Mask>
+        ensures { (events : List Event) → AreGiven events self.now → IfSome result (λ rows. rows.now ≡ map (is_in_row (approval_cells_of events) (length events) number) (range_with_len 0 (length events))) }
+    {
+        match self.known.get(&number) {
+            Some(given) if given.number == number => Some(&given.rows),
+            _ => None,
+        }
+    }
+
+    fn keep(&mut self, number: u32, rows: Mask) -> Result<(), Memory>
+        ensures { (events : List Event) → AreGiven events self.old → rows ≡ map (is_in_row (approval_cells_of events) (length events) number) (range_with_len 0 (length events)) → AreGiven events self.new }
+    {
+        self.known.insert(number, Given { number, rows })?;
+        Ok(())
+    }
 }
 
-fn is_vote(vote: &(&str, i64), wanted: &(Text, i64)) -> bool
-    ensures { result ≡ is_same_vote (vote.now.0.now, vote.now.1) wanted.now }
+// The rows that have the number in a cell.
+fn rows(alloc: Global, columns: &Columns<'_>, number: u32) -> Result<Mask, Memory>
+    ensures { IfOk result (λ rows. rows ≡ map (is_in_row (approval_cells_of columns.now) (length columns.now) number) (range_with_len 0 (length columns.now))) }
 {
-    vote.0 == wanted.0.as_str() && vote.1 == wanted.1
+    Mask::of_slots(alloc, columns.approval_cells(), columns.rows(), number)
 }

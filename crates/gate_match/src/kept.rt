@@ -1,10 +1,12 @@
 ghost use Rattle.std.specs.Prelude.{◌≡◌, ◌++◌, IfOk, map};
 ghost use Rattle.gate_rule.specs.Pattern.{text_of, tree_in, tree_of};
-ghost use Rattle.gate_match.specs.Inner.Finding.{HoldsOfText, finds, ids_where};
+ghost use Rattle.gate_config.specs.Texts.{texts_of_entry};
+ghost use Rattle.gate_intern.specs.Marks.{numbers_where};
+ghost use Rattle.gate_match.specs.Inner.Finding.{HoldsOfEntry, HoldsOfText, entry_meets, finds};
 
 use crate::reach::Reach;
 use gate_record::Memory;
-use gate_rule::{Matcher, Pattern, patterns_of_one_text_answer_alike};
+use gate_rule::{Entry, Matcher, Pattern, patterns_of_one_text_answer_alike};
 use std::alloc::Global;
 
 // A pattern with its matcher, ready for one text after another. A matcher has some kilobytes in itself, so it stands in a box: what is
@@ -27,7 +29,7 @@ impl<'c> Kept<'c> {
     }
 
     // Whether the pattern is found in the text, and so each pattern that is built of the same.
-    pub(crate) fn finds(&mut self, reach: Reach, text: &str) -> bool
+    fn finds(&mut self, reach: Reach, text: &str) -> bool
         ensures found { HoldsOfText (text_of self.old.pattern.now) (λ pattern. result ≡ finds reach pattern text.now) }
         ensures same { self.new.pattern ≡ self.old.pattern }
     {
@@ -38,14 +40,25 @@ impl<'c> Kept<'c> {
         }
     }
 
-    // The ids of the texts in which the pattern is found.
+    // Whether the text meets an entry of this pattern's text, and so each entry that is negated alike.
+    fn meets(&mut self, reach: Reach, entry: &Entry, text: &str) -> bool
+        requires { text_of self.old.pattern.now ≡ text_of entry.now.pattern }
+        ensures met { HoldsOfEntry (texts_of_entry entry.now) (λ one. result ≡ entry_meets reach one text.now) }
+        ensures same { self.new.pattern ≡ self.old.pattern }
+    {
+        entry.answer(self.finds(reach, text))
+    }
+
+    // The ids of the texts that meet an entry of this pattern's text.
     pub(crate) fn ids(
         &mut self,
         alloc: Global,
         reach: Reach,
+        entry: &Entry,
         texts: &[&str],
     ) -> Result<Vec<u32>, Memory>
-        ensures found { IfOk result (λ ids. HoldsOfText (text_of self.old.pattern.now) (λ pattern. ids.items ≡ ids_where (finds reach pattern) (map (λ text. text.now) texts.now))) }
+        requires { text_of self.old.pattern.now ≡ text_of entry.now.pattern }
+        ensures met { IfOk result (λ ids. HoldsOfEntry (texts_of_entry entry.now) (λ one. ids.items ≡ numbers_where (entry_meets reach one) (map (λ text. text.now) texts.now))) }
         ensures same { self.new.pattern ≡ self.old.pattern }
     {
         let mut ids = Vec::new(alloc);
@@ -55,7 +68,7 @@ impl<'c> Kept<'c> {
                 return Err(Memory);
             };
             id = next;
-            if self.finds(reach, text) {
+            if self.meets(reach, entry, text) {
                 ids.push(id)?;
             }
         }

@@ -1,11 +1,11 @@
 ghost use Rattle.std.specs.Prelude.{◌≡◌, IfOk, map};
 ghost use Rattle.gate_config.specs.Lookups.{belongs};
-ghost use Rattle.gate_match.specs.Inner.Finding.{ids_where};
+ghost use Rattle.gate_intern.specs.Marks.{numbers_where};
 ghost use Rattle.gate_match.specs.Inner.Choosing.{listed_in};
 
 use crate::mask::Mask;
 use gate_config::Config;
-use gate_intern::{Columns, Field, columns_give_fields_back};
+use gate_intern::{Columns, Field, texts_mark_their_events};
 use gate_record::{ConnId, Memory, TenantId};
 use std::alloc::Global;
 
@@ -19,7 +19,7 @@ pub(crate) fn listed_rows(
 ) -> Result<Mask, Memory>
     ensures { IfOk result (λ rows. rows ≡ listed_in config.now tenant.0 conn.0 columns.now) }
 {
-    columns_give_fields_back();
+    texts_mark_their_events();
     let ids = listed_ids(alloc, config, tenant, conn, columns.texts(Field::Project))?;
     Mask::of_ids(alloc, columns.column(Field::Project), ids.as_slice())
 }
@@ -31,7 +31,7 @@ fn listed_ids(
     conn: ConnId,
     projects: &[&str],
 ) -> Result<Vec<u32>, Memory>
-    ensures { IfOk result (λ ids. ids.items ≡ ids_where (belongs config.now tenant.0 conn.0) (map (λ text. text.now) projects.now)) }
+    ensures { IfOk result (λ ids. ids.items ≡ numbers_where (belongs config.now tenant.0 conn.0) (map (λ text. text.now) projects.now)) }
 {
     let mut ids = Vec::new(alloc);
     let mut id: u32 = 0;

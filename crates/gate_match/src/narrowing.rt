@@ -2,19 +2,18 @@ ghost use Rattle.std.specs.Prelude.{◌≡◌, IfOk, OnOk, length};
 ghost use Rattle.gate_match.specs.Inner.Knowing.{AreRight};
 ghost use Rattle.gate_match.specs.Inner.Marks.{both};
 ghost use Rattle.gate_match.specs.Inner.Compiling.{rule_of};
-ghost use Rattle.gate_match.specs.Inner.Narrowing.{any_found_in, approved, meeting, meeting_front, meeting_in, meeting_rest, not_ignored, patterns_of};
+ghost use Rattle.gate_match.specs.Inner.Narrowing.{any_met_in, approved, meeting, meeting_front, meeting_in, meeting_rest, not_ignored, entries_of};
 
 use crate::answers::Answers;
 use crate::asked::Asked;
 use crate::compiled::Compiled;
-use crate::given::given_rows;
 use crate::mask::Mask;
 use crate::shelf::Shelf;
 use gate_intern::{Columns, Field};
 use gate_record::{Memory, Text};
 use std::alloc::Global;
 
-// Leaves of the rows those whose event meets the rule. Where none is left, what remains of the rule isn't looked at.
+// Leaves of the rows those whose event meets the rule. Where none is left, nothing that remains of the rule is looked for.
 pub(crate) fn narrow<'c>(
     alloc: Global,
     shelf: &Shelf<'c>,
@@ -108,7 +107,7 @@ fn narrow_rest<'c>(
         answers,
         out,
     )?;
-    narrow_in(
+    narrow_left_in(
         alloc,
         shelf,
         columns,
@@ -117,7 +116,7 @@ fn narrow_rest<'c>(
         answers,
         out,
     )?;
-    narrow_in(
+    narrow_left_in(
         alloc,
         shelf,
         columns,
@@ -126,12 +125,12 @@ fn narrow_rest<'c>(
         answers,
         out,
     )?;
-    narrow_approved(alloc, columns, rule.approval, out)?;
+    narrow_approved(alloc, columns, rule.approval, answers, out)?;
     narrow_deletes(columns, rule.ignore_deletes, out);
     Ok(())
 }
 
-// Leaves of the rows those in whose field one of the patterns is found. With no pattern all stay.
+// Leaves of the rows those whose field meets one of the entries. With no entry all stay.
 fn narrow_in<'c>(
     alloc: Global,
     shelf: &Shelf<'c>,
@@ -145,18 +144,40 @@ fn narrow_in<'c>(
     requires len { length out.old ≡ length columns.now }
     ensures right { AreRight columns.now answers.new }
     ensures len { length out.new ≡ length columns.now }
-    ensures leaves { OnOk result (out.new ≡ both out.old (meeting_in field (patterns_of asked.now) columns.now)) }
+    ensures leaves { OnOk result (out.new ≡ both out.old (meeting_in field (entries_of asked.now) columns.now)) }
 {
     if asked.is_empty() {
         return Ok(());
     }
-    let found = any_found(alloc, shelf, columns, field, asked, answers)?;
-    out.and(&found);
+    let met = any_met(alloc, shelf, columns, field, asked, answers)?;
+    out.and(&met);
     Ok(())
 }
 
-// The rows in whose field one of the patterns is found.
-fn any_found<'c>(
+// The same where rows are left: where none is, nothing is looked for.
+fn narrow_left_in<'c>(
+    alloc: Global,
+    shelf: &Shelf<'c>,
+    columns: &Columns<'_>,
+    field: Field,
+    asked: &[Asked<'c>],
+    answers: &mut Answers<'c>,
+    out: &mut Mask,
+) -> Result<(), Memory>
+    requires right { AreRight columns.now answers.old }
+    requires len { length out.old ≡ length columns.now }
+    ensures right { AreRight columns.now answers.new }
+    ensures len { length out.new ≡ length columns.now }
+    ensures leaves { OnOk result (out.new ≡ both out.old (meeting_in field (entries_of asked.now) columns.now)) }
+{
+    if out.is_none() {
+        return Ok(());
+    }
+    narrow_in(alloc, shelf, columns, field, asked, answers, out)
+}
+
+// The rows whose field meets one of the entries.
+fn any_met<'c>(
     alloc: Global,
     shelf: &Shelf<'c>,
     columns: &Columns<'_>,
@@ -166,13 +187,13 @@ fn any_found<'c>(
 ) -> Result<Mask, Memory>
     requires { AreRight columns.now answers.old }
     ensures right { AreRight columns.now answers.new }
-    ensures found { IfOk result (λ rows. rows ≡ any_found_in field (patterns_of asked.now) columns.now) }
+    ensures met { IfOk result (λ rows. rows ≡ any_met_in field (entries_of asked.now) columns.now) }
 {
-    let mut found = Mask::none(alloc, columns.rows())?;
+    let mut met = Mask::none(alloc, columns.rows())?;
     for one in asked {
-        answers.add(alloc, shelf, columns, field, one, &mut found)?;
+        answers.add(alloc, shelf, columns, field, one, &mut met)?;
     }
-    Ok(found)
+    Ok(met)
 }
 
 // Leaves of the rows those to which each of the categories is given, with its vote.
@@ -180,15 +201,17 @@ fn narrow_approved(
     alloc: Global,
     columns: &Columns<'_>,
     asked: &[(Text, i64)],
+    answers: &mut Answers<'_>,
     out: &mut Mask,
 ) -> Result<(), Memory>
-    requires { length out.old ≡ length columns.now }
+    requires right { AreRight columns.now answers.old }
+    requires len { length out.old ≡ length columns.now }
+    ensures right { AreRight columns.now answers.new }
     ensures len { length out.new ≡ length columns.now }
     ensures leaves { OnOk result (out.new ≡ both out.old (approved asked.now columns.now)) }
 {
     for wanted in asked {
-        let given = given_rows(alloc, columns, wanted)?;
-        out.and(&given);
+        answers.approvals.leave(alloc, columns, wanted, out)?;
     }
     Ok(())
 }

@@ -1,13 +1,16 @@
 ghost use Rattle.std.specs.Prelude.{◌≡◌, IfOk, IfSome, map};
 ghost use Rattle.gate_rule.specs.Pattern.{text_of};
-ghost use Rattle.gate_match.specs.Inner.Finding.{HoldsOfText, finds, rows_where};
+ghost use Rattle.gate_config.specs.Texts.{texts_of_entry};
+ghost use Rattle.gate_lanes.specs.Masks.{is_among};
+ghost use Rattle.gate_intern.specs.Marks.{numbers_where};
+ghost use Rattle.gate_match.specs.Inner.Finding.{HoldsOfEntry, entry_meets};
 
 use crate::asked::Asked;
 use crate::kept::Kept;
 use crate::mask::Mask;
 use crate::reach::Reach;
 use gate_record::Memory;
-use gate_rule::Pattern;
+use gate_rule::{Entry, Pattern};
 use indexmap::IndexSet;
 use std::alloc::Global;
 use std::cell::Cell;
@@ -44,18 +47,18 @@ impl<'c> Shelf<'c> {
         Ok(())
     }
 
-    // The pattern with the number of its text, or with one more than all numbers where its text has none.
-    pub(crate) fn asked(&self, pattern: &'c Pattern) -> Asked<'c>
-        ensures { result.pattern.now ≡ pattern.entry.now }
+    // The entry with the number of its pattern's text, or with one more than all numbers where that has none.
+    pub(crate) fn asked(&self, entry: &'c Entry) -> Asked<'c>
+        ensures { result.entry.now ≡ entry.entry.now }
     {
-        let number = match self.texts.get_index_of(pattern.text()) {
+        let number = match self.texts.get_index_of(entry.pattern.text()) {
             Some(number) => number,
             None => self.places.len(),
         };
-        Asked { pattern, number }
+        Asked { entry, number }
     }
 
-    // The rows of a column in whose text the pattern is found.
+    // The rows of a column whose text meets the entry.
     pub(crate) fn rows(
         &self,
         alloc: Global,
@@ -64,21 +67,21 @@ impl<'c> Shelf<'c> {
         texts: &[&str],
         column: &[u32],
     ) -> Result<Mask, Memory>
-        ensures { IfOk result (λ mask. HoldsOfText (text_of asked.now.pattern.now) (λ pattern. mask ≡ rows_where (finds reach pattern) (map (λ text. text.now) texts.now) column.now)) }
+        ensures { IfOk result (λ mask. HoldsOfEntry (texts_of_entry asked.now.entry.now) (λ entry. mask ≡ map (is_among (numbers_where (entry_meets reach entry) (map (λ text. text.now) texts.now))) column.now)) }
     {
         let mut kept = self.take(alloc, asked)?;
-        let ids = kept.ids(alloc, reach, texts);
+        let ids = kept.ids(alloc, reach, asked.entry, texts);
         self.put_back(asked.number, kept);
         Mask::of_ids(alloc, column, ids?.as_slice())
     }
 
-    // A matcher for the text of the pattern.
+    // A matcher for the text of the entry's pattern.
     fn take(&self, alloc: Global, asked: &Asked<'c>) -> Result<Kept<'c>, Memory>
-        ensures { IfOk result (λ kept. text_of kept.pattern.now ≡ text_of asked.now.pattern.now) }
+        ensures { IfOk result (λ kept. text_of kept.pattern.now ≡ text_of asked.now.entry.now.pattern) }
     {
         match self.taken(asked.number) {
-            Some(kept) if kept.pattern.text() == asked.pattern.text() => Ok(kept),
-            _ => Kept::new(alloc, asked.pattern),
+            Some(kept) if kept.pattern.text() == asked.entry.pattern.text() => Ok(kept),
+            _ => Kept::new(alloc, &asked.entry.pattern),
         }
     }
 

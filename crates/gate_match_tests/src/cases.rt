@@ -6,7 +6,8 @@ use std::alloc::Global;
 use std::process::Abort;
 use std::test::Fail;
 
-// Two connections, three pipelines; each attribute of rules is there.
+// Two connections, four pipelines; each attribute of rules is there. What the last pipeline's rules negate, others ask for as it is,
+// some in the same list: an answer isn't kept for its negation.
 const CONFIG: &str = r#"{"tenants":[{"name":"main","source":{
     "gerrit":{"untrusted-projects":["tools","docs"]},"other":{"untrusted-projects":["tools"]}}}],
 "config":{"main":[
@@ -17,7 +18,12 @@ const CONFIG: &str = r#"{"tenants":[{"name":"main","source":{
         "gerrit":[{"event":"comment-added","approval":[{"Code-Review":2,"Verified":1}]},{"event":"comment","username":"ot$"}],
         "other":[{"event":".*","approval":{"Verified":2}}]}}},
     {"pipeline":{"name":"post","manager":"independent","trigger":{
-        "gerrit":[{"event":"ref-updated","ref":"refs/heads/"},{"event":"ref-updated","ignore-deletes":false,"email":"@x"}]}}}]}}"#;
+        "gerrit":[{"event":"ref-updated","ref":"refs/heads/"},{"event":"ref-updated","ignore-deletes":false,"email":"@x"}]}}},
+    {"pipeline":{"name":"others","manager":"independent","trigger":{
+        "gerrit":[{"event":{"regex":"comment-added","negate":true},"branch":{"regex":"main","negate":true}},
+            {"event":"comment-added","comment":["please",{"regex":"recheck","negate":true}],"username":{"regex":"ot$","negate":true}}],
+        "other":[{"event":".*","ref":{"regex":"refs/heads/","negate":true},"email":["@x",{"regex":"@x","negate":true}]},
+            {"event":["ref",{"regex":"ref","negate":true}],"branch":[{"regex":"^stable$","negate":true},{"regex":"st","negate":true}]}]}}}]}}"#;
 
 fn config(alloc: Global) -> Result<Config, Fail> {
     match read_config(alloc, CONFIG.as_bytes()) {
@@ -27,7 +33,7 @@ fn config(alloc: Global) -> Result<Config, Fail> {
 }
 
 // How many programs there are, and how many batches each of them matches, one after another.
-const PROGRAMS: u32 = 40;
+const PROGRAMS: u32 = 20;
 
 const BATCHES: u32 = 50;
 

@@ -1,12 +1,16 @@
 -- What patterns find in the texts of a batch.
-use Rattle.std.specs.Prelude.{◌≡◌, ◌+◌, ℕ, List, [], ◌∷◌, Bool, false, Option, Some, None, map, if◌then◌else◌}
+use Rattle.std.specs.Prelude.{◌≡◌, ℕ, List, Bool, map}
 use Rattle.gate_record.specs.declared.event.Event.{Event}
-use Rattle.gate_lanes.specs.Masks.{is_among}
+use Rattle.gate_config.specs.Document.{EntryTexts}
+use Rattle.gate_config.specs.Texts.{texts_of_entry}
+use Rattle.gate_rule.specs.declared.entry.Entry.{Entry}
 use Rattle.gate_rule.specs.declared.pattern.Pattern.{Pattern}
+use Rattle.gate_rule.specs.Entry.{turned}
 use Rattle.gate_rule.specs.Pattern.{front, text_of, within}
 use Rattle.gate_intern.specs.declared.field.Field.{Field}
 use Rattle.gate_intern.specs.declared.field.Field.TheVariants.{Kind, Project, Branch, Refname, Username, Email, Comment}
 use Rattle.gate_intern.specs.Columns.{field_of}
+use Rattle.gate_intern.specs.Marks.{passes}
 use Rattle.gate_match.specs.declared.reach.Reach.{Reach}
 use Rattle.gate_match.specs.declared.reach.Reach.TheVariants.{Front, Anywhere}
 
@@ -25,32 +29,22 @@ abbrev pub finds : Reach → Pattern → List ℕ → Bool
 finds Front pattern text = front pattern text
 finds Anywhere pattern text = within pattern text
 
--- the ids of the keys that pass, where the first key has this id and the others follow
-abbrev pub ids_from : {A : Type 0} → ℕ → (A → Bool) → List A → List ℕ
-ids_from id test [] = []
-ids_from id test (key ∷ keys) = if test key then id ∷ ids_from (id + 1) test keys else ids_from (id + 1) test keys
-
--- the ids of the keys that pass: in a column the first key is 1, since 0 stands for none
-abbrev pub ids_where : {A : Type 0} → (A → Bool) → List A → List ℕ
-ids_where test keys = ids_from 1 test keys
-
--- the rows of a column whose text passes
-abbrev pub rows_where : (List ℕ → Bool) → List (List ℕ) → List ℕ → List Bool
-rows_where test texts column = map (is_among (ids_where test texts)) column
-
--- it is there and passes
-abbrev pub passes : {A : Type 0} → (A → Bool) → Option A → Bool
-passes test None = false
-passes test (Some key) = test key
+-- the text meets the entry
+abbrev pub entry_meets : Reach → Entry → List ℕ → Bool
+entry_meets reach entry text = turned entry.negate (finds reach entry.pattern text)
 
 -- the events in whose field a text passes
 abbrev pub passing_in : Field → (List ℕ → Bool) → List Event → List Bool
 passing_in field test events = map (λ event. passes test (field_of field event)) events
 
--- the events in whose field the pattern is found
-abbrev pub found_in : Field → Pattern → List Event → List Bool
-found_in field pattern events = passing_in field (finds (reach_of field) pattern) events
+-- the events whose field meets the entry; one that is missing meets none
+abbrev pub met_in : Field → Entry → List Event → List Bool
+met_in field entry events = passing_in field (entry_meets (reach_of field) entry) events
 
 -- it is true of each pattern of this text
 abbrev pub HoldsOfText : List ℕ → (Pattern → Type 0) → Type 0
 HoldsOfText text holds = (pattern : Pattern) → text_of pattern ≡ text → holds pattern
+
+-- it is true of each entry of these texts: of the same pattern's text, and negated alike
+abbrev pub HoldsOfEntry : EntryTexts → (Entry → Type 0) → Type 0
+HoldsOfEntry texts holds = (entry : Entry) → texts_of_entry entry ≡ texts → holds entry

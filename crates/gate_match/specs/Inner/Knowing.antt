@@ -1,15 +1,31 @@
--- What is known of the patterns that were asked for in a batch.
-use Rattle.std.specs.Prelude.{◌≡◌, List}
-use Rattle.std.specs.List.{All}
+-- What is known of the entries and the approvals that were asked for in a batch.
+use Rattle.std.specs.Prelude.{◌≡◌, List, length, map}
+use Rattle.std.specs.List.{All, range_with_len}
 use Rattle.std.specs.BTreeMap.{values}
 use Rattle.gate_record.specs.declared.event.Event.{Event}
+use Rattle.gate_config.specs.Document.{EntryTexts}
+use Rattle.gate_intern.specs.Columns.{approval_cells_of}
+use Rattle.gate_lanes.specs.Masks.{is_in_row}
 use Rattle.gate_match.specs.declared.answers.Answer.{Answer}
 use Rattle.gate_match.specs.declared.answers.Answers.{Answers}
-use Rattle.gate_match.specs.Inner.Finding.{HoldsOfText, found_in}
+use Rattle.gate_match.specs.declared.given.Given.{Given}
+use Rattle.gate_match.specs.declared.given.Approvals.{Approvals}
+use Rattle.gate_match.specs.Inner.Finding.{HoldsOfEntry, met_in}
 
--- the rows are those in whose field the patterns of the text are found
+-- of which entries an answer is
+abbrev pub asked_in : Answer → EntryTexts
+asked_in answer = record { text = answer.text.now; negate = answer.negate }
+
+-- the rows are those whose field meets the entries of these texts
 abbrev pub IsRight : List Event → Answer → Type 0
-IsRight events answer = HoldsOfText answer.text.now (λ pattern. answer.rows ≡ found_in answer.field pattern events)
+IsRight events answer = HoldsOfEntry (asked_in answer) (λ entry. answer.rows ≡ met_in answer.field entry events)
+
+-- the rows are those that have the number in a cell
+abbrev pub IsGiven : List Event → Given → Type 0
+IsGiven events given = given.rows ≡ map (is_in_row (approval_cells_of events) (length events) given.number) (range_with_len 0 (length events))
+
+abbrev pub AreGiven : List Event → Approvals → Type 0
+AreGiven events approvals = All (IsGiven events) (values approvals.known)
 
 abbrev pub AreRight : List Event → Answers → Type 0
-AreRight events answers = All (IsRight events) (values answers.known)
+AreRight events answers = All (IsRight events) (values answers.known) × AreGiven events answers.approvals

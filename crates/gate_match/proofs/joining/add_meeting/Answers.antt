@@ -7,8 +7,7 @@ use Rattle.gate_match.specs.declared.compiled.Compiled.{Compiled}
 use Rattle.gate_match.specs.Inner.Compiling.{rule_of, rules_in}
 use Rattle.gate_match.specs.Inner.Marks.{both, either}
 use Rattle.gate_match.specs.Inner.Narrowing.{meeting}
-use Rattle.gate_match.proofs.Ids.{map_alike}
-use Rattle.gate_match.proofs.Rows.{any_done, join_begins, joined_more, list_any_map}
+use Rattle.gate_match.proofs.Rows.{any_done, join_begins, joined_more, list_any_map, map_alike}
 use Rattle.gate_match.proofs.joining.add_meeting.Goals as goal
 
 abbrev test : Compiled → Event → Bool

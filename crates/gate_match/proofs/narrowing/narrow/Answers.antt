@@ -2,7 +2,7 @@ use Rattle.std.proofs.Common.{◌≡◌, ◌∙◌, ◌&&◌, not, sym, Bool, So
 use Rattle.gate_record.specs.declared.event.Event.{Event}
 use Rattle.gate_record.specs.Events.{is_delete}
 use Rattle.gate_rule.specs.declared.rule.Rule.{Rule}
-use Rattle.gate_rule.specs.Pattern.{front, within}
+use Rattle.gate_rule.specs.Entry.{entry_front, entry_within}
 use Rattle.gate_rule.specs.Rule.{is_approved, is_met, meets}
 use Rattle.gate_match.specs.Inner.Compiling.{rule_of}
 use Rattle.gate_match.proofs.Narrowed.{go, on_ok, regroup, stop}
@@ -10,16 +10,16 @@ use Rattle.gate_match.proofs.Rows.{both_alike}
 use Rattle.gate_match.proofs.narrowing.narrow.Goals as goal
 
 abbrev first : Rule → Event → Bool
-first rule event = is_met front rule.event (Some event.kind) && is_met front rule.branch event.branch && is_met front rule.refname event.refname
+first rule event = is_met entry_front rule.event (Some event.kind) && is_met entry_front rule.branch event.branch && is_met entry_front rule.refname event.refname
 
 abbrev rest : Rule → Event → Bool
 rest rule event =
-    is_met within rule.username event.username && is_met within rule.email event.email && is_met within rule.comment event.comment
+    is_met entry_within rule.username event.username && is_met entry_within rule.email event.email && is_met entry_within rule.comment event.comment
     && is_approved rule.approval event.approvals && not (rule.ignore_deletes && is_delete event)
 
 whole : (rule : Rule) (event : Event) → (first rule event && rest rule event) ≡ meets rule event
 whole rule event =
-    regroup (first rule event) (is_met within rule.username event.username) (is_met within rule.email event.email) (is_met within rule.comment event.comment)
+    regroup (first rule event) (is_met entry_within rule.username event.username) (is_met entry_within rule.email event.email) (is_met entry_within rule.comment event.comment)
     (is_approved rule.approval event.approvals) (not (rule.ignore_deletes && is_delete event))
 
 pub returns-then-is_none-clause-leaves : goal.returns-then-is_none-clause-leaves

@@ -12,8 +12,9 @@ test wanted event = is_given wanted event.approvals
 
 pub loop-wanted-init : goal.loop-wanted-init
 loop-wanted-init c = record {
-  len = c.requires;
-  leaves = all_begins test c.args.asked.now c.args.out.now c.args.columns.now c.requires;
+  right = c.requires.right;
+  len = c.requires.len;
+  leaves = all_begins test c.args.asked.now c.args.out.now c.args.columns.now c.requires.len;
 }
 
 pub loop-wanted-preserved : goal.loop-wanted-preserved
@@ -21,11 +22,12 @@ loop-wanted-preserved c =
     let events = c.args.columns.now in
     let i = c.loop-wanted.wanted-index in
     record {
-      len = c.and.ensures.len ∙ c.loop-wanted.invariant.len;
+      right = (c.loop-wanted.invariant.right.0, c.leave.ensures.right);
+      len = c.leave.ensures.len;
       leaves =
-          c.and.ensures.value
-          ∙ ap (λ rows. both rows c.in_ok-given.given) c.loop-wanted.invariant.leaves
+          c.in_ok-leave.ensures.leaves
+          ∙ ap (λ rows. both rows (given_to c.wanted-item.result events)) c.loop-wanted.invariant.leaves
           ∙ ap (both (both c.args.out.now (map (λ event. list_all (λ wanted. test wanted event) (take i c.args.asked.now)) events)))
-          (c.in_ok-given.ensures ∙ ap (λ wanted. given_to wanted events) c.wanted-item.is)
+          (ap (λ wanted. given_to wanted events) c.wanted-item.is)
           ∙ all_more test c.args.asked.now i c.wanted-item.result c.args.out.now events c.loop-wanted-test.true;
     }

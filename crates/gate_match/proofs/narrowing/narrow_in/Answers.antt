@@ -9,4 +9,4 @@ returns-then-is_empty-clause-leaves c =
 
 pub returns-clause-leaves : goal.returns-clause-leaves
 returns-clause-leaves c =
-    c.and.ensures.value ∙ ap (both c.args.out.now) (c.in_ok-found.ensures.found ∙ some_asked c.args.field c.args.asked.now c.args.columns.now (sym c.is_empty.ensures ∙ c.if-is_empty.false))
+    c.and.ensures.value ∙ ap (both c.args.out.now) (c.in_ok-met.ensures.met ∙ some_asked c.args.field c.args.asked.now c.args.columns.now (sym c.is_empty.ensures ∙ c.if-is_empty.false))

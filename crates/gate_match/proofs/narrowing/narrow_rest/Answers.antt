@@ -2,23 +2,23 @@ use Rattle.std.proofs.Common.{◌∙◌, ◌&&◌, not, ap, Bool}
 use Rattle.gate_record.specs.declared.event.Event.{Event}
 use Rattle.gate_record.specs.Events.{is_delete}
 use Rattle.gate_rule.specs.declared.rule.Rule.{Rule}
-use Rattle.gate_rule.specs.Pattern.{within}
+use Rattle.gate_rule.specs.Entry.{entry_within}
 use Rattle.gate_rule.specs.Rule.{is_approved, is_met}
 use Rattle.gate_intern.specs.declared.field.Field.TheVariants.{Username, Email, Comment}
 use Rattle.gate_match.specs.Inner.Compiling.{rule_of}
 use Rattle.gate_match.specs.Inner.Marks.{both}
-use Rattle.gate_match.specs.Inner.Narrowing.{meeting_in, patterns_of}
+use Rattle.gate_match.specs.Inner.Narrowing.{meeting_in, entries_of}
 use Rattle.gate_match.proofs.Narrowed.{go}
 use Rattle.gate_match.proofs.narrowing.narrow_rest.Goals as goal
 
 abbrev username : Rule → Event → Bool
-username rule event = is_met within rule.username event.username
+username rule event = is_met entry_within rule.username event.username
 
 abbrev email : Rule → Event → Bool
-email rule event = is_met within rule.email event.email
+email rule event = is_met entry_within rule.email event.email
 
 abbrev comment : Rule → Event → Bool
-comment rule event = is_met within rule.comment event.comment
+comment rule event = is_met entry_within rule.comment event.comment
 
 abbrev approval : Rule → Event → Bool
 approval rule event = is_approved rule.approval event.approvals
@@ -31,9 +31,9 @@ returns-clause-leaves c =
     let out = c.args.out.now in
     let events = c.args.columns.now in
     let rule = rule_of c.args.rule.now in
-    let one = c.in_ok-narrow_in.ensures.leaves ∙ ap (λ asked. both out (meeting_in Username (patterns_of asked) events)) c.as_slice.ensures.value in
-    let two = c.in_ok-narrow_in-2.ensures.leaves ∙ ap (λ asked. both c.narrow_in.new.out (meeting_in Email (patterns_of asked) events)) c.as_slice-2.ensures.value in
-    let three = c.in_ok-narrow_in-3.ensures.leaves ∙ ap (λ asked. both c.narrow_in-2.new.out (meeting_in Comment (patterns_of asked) events)) c.as_slice-3.ensures.value in
+    let one = c.in_ok-narrow_in.ensures.leaves ∙ ap (λ asked. both out (meeting_in Username (entries_of asked) events)) c.as_slice.ensures.value in
+    let two = c.in_ok-narrow_left_in.ensures.leaves ∙ ap (λ asked. both c.narrow_in.new.out (meeting_in Email (entries_of asked) events)) c.as_slice-2.ensures.value in
+    let three = c.in_ok-narrow_left_in-2.ensures.leaves ∙ ap (λ asked. both c.narrow_left_in.new.out (meeting_in Comment (entries_of asked) events)) c.as_slice-3.ensures.value in
     go out events (λ event. username rule event && email rule event && comment rule event && approval rule event) (stays rule) _ _
     (go out events (λ event. username rule event && email rule event && comment rule event) (approval rule) _ _
     (go out events (λ event. username rule event && email rule event) (comment rule) _ _

@@ -8,6 +8,9 @@ use Rattle.gate_match.proofs.program.Program.select.Goals as goal
 abbrev items : Vec ℕ Global → List ℕ
 items mask = mask.items
 
+pub loop-pipeline-init : goal.loop-pipeline-init
+loop-pipeline-init c = record { right = c.none-answers.ensures c.args.columns.now; masks = ap (map items) c.new-masks.ensures.items }
+
 pub loop-pipeline-preserved : goal.loop-pipeline-preserved
 loop-pipeline-preserved c =
     let f = λ (p : ℕ). mask_of c.args.self.now.config.now c.args.self.now.tenant.0 p (zip c.args.conns.now c.args.columns.now) in
