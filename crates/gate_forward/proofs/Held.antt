@@ -9,7 +9,7 @@ use Rattle.gate_config.specs.declared.config.Config.{Config}
 use Rattle.gate_config.specs.Limits.{most_tenants}
 use Rattle.gate_config.specs.Lookups.{tenants_of}
 use Rattle.gate_forward.specs.Forwarding.{by_tenant, for_tenant}
-use Rattle.gate_forward.specs.Hands.{held}
+use Rattle.gate_forward.specs.Inner.Places.{held}
 
 none_held : (t k : ℕ) → held t (replicate k None) ≡ []
 none_held t zero = refl

@@ -1,12 +1,9 @@
 -- The hand of a forwarder, and what its calls make of it.
-use Rattle.std.specs.Prelude.{ℕ, zero, suc, ◌+◌, List, [], ◌∷◌, Bool, true, false, drop, Option, Some, None, option_map}
-use Rattle.std.specs.List.{cons_option}
+use Rattle.std.specs.Prelude.{ℕ, List, [], ◌∷◌, Bool, false, Option, Some, None}
 use Rattle.gate_record.specs.declared.ids.TenantId.{TenantId}
 use Rattle.gate_record.specs.declared.transit.TenantItem.{TenantItem}
 use Rattle.gate_config.specs.declared.config.Config.{Config}
 use Rattle.gate_forward.specs.declared.forward.Forward.{Forward}
-use Rattle.gate_forward.specs.declared.places.Places.{Places}
-use Rattle.gate_forward.specs.Forwarding.{for_tenant, tenant_id}
 
 -- what is to be sent, each item with its tenant; the tenant whose item is out, while nobody said what became of it; and
 -- whether the end mark was loaded
@@ -15,25 +12,8 @@ pub record Hand : Type 0 where
   pub out : Option TenantId
   pub marked : Bool
 
--- the items of places, of which the first is tenant t's
-abbrev pub held : ℕ → List (Option TenantItem) → List (TenantId × TenantItem)
-held t [] = []
-held t (place ∷ places) = cons_option (option_map (for_tenant t) place) (held (t + 1) places)
-
-abbrev pub items_of : Places → List (TenantId × TenantItem)
-items_of places = held places.next (drop places.next places.items)
-
--- the tenant before this place, if its item is out
-abbrev pub out_before : ℕ → Bool → Option TenantId
-out_before next false = None
-out_before zero true = None
-out_before (suc t) true = Some (tenant_id t)
-
-abbrev pub out_of : Places → Option TenantId
-out_of places = out_before places.next places.out
-
 abbrev pub hand_of : Forward → Hand
-hand_of forward = record { items = items_of forward.places; out = out_of forward.places; marked = forward.marked }
+hand_of forward = record { items = forward.places.items; out = forward.places.out; marked = forward.marked }
 
 -- the configuration that it forwards by
 abbrev pub config_of : Forward → Config

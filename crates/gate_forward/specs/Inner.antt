@@ -1,3 +1,3 @@
--- What only private contracts and proofs cite: no public contract rests on it.
+-- What only private contracts, the view of `Places` and proofs cite: no public contract names it.
 pub mod Forwarding
-pub mod Hands
+pub mod Places

@@ -1,6 +1,6 @@
 ghost use Rattle.std.specs.Prelude.{◌≡◌, replicate, None};
 ghost use Rattle.gate_config.specs.Limits.{most_tenants};
-ghost use Rattle.gate_forward.specs.Inner.Hands.{IsFirst};
+ghost use Rattle.gate_forward.specs.Inner.Places.{IsFirst};
 
 use gate_config::MAX_TENANTS;
 use gate_record::TenantItem;

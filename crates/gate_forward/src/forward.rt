@@ -2,7 +2,8 @@ ghost use Rattle.std.specs.Prelude.{◌≡◌, ◌==◌, ◌&&◌, [], true, fal
 ghost use Rattle.gate_config.specs.Selection.{is_listed};
 ghost use Rattle.gate_forward.specs.Forwarding.{forwarded_entry, forwarded_reading, sends};
 ghost use Rattle.gate_forward.specs.Inner.Forwarding.{sends_reading};
-ghost use Rattle.gate_forward.specs.Hands.{config_of, conn_of, empty_hand, hand_of, held, moved_out, put_back};
+ghost use Rattle.gate_forward.specs.Hands.{config_of, conn_of, empty_hand, hand_of, moved_out, put_back};
+ghost use Rattle.gate_forward.specs.Inner.Places.{held};
 ghost use Rattle.gate_record.specs.Lines.{IsLine};
 ghost use Rattle.gate_record.specs.declared.reading.Reading.TheVariants as reading;
 ghost use Rattle.gate_record.specs.declared.transit.ConnEntry.TheVariants as entry;

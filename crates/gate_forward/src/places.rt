@@ -1,28 +1,39 @@
-ghost use Rattle.std.specs.Prelude.{◌≡◌, ◌<◌, ◌≤◌, ◌∷◌, ◌==◌, [], MatchOption, length, is_some, true, Some, None};
-ghost use Rattle.gate_config.specs.Limits.{most_tenants};
+ghost use Rattle.std.specs.Prelude.{◌≡◌, ◌∷◌, ◌==◌, [], MatchOption, length, is_some, true, Some, None};
+ghost use Rattle.gate_forward.specs.Inner.Places.{held};
 
 use crate::finding::first;
 use gate_config::MAX_TENANTS;
 use gate_record::{TenantId, TenantItem};
+use std::marker::Model;
 
-// A place for an item of each tenant. The items are moved out in rising number of the tenants.
+// A place for an item of each tenant. The items are moved out in rising number of the tenants. Contracts see what is unsent.
 #[derive(Drop)]
 pub(crate) struct Places {
-    pub(crate) items: [Option<TenantItem>; MAX_TENANTS],
+    items: [Option<TenantItem>; MAX_TENANTS],
     // The first place whose item wasn't moved out.
-    pub(crate) next: usize,
+    next: usize,
     // Whether the item of the place before that is out.
-    pub(crate) out: bool,
-    ghost before: { out ≡ true → (0 < next) × (next ≤ most_tenants) },
+    out: bool,
+}
+
+impl Model for Places {
+    ghost use Rattle.std.specs.Prelude.{◌≡◌, ◌<◌, ◌≤◌, true};
+    ghost use Rattle.gate_config.specs.Limits.{most_tenants};
+    ghost use Rattle.gate_forward.specs.Inner.Places.{unsent_from};
+    ghost use Rattle.gate_forward.specs.Unsent.{Unsent};
+
+    ghost Value = { Unsent };
+
+    ghost view = { λ places. unsent_from places.next places.out places.items };
+
+    ghost invariant = { λ places. places.out ≡ true → (0 < places.next) × (places.next ≤ most_tenants) };
 }
 
 impl Places {
-    ghost use Rattle.gate_forward.specs.Hands.{held, items_of, out_of};
-
     // These items, of which none is out.
     pub(crate) fn new(items: [Option<TenantItem>; MAX_TENANTS]) -> Places
-        ensures items { items_of result ≡ held 0 items }
-        ensures out { out_of result ≡ None }
+        ensures items { result.items ≡ held 0 items }
+        ensures out { result.out ≡ None }
     {
         Places {
             items,
@@ -33,10 +44,10 @@ impl Places {
 
     // Moves the first item out, with its tenant.
     pub(crate) fn next(&mut self) -> Option<(TenantId, TenantItem)>
-        requires { out_of self.old ≡ None }
+        requires { self.old.out ≡ None }
         ensures { MatchOption result
-            ((items_of self.old ≡ []) × (self.new ≡ self.old))
-            (λ first. (items_of self.old ≡ first ∷ items_of self.new) × (out_of self.new ≡ Some first.0)) }
+            ((self.old.items ≡ []) × (self.new ≡ self.old))
+            (λ first. (self.old.items ≡ first ∷ self.new.items) × (self.new.out ≡ Some first.0)) }
     {
         let place = first(&self.items, self.next)?;
         let item = self.items[place].take()?;
@@ -47,18 +58,18 @@ impl Places {
 
     // The item that is out doesn't come back.
     pub(crate) fn close(&mut self)
-        requires { is_some (out_of self.old) ≡ true }
-        ensures items { items_of self.new ≡ items_of self.old }
-        ensures out { out_of self.new ≡ None }
+        requires { is_some self.old.out ≡ true }
+        ensures items { self.new.items ≡ self.old.items }
+        ensures out { self.new.out ≡ None }
     {
         self.out = false;
     }
 
     // This item takes the place of the one that is out.
     pub(crate) fn put_back(&mut self, item: TenantItem)
-        requires { is_some (out_of self.old) ≡ true }
-        ensures items { (t : TenantId) → out_of self.old ≡ Some t → items_of self.new ≡ (t, item) ∷ items_of self.old }
-        ensures out { out_of self.new ≡ None }
+        requires { is_some self.old.out ≡ true }
+        ensures items { (t : TenantId) → self.old.out ≡ Some t → self.new.items ≡ (t, item) ∷ self.old.items }
+        ensures out { self.new.out ≡ None }
     {
         self.out = false;
         self.next -= 1;
@@ -66,14 +77,14 @@ impl Places {
     }
 
     pub(crate) fn is_empty(&self) -> bool
-        ensures { result ≡ (length (items_of self.now) == 0) }
+        ensures { result ≡ (length self.now.items == 0) }
     {
         first(&self.items, self.next).is_none()
     }
 
     // Whether an item is out.
     pub(crate) fn is_out(&self) -> bool
-        ensures { result ≡ is_some (out_of self.now) }
+        ensures { result ≡ is_some self.now.out }
     {
         self.out
     }

@@ -1,5 +1,5 @@
 use Rattle.std.proofs.Common.{◌≡◌, drop}
-use Rattle.gate_forward.specs.Hands.{held}
+use Rattle.gate_forward.specs.Inner.Places.{held}
 use Rattle.gate_forward.proofs.finding.first.Given as goal
 
 abbrev pub invariant-loop-place : goal.invariant-loop-place

@@ -1,6 +1,7 @@
 use Rattle.std.proofs.Common.{◌∙◌, ap, sym}
 use Rattle.gate_forward.specs.Inner.Forwarding.{sends_reading}
-use Rattle.gate_forward.specs.Hands.{config_of, conn_of, held}
+use Rattle.gate_forward.specs.Hands.{config_of, conn_of}
+use Rattle.gate_forward.specs.Inner.Places.{held}
 use Rattle.gate_forward.proofs.Held.{nobody}
 use Rattle.gate_forward.proofs.forward.Forward.read.Goals as goal
 
