@@ -76,7 +76,8 @@ impl<'c> Dispatch<'c> {
     }
 
     /// Makes room for so many more items, of which each is then gathered without memory. It takes no more than
-    /// [`room`](Dispatch::room) says. Where memory is refused, all is as before.
+    /// [`room`](Dispatch::room) says. Where memory is refused, all is as before. The room stays until items are gathered in it,
+    /// whatever else is called.
     pub fn make_room(&mut self, count: usize) -> Result<(), Memory>
         requires in_hand { (state_of self.old).out ≡ None }
         requires room { count ≤ room_of (state_of self.old) }
@@ -85,6 +86,7 @@ impl<'c> Dispatch<'c> {
         ensures state { state_of self.new ≡ state_of self.old }
         ensures makes { OnOk result (count ≤ reserved_of self.new) }
         ensures needs { OnErr result (reserved_of self.old < count) }
+        ensures keeps_room { reserved_of self.old ≤ reserved_of self.new }
     {
         self.gathered.reserve(count)?;
         Ok(())
@@ -117,6 +119,7 @@ impl<'c> Dispatch<'c> {
         ensures matches { OnOk result (state_of self.new ≡ matched (config_of self.old) (tenant_of self.old) (state_of self.old)) }
         ensures refused { OnErr result (state_of self.new ≡ state_of self.old) }
         ensures needs { OnErr result (needs_memory (config_of self.old) (tenant_of self.old) (state_of self.old) ≡ true) }
+        ensures keeps_room { reserved_of self.old ≤ reserved_of self.new }
     {
         let mut items = match_items(
             alloc,
@@ -144,6 +147,7 @@ impl<'c> Dispatch<'c> {
         ensures config { config_of self.new ≡ config_of self.old }
         ensures tenant { tenant_of self.new ≡ tenant_of self.old }
         ensures moves { (state_of self.new, result) ≡ moved_out (state_of self.old).items (state_of self.old) }
+        ensures keeps_room { reserved_of self.old ≤ reserved_of self.new }
     {
         self.hand.next()
     }
@@ -154,6 +158,7 @@ impl<'c> Dispatch<'c> {
         ensures config { config_of self.new ≡ config_of self.old }
         ensures tenant { tenant_of self.new ≡ tenant_of self.old }
         ensures closes { state_of self.new ≡ record (state_of self.old) { out = None } }
+        ensures keeps_room { reserved_of self.old ≤ reserved_of self.new }
     {
         self.hand.close();
     }
@@ -164,6 +169,7 @@ impl<'c> Dispatch<'c> {
         ensures config { config_of self.new ≡ config_of self.old }
         ensures tenant { tenant_of self.new ≡ tenant_of self.old }
         ensures fills { state_of self.new ≡ put_back item (state_of self.old).out (state_of self.old) }
+        ensures keeps_room { reserved_of self.old ≤ reserved_of self.new }
     {
         self.hand.put_back(item);
     }
