@@ -29,6 +29,7 @@ use Rattle.gate_pipeline.specs.declared.which.Which.TheVariants as which
 use Rattle.gate_pipeline.specs.States.{queue_of, with_processed}
 use Rattle.gate_pipeline.specs.Triggers.{trigger_of}
 use Rattle.gate_tenant.specs.States.{has_ended, room_of}
+use Rattle.gate_core.specs.Inner.Steps.{with_connection, with_pipeline, with_tenant}
 use Rattle.gate_core.specs.declared.answer.Answer.{Answer}
 use Rattle.gate_core.specs.declared.answer.Answer.TheVariants.{Accepted, Closed, Full, Idle, Moved, Passed, Turned}
 use Rattle.gate_core.specs.declared.pipeline.Pipeline.{Pipeline}
@@ -39,7 +40,7 @@ use Rattle.gate_core.specs.History.{History, finished, manage_posts, result_post
 use Rattle.gate_core.specs.History.{processed_by}
 use Rattle.gate_core.specs.Pipelines.{answer_of, first_ended, first_managed, first_triggered, found_where, passed_on, post_manage, post_result, took, turned, turned_by}
 use Rattle.gate_core.specs.States.{ConnectionState, TenantState, State, with_gathered}
-use Rattle.gate_core.specs.Steps.{close, fetch, fetched, give, give_from, give_to, match_from, match_gathered, offer, send_from, on_pipeline, send_of, send_to, step_of, take, take_from, with_connection, with_pipeline, with_tenant}
+use Rattle.gate_core.specs.Steps.{close, fetch, fetched, give, give_from, give_to, match_from, match_gathered, offer, send_from, on_pipeline, send_of, send_to, step_of, take, take_from}
 use Rattle.gate_core.proofs.Going.{closed_holds, offered_holds, taken_holds}
 use Rattle.gate_core.proofs.Fits.{IsNoTrigger, PipeFits, fits_end, fits_manage_post, fits_passed, fits_result_post, fits_same, frees_action, frees_event, holds_ended, holds_event, holds_managed}
 use Rattle.gate_core.proofs.Pushes.{IsQuiet, or_false, or_true, puts_quiet, quiet_closed, quiet_full, quiet_idle, quiet_passed, same_quiet, takes_quiet}

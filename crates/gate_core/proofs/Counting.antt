@@ -9,6 +9,7 @@ use Rattle.gate_record.specs.declared.transit.ConnEntry.{ConnEntry}
 use Rattle.gate_record.specs.declared.transit.ConnEntry.TheVariants as entry
 use Rattle.gate_record.specs.declared.transit.TenantItem.{TenantItem}
 use Rattle.gate_config.specs.declared.config.Config.{Config}
+use Rattle.gate_core.specs.Inner.Steps.{with_connection, with_tenant}
 use Rattle.gate_core.specs.declared.answer.Answer.{Answer}
 use Rattle.gate_core.specs.declared.answer.Answer.TheVariants.{Accepted, Closed, Full, Moved}
 use Rattle.gate_core.specs.declared.step.Step.{Step}
@@ -16,7 +17,7 @@ use Rattle.gate_core.specs.declared.step.Step.TheVariants as step
 use Rattle.gate_core.specs.Answers.{Does}
 use Rattle.gate_core.specs.History.{turn_of}
 use Rattle.gate_core.specs.States.{ConnectionState, State, TenantState}
-use Rattle.gate_core.specs.Steps.{close, offer, refused_in, refused_step, refused_turn_of, send_from, send_of, send_to, step_of, take, take_from, with_connection, with_tenant}
+use Rattle.gate_core.specs.Steps.{close, offer, refused_in, refused_step, refused_turn_of, send_from, send_of, send_to, step_of, take, take_from}
 use Rattle.gate_core.specs.Worlds.{AcceptedAtMost}
 use Rattle.gate_core.proofs.Spots.{AfterSet, after_set, another, it}
 use Rattle.gate_core.proofs.Working.{the_same}

@@ -12,6 +12,7 @@ use Rattle.gate_pipeline.specs.declared.which.Taken.TheVariants as taken
 use Rattle.gate_pipeline.specs.declared.which.Which.TheVariants as which
 use Rattle.gate_pipeline.specs.declared.pass.Phase.{Phase}
 use Rattle.gate_pipeline.specs.States.{Processed, State as Worker, held_as, processed, queue_of, with_processed}
+use Rattle.gate_core.specs.Inner.Steps.{with_connection, with_pipeline, with_tenant}
 use Rattle.gate_core.specs.declared.answer.Answer.{Answer}
 use Rattle.gate_core.specs.declared.answer.Answer.TheVariants.{Full, Idle, Moved}
 use Rattle.gate_core.specs.declared.pipeline.Pipeline.{Pipeline}
@@ -22,7 +23,7 @@ use Rattle.gate_core.specs.History.{is_turn, turn_of, processed_in}
 use Rattle.gate_core.specs.History.{processed_of, processed_by}
 use Rattle.gate_core.specs.Pipelines.{Found, answer_of, found, found_where, holding, post_manage, post_result, refused, refused_by, turned, turned_by}
 use Rattle.gate_core.specs.States.{ConnectionState, State, TenantState, pipeline_at, with_gathered}
-use Rattle.gate_core.specs.Steps.{close, fetch, fetched, give, give_from, give_to, match_from, match_gathered, offer, on_pipeline, refused_in, refused_step, refused_turn_of, send_from, send_of, send_to, step_of, take, with_connection, with_pipeline, with_refused, with_tenant}
+use Rattle.gate_core.specs.Steps.{close, fetch, fetched, give, give_from, give_to, match_from, match_gathered, offer, on_pipeline, refused_in, refused_step, refused_turn_of, send_from, send_of, send_to, step_of, take, with_refused}
 use Rattle.gate_core.proofs.Spots.{AfterSet, after_set, another, it}
 use Rattle.gate_core.proofs.Arrivals.{same_as_itself}
 use Rattle.gate_core.proofs.Working.{the_same}

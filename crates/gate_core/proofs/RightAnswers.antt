@@ -7,6 +7,7 @@ use Rattle.gate_record.specs.declared.ids.ConnId.{ConnId}
 use Rattle.gate_record.specs.declared.record.Record.{Record}
 use Rattle.gate_record.specs.declared.transit.ConnEntry.TheVariants as entry
 use Rattle.gate_config.specs.declared.config.Config.{Config}
+use Rattle.gate_core.specs.Inner.Steps.{with_connection}
 use Rattle.gate_core.specs.declared.answer.Answer.{Answer}
 use Rattle.gate_core.specs.declared.answer.Answer.TheVariants.{Accepted, Closed, Full, Moved}
 use Rattle.gate_core.specs.declared.step.Step.{Step}
@@ -14,7 +15,7 @@ use Rattle.gate_core.specs.declared.step.Step.TheVariants as step
 use Rattle.gate_core.specs.History.{History, closed, is_put, is_taking, waiting}
 use Rattle.gate_core.specs.Promises.{IsRightAnswer, close_answer, offer_answer}
 use Rattle.gate_core.specs.States.{ConnectionState, State}
-use Rattle.gate_core.specs.Steps.{close, offer, step_of, with_connection}
+use Rattle.gate_core.specs.Steps.{close, offer, step_of}
 use Rattle.gate_core.proofs.Streams.{ConnHolds, Holds}
 
 -- a queue that isn't full, the two ways to say it

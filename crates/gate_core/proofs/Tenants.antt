@@ -10,13 +10,14 @@ use Rattle.gate_record.specs.declared.ids.PipelineId.{PipelineId}
 use Rattle.gate_record.specs.declared.transit.PipelineItem.{PipelineItem}
 use Rattle.gate_tenant.specs.States.{State as DispatchState, moved_out, put_back, room_of}
 use Rattle.gate_config.specs.declared.config.Config.{Config}
+use Rattle.gate_core.specs.Inner.Steps.{with_pipeline}
 use Rattle.gate_core.specs.declared.answer.Answer.{Answer}
 use Rattle.gate_core.specs.declared.answer.Answer.TheVariants.{Moved}
 use Rattle.gate_core.specs.declared.pipeline.Pipeline.{Pipeline}
 use Rattle.gate_core.specs.Answers.{Does, Changes}
 use Rattle.gate_core.specs.Pipelines.{refused, turned}
 use Rattle.gate_core.specs.States.{TenantState, with_gathered}
-use Rattle.gate_core.specs.Steps.{give, give_from, give_to, on_pipeline, refused_turn, with_item, with_pipeline, with_refused}
+use Rattle.gate_core.specs.Steps.{give, give_from, give_to, on_pipeline, refused_turn, with_item, with_refused}
 use Rattle.gate_core.proofs.Elements.{written_back}
 
 abbrev with_pipelines : TenantState → List Pipeline → TenantState

@@ -16,8 +16,8 @@ use Rattle.gate_core.specs.Inner.Sends.{Sends, state}
 use Rattle.gate_core.specs.States.{ConnectionState, State, TenantState, pipeline_at}
 use Rattle.gate_core.specs.Pipelines.{post_manage, post_result, turned}
 use Rattle.gate_core.specs.Inner.Pipelines.{pipeline_step, refused_step}
-use Rattle.gate_core.specs.Steps.{on_connection, on_pipeline, on_tenant, refused_in, refused_turn, send, send_of, with_connection, with_tenant}
-use Rattle.gate_core.specs.Inner.Steps.{refused_at}
+use Rattle.gate_core.specs.Steps.{on_connection, on_pipeline, on_tenant, refused_in, refused_turn, send, send_of}
+use Rattle.gate_core.specs.Inner.Steps.{refused_at, with_connection, with_tenant}
 use Rattle.gate_core.specs.Views.{connection_view, tenant_view}
 use Rattle.gate_core.specs.Inner.Views.{AreConnections, AreTenants, IsConnection, IsTenant, config_of_connection, config_of_tenant, number_of_connection, number_of_tenant}
 use Rattle.gate_core.proofs.Elements.{each_set, seen, seen_same, unseen}

@@ -37,6 +37,13 @@ first config = record {
   tenants = map (new_tenant config) (range_with_len 0 (length (tenants_of config)));
 }
 
+-- ---- a part of something does something
+
+-- What was found moves and answers, and the whole has it then. Where nothing was found, all stays.
+abbrev pub move_at : {Whole Part : Type 0} → (Part → Whole) → (Part → Part × Answer) → Option Part → Whole → Whole × Answer
+move_at with move None whole = (whole, Idle)
+move_at with move (Some part) whole = (with (move part).0, (move part).1)
+
 -- ---- steps of a connection and its forwarder
 
 abbrev pub offer : Record → ConnectionState → ConnectionState × Answer
@@ -99,13 +106,9 @@ give_from (first ∷ hand) tenant = give_to first.0 first.1 hand (slice_get tena
 abbrev pub give : TenantState → TenantState × Answer
 give tenant = give_from tenant.dispatch.items tenant
 
--- a post to this pipeline, the one of number p, or a turn of it
-abbrev pub with_pipeline : (Pipeline → Pipeline × Answer) → ℕ → Option Pipeline → TenantState → TenantState × Answer
-with_pipeline move p None tenant = (tenant, Idle)
-with_pipeline move p (Some pipe) tenant = (record tenant { pipelines = slice_set tenant.pipelines p (move pipe).0 }, (move pipe).1)
-
+-- a post to the pipeline of number p, or a turn of it
 abbrev pub on_pipeline : (Pipeline → Pipeline × Answer) → ℕ → TenantState → TenantState × Answer
-on_pipeline move p tenant = with_pipeline move p (slice_get tenant.pipelines p) tenant
+on_pipeline move p tenant = move_at (λ pipe. record tenant { pipelines = slice_set tenant.pipelines p pipe }) move (slice_get tenant.pipelines p) tenant
 
 -- a turn of this pipeline that is refused memory
 abbrev pub with_refused : ℕ → Option Pipeline → TenantState → TenantState
@@ -117,19 +120,11 @@ refused_turn p tenant = with_refused p (slice_get tenant.pipelines p) tenant
 
 -- ---- steps of a world; an id out of range finds nothing to do
 
-abbrev pub with_connection : (ConnectionState → ConnectionState × Answer) → ℕ → Option ConnectionState → State → State × Answer
-with_connection move c None state = (state, Idle)
-with_connection move c (Some conn) state = (record state { connections = slice_set state.connections c (move conn).0 }, (move conn).1)
-
 abbrev pub on_connection : (ConnectionState → ConnectionState × Answer) → ℕ → State → State × Answer
-on_connection move c state = with_connection move c (slice_get state.connections c) state
-
-abbrev pub with_tenant : (TenantState → TenantState × Answer) → ℕ → Option TenantState → State → State × Answer
-with_tenant move t None state = (state, Idle)
-with_tenant move t (Some tenant) state = (record state { tenants = slice_set state.tenants t (move tenant).0 }, (move tenant).1)
+on_connection move c state = move_at (λ conn. record state { connections = slice_set state.connections c conn }) move (slice_get state.connections c) state
 
 abbrev pub on_tenant : (TenantState → TenantState × Answer) → ℕ → State → State × Answer
-on_tenant move t state = with_tenant move t (slice_get state.tenants t) state
+on_tenant move t state = move_at (λ tenant. record state { tenants = slice_set state.tenants t tenant }) move (slice_get state.tenants t) state
 
 -- the item goes to the back of the tenant's queue, and the others stay in the hand
 abbrev pub send_to : ℕ → ConnectionState → ℕ → TenantItem → List (TenantId × TenantItem) → Option TenantState → State → State × Answer

@@ -1,4 +1,4 @@
-ghost use Rattle.std.specs.Prelude.{◌≡◌, ◌<◌, ◌≤◌, ◌+◌, ◌∷◌, ◌++◌, [], false, IfErr, IfOk, None, OnOk};
+ghost use Rattle.std.specs.Prelude.{◌≡◌, ◌<◌, ◌≤◌, ◌+◌, ◌∷◌, ◌++◌, [], false, IfErr, IfOk, None, OnErr, OnOk};
 ghost use Rattle.gate_tenant.specs.States.{has_ended, reserved_of, room_of, state_of};
 
 use crate::answer::Answer;
@@ -35,6 +35,8 @@ pub struct Tenant<'c> {
 
 impl<'c> Tenant<'c> {
     ghost use Rattle.gate_core.specs.Answers.{Does};
+    ghost use Rattle.gate_core.specs.Needs.{MatchNeeds};
+    ghost use Rattle.gate_core.specs.Inner.Needs.{TenantNeeds};
     ghost use Rattle.gate_core.specs.Steps.{new_tenant, fetch, match_gathered, give};
     ghost use Rattle.gate_core.specs.Inner.Steps.{tenant_step};
     ghost use Rattle.gate_core.specs.States.{with_gathered};
@@ -71,6 +73,7 @@ impl<'c> Tenant<'c> {
         ensures config { config_of_tenant self.new ≡ config_of_tenant self.old }
         ensures number { number_of_tenant self.new ≡ number_of_tenant self.old }
         ensures does { Does (tenant_view self.old) (tenant_step (config_of_tenant self.old) (number_of_tenant self.old) step (tenant_view self.old)) (tenant_view self.new) result }
+        ensures needs { OnErr result (TenantNeeds (config_of_tenant self.old) (number_of_tenant self.old) step (tenant_view self.old)) }
     {
         match step {
             TenantStep::Fetch(count) => self.fetch(count),
@@ -126,6 +129,7 @@ impl<'c> Tenant<'c> {
         ensures config { config_of_tenant self.new ≡ config_of_tenant self.old }
         ensures number { number_of_tenant self.new ≡ number_of_tenant self.old }
         ensures does { Does (tenant_view self.old) (match_gathered (config_of_tenant self.old) (number_of_tenant self.old) (tenant_view self.old)) (tenant_view self.new) result }
+        ensures needs { OnErr result (MatchNeeds (config_of_tenant self.old) (number_of_tenant self.old) (tenant_view self.old)) }
     {
         if !self.dispatch.has_gathered() {
             return Ok(Answer::Idle);

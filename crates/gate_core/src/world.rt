@@ -31,7 +31,7 @@ pub struct World<'c> {
 impl<'c> World<'c> {
     ghost use Rattle.gate_core.specs.Answers.{Does};
     ghost use Rattle.gate_core.specs.Needs.{IsThere, StepNeeds};
-    ghost use Rattle.gate_core.specs.Inner.Needs.{ConnectionNeeds, PipelineNeeds};
+    ghost use Rattle.gate_core.specs.Inner.Needs.{ConnectionNeeds, PipelineNeeds, TenantNeeds};
     ghost use Rattle.gate_core.specs.Reports.{report_of};
     ghost use Rattle.gate_core.specs.Inner.Pipelines.{pipeline_step};
     ghost use Rattle.gate_core.specs.States.{ConnectionState, items_at, pipeline_at};
@@ -59,15 +59,16 @@ impl<'c> World<'c> {
     /// Takes one step. An id out of range, or a step that finds nothing to do, is answered `Idle`. A connection that is
     /// offered a record has accepted fewer than 2^64 - 1.
     ///
-    /// `Memory` comes only to a step that would change something, of takings only to one of a record, and of turns only to one
-    /// that processes a trigger event, or a reset of an independent pipeline. Then all is as before, save that a turn holds
-    /// what it took: that is what the pipeline processes next.
+    /// `Memory` comes only to a step that would change something: of takings only to one of a record, of matchings only to one of
+    /// an event or of the last end mark that the tenant waits for, and of turns only to one that processes a trigger event, or a
+    /// reset of an independent pipeline. Then all is as before, save that a turn holds what it took: that is what the pipeline
+    /// processes next.
     #[tactic(auto, using(crate::proofs::Counting::one_more))]
     pub fn step(&mut self, step: Step) -> Result<Answer, Memory>
         requires { HasNumber (state_of self.old) step }
         ensures config { config_of self.new ≡ config_of self.old }
         ensures moves { Does (refused_step (state_of self.old) step) (step_of (config_of self.old) (state_of self.old) step) (state_of self.new) result }
-        ensures needs { OnErr result (StepNeeds (state_of self.old) step) }
+        ensures needs { OnErr result (StepNeeds (config_of self.old) (state_of self.old) step) }
         ensures counts { (most : ℕ) → AcceptedAtMost most (state_of self.old) → AcceptedAtMost (most + 1) (state_of self.new) }
     {
         match step {
@@ -136,6 +137,7 @@ impl<'c> World<'c> {
     fn tenant_step(&mut self, tenant: TenantId, step: TenantStep) -> Result<Answer, Memory>
         ensures config { config_of self.new ≡ config_of self.old }
         ensures moves { Does (state_of self.old) (on_tenant (tenant_step (config_of self.old) tenant.0 step) tenant.0 (state_of self.old)) (state_of self.new) result }
+        ensures needs { OnErr result (IsThere (TenantNeeds (config_of self.old) tenant.0 step) (slice_get (state_of self.old).tenants tenant.0)) }
     {
         match self.tenants.get_mut(tenant.0 as usize) {
             Some(tenant) => tenant.step(self.alloc, step),

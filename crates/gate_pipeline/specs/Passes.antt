@@ -1,5 +1,5 @@
 -- Passes of a pipeline: from management events to results to triggers, and again.
-use Rattle.std.specs.Prelude.{◌+◌, ◌-◌, List, [], ◌∷◌, nat_lt, if◌then◌else◌}
+use Rattle.std.specs.Prelude.{◌+◌, List, [], ◌∷◌, nat_lt, if◌then◌else◌}
 use Rattle.gate_pipeline.specs.declared.pass.Phase.{Phase}
 use Rattle.gate_pipeline.specs.declared.pass.Phase.TheVariants.{Management, Result, Trigger}
 use Rattle.gate_pipeline.specs.declared.pass.Taking.{Taking}
@@ -20,7 +20,7 @@ next_pass pass = record { phase = next_phase pass.phase; takings = 0 }
 
 -- an empty taking, or the 256th of a phase, moves the pass on
 abbrev pub after_taking : Pass → Taking → Pass
-after_taking pass Value = if nat_lt pass.takings (most_takings - 1) then record { phase = pass.phase; takings = pass.takings + 1 } else next_pass pass
+after_taking pass Value = if nat_lt (pass.takings + 1) most_takings then record { phase = pass.phase; takings = pass.takings + 1 } else next_pass pass
 after_taking pass Nothing = next_pass pass
 
 -- where a pass stands after takings, one after another

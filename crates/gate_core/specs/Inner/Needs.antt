@@ -1,16 +1,25 @@
 -- Beside `Needs`: what private contracts and proofs cite.
+use Rattle.std.specs.Prelude.{ℕ}
+use Rattle.gate_config.specs.declared.config.Config.{Config}
 use Rattle.gate_core.specs.declared.connection.ConnectionStep.{ConnectionStep}
 use Rattle.gate_core.specs.declared.connection.ConnectionStep.TheVariants as of_connection
 use Rattle.gate_core.specs.declared.pipeline.Pipeline.{Pipeline}
 use Rattle.gate_core.specs.declared.pipeline.PipelineStep.{PipelineStep}
 use Rattle.gate_core.specs.declared.pipeline.PipelineStep.TheVariants as of_pipeline
-use Rattle.gate_core.specs.States.{ConnectionState}
-use Rattle.gate_core.specs.Needs.{TakeNeeds, TurnNeeds}
+use Rattle.gate_core.specs.declared.tenant.TenantStep.{TenantStep}
+use Rattle.gate_core.specs.declared.tenant.TenantStep.TheVariants as of_tenant
+use Rattle.gate_core.specs.States.{ConnectionState, TenantState}
+use Rattle.gate_core.specs.Needs.{MatchNeeds, TakeNeeds, TurnNeeds}
 
--- a taking needs memory for a record, and a turn for what it processes; other steps wherever they change something
+-- a taking needs memory for a record, a matching for what it matches, and a turn for what it processes; other steps wherever
+-- they change something
 abbrev pub ConnectionNeeds : ConnectionStep → ConnectionState → Type 0
 ConnectionNeeds of_connection.Take conn = TakeNeeds conn
 ConnectionNeeds other conn = Unit {0}
+
+abbrev pub TenantNeeds : Config → ℕ → TenantStep → TenantState → Type 0
+TenantNeeds config t of_tenant.Match tenant = MatchNeeds config t tenant
+TenantNeeds config t other tenant = Unit {0}
 
 abbrev pub PipelineNeeds : PipelineStep → Pipeline → Type 0
 PipelineNeeds of_pipeline.Turn pipe = TurnNeeds pipe

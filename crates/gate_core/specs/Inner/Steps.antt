@@ -1,15 +1,16 @@
 -- Beside `Steps`: what private contracts and proofs cite.
-use Rattle.std.specs.Prelude.{ℕ, slice_get}
+use Rattle.std.specs.Prelude.{ℕ, Option, slice_get, slice_set}
 use Rattle.gate_config.specs.declared.config.Config.{Config}
 use Rattle.gate_core.specs.declared.answer.Answer.{Answer}
 use Rattle.gate_core.specs.declared.connection.ConnectionStep.{ConnectionStep}
 use Rattle.gate_core.specs.declared.connection.ConnectionStep.TheVariants.{Offer, Close, Take}
+use Rattle.gate_core.specs.declared.pipeline.Pipeline.{Pipeline}
 use Rattle.gate_core.specs.declared.pipeline.PipelineStep.{PipelineStep}
 use Rattle.gate_core.specs.declared.pipeline.PipelineStep.TheVariants.{Turn}
 use Rattle.gate_core.specs.declared.tenant.TenantStep.{TenantStep}
 use Rattle.gate_core.specs.declared.tenant.TenantStep.TheVariants.{Fetch, Match, Give}
 use Rattle.gate_core.specs.States.{ConnectionState, TenantState, State}
-use Rattle.gate_core.specs.Steps.{close, fetch, give, match_gathered, offer, refused_in, take}
+use Rattle.gate_core.specs.Steps.{close, fetch, give, match_gathered, move_at, offer, refused_in, take}
 
 abbrev pub connection_step : Config → ℕ → ConnectionStep → ConnectionState → ConnectionState × Answer
 connection_step config c (Offer line) = offer line
@@ -24,3 +25,13 @@ tenant_step config t Give = give
 abbrev pub refused_at : PipelineStep → ℕ → ℕ → State → State
 refused_at Turn t p state = refused_in t p (slice_get state.tenants t) state
 refused_at other t p state = state
+
+-- a move of one part of a world, by what was found of it
+abbrev pub with_connection : (ConnectionState → ConnectionState × Answer) → ℕ → Option ConnectionState → State → State × Answer
+with_connection move c found state = move_at (λ conn. record state { connections = slice_set state.connections c conn }) move found state
+
+abbrev pub with_tenant : (TenantState → TenantState × Answer) → ℕ → Option TenantState → State → State × Answer
+with_tenant move t found state = move_at (λ tenant. record state { tenants = slice_set state.tenants t tenant }) move found state
+
+abbrev pub with_pipeline : (Pipeline → Pipeline × Answer) → ℕ → Option Pipeline → TenantState → TenantState × Answer
+with_pipeline move p found tenant = move_at (λ pipe. record tenant { pipelines = slice_set tenant.pipelines p pipe }) move found tenant

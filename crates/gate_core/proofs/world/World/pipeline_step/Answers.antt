@@ -1,11 +1,12 @@
 use Rattle.std.proofs.Common.{◌∙◌, map, ap, refl, subst, sym, OnErr, Option, Ok}
 use Rattle.std.proofs.lemmas.Option.{slice_get_past}
+use Rattle.gate_core.specs.Inner.Steps.{with_pipeline}
 use Rattle.gate_core.specs.declared.answer.Answer.TheVariants.{Idle}
 use Rattle.gate_core.specs.declared.pipeline.Pipeline.{Pipeline}
 use Rattle.gate_core.specs.Needs.{IsThere}
 use Rattle.gate_core.specs.Inner.Needs.{PipelineNeeds}
 use Rattle.gate_core.specs.Inner.Pipelines.{pipeline_step}
-use Rattle.gate_core.specs.Steps.{on_pipeline, with_pipeline}
+use Rattle.gate_core.specs.Steps.{on_pipeline}
 use Rattle.gate_core.specs.Views.{connection_view, tenant_view}
 use Rattle.gate_core.proofs.Elements.{lent}
 use Rattle.gate_core.proofs.Wholes.{pipeline_does, pipeline_is, still_tenants, tenant_does, tenant_idles}

@@ -1,10 +1,13 @@
-use Rattle.std.proofs.Common.{map, ℕ}
+use Rattle.std.proofs.Common.{map, subst, sym, OnErr, ℕ, Option}
 use Rattle.std.proofs.lemmas.Option.{slice_get_past}
 use Rattle.gate_config.specs.declared.config.Config.{Config}
 use Rattle.gate_core.specs.Answers.{Does}
+use Rattle.gate_core.specs.Needs.{IsThere}
+use Rattle.gate_core.specs.Inner.Needs.{TenantNeeds}
 use Rattle.gate_core.specs.Inner.Steps.{tenant_step}
+use Rattle.gate_core.specs.States.{TenantState}
 use Rattle.gate_core.specs.Views.{connection_view, tenant_view}
-use Rattle.gate_core.proofs.Elements.{lent}
+use Rattle.gate_core.proofs.Elements.{lent, seen}
 use Rattle.gate_core.proofs.Wholes.{tenant_does, tenant_idles, known, still_tenants}
 use Rattle.gate_core.proofs.world.World.tenant_step.Goals as goal
 
@@ -24,6 +27,15 @@ returns-in-Some-clause-moves c =
     let at = lent tenants c.args.tenant.0 old item.3.0 item.1 in
     tenant_does (tenant_step c.args.self.now.config.now c.args.tenant.0 c.args.step) c.args.tenant.0 (map connection_view c.args.self.now.connections.items) tenants old c.step.new.self c.step.result at
     (known (λ (config : Config) (n : ℕ). Does (tenant_view old) (tenant_step config n c.args.step (tenant_view old)) (tenant_view c.step.new.self) c.step.result) _ _ _ _ (c.args.self.now.tenants_by_number c.args.tenant.0 old at) c.step.ensures.does)
+
+pub returns-in-Some-clause-needs : goal.returns-in-Some-clause-needs
+returns-in-Some-clause-needs c =
+    let tenants = c.args.self.now.tenants.items in
+    let old = c.in-Some.tenant.now in
+    let item = c.in-Some.ensures.item in
+    let at = lent tenants c.args.tenant.0 old item.3.0 item.1 in
+    subst (λ (o : Option TenantState). OnErr c.step.result (IsThere (TenantNeeds c.args.self.now.config.now c.args.tenant.0 c.args.step) o)) (sym (seen tenant_view tenants c.args.tenant.0 old at))
+    (known (λ (config : Config) (n : ℕ). OnErr c.step.result (TenantNeeds config n c.args.step (tenant_view old))) _ _ _ _ (c.args.self.now.tenants_by_number c.args.tenant.0 old at) c.step.ensures.needs)
 
 pub returns-in-None-clause-moves : goal.returns-in-None-clause-moves
 returns-in-None-clause-moves c =
