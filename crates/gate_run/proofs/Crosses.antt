@@ -16,6 +16,8 @@ use Rattle.regex_meta.specs.contracts.signs.Signs as signs
 use Rattle.regex_meta.specs.contracts.program.Program as program
 use Rattle.regex.specs.contracts.pattern.Pattern as pattern
 use Rattle.regex.specs.contracts.string.regex.Regex as regex
+use Rattle.gate_rule.specs.contracts.pattern.Pattern as rule_pattern
+use Rattle.gate_rule.specs.contracts.entry.Entry as entry
 
 nfa_sync : IsSync (nfa.the_field).row
 nfa_sync = search (sendable, crosses) depth 40 fits 20000
@@ -91,3 +93,21 @@ pattern_sent_at h d = let a = (pattern.the_type).to d in
 
 pub regex_send : IsSend hir.the_row → IsSend regex.the_row
 regex_send h = recorded_send_of (regex.the_field).row (regex.the_type).D (regex.the_type).to (regex.the_type).to_one (λ d. struct_send_at (shape regex.the_type) ((regex.the_type).to d) (pattern_sent_at h d.pattern, tt))
+
+-- ---- an entry, which has a pattern beside a plain value
+
+entry_rest_sync : AllSync (drop 1 (shape entry.the_type).fields)
+entry_rest_sync = ((search (sendable, crosses) depth 40 fits 20000), tt)
+
+pub entry_sync : IsSync rule_pattern.the_row → IsSync entry.the_row
+entry_sync h = record { shared = λ d. struct_sync_at (shape entry.the_type) ((entry.the_type).to d) (h.shared d.pattern, all_at (drop 1 (shape entry.the_type).fields) entry_rest_sync ((entry.the_type).to d).1) }
+
+entry_rest_send : AllSend (drop 1 (shape entry.the_type).fields)
+entry_rest_send = ((search (sendable, crosses) depth 40 fits 20000), tt)
+
+pub entry_send : IsSend rule_pattern.the_row → IsSend entry.the_row
+entry_send h = recorded_send_of (entry.the_field).row (entry.the_type).D (entry.the_type).to (entry.the_type).to_one
+    (λ d. struct_send_at (shape entry.the_type) ((entry.the_type).to d) (
+      recorded_send_at (rule_pattern.the_field).row (rule_pattern.the_type).D (rule_pattern.the_type).to (rule_pattern.the_type).to_one h d.pattern,
+      all_sent_at (drop 1 (shape entry.the_type).fields) entry_rest_send ((entry.the_type).to d).1,
+    ))

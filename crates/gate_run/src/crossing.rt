@@ -4,6 +4,7 @@ ghost use denote.Param.Send.{IsSend, IsSync};
 ghost use Rattle.regex_hir.specs.contracts.hir.Hir as hir_type;
 ghost use Rattle.regex.specs.contracts.string.regex.Regex as regex_type;
 ghost use Rattle.gate_rule.specs.contracts.pattern.Pattern as pattern_type;
+ghost use Rattle.gate_rule.specs.contracts.entry.Entry as entry_type;
 ghost use Rattle.gate_rule.specs.contracts.rule.Rule as rule_type;
 ghost use Rattle.gate_config.specs.contracts.config.PipelineSpec as pipeline_type;
 ghost use Rattle.gate_config.specs.contracts.config.Config as config_type;
@@ -45,11 +46,18 @@ fn pattern_crosses()
     crosses::<Pattern>();
 }
 
+fn entry_crosses()
+    ensures send { IsSend entry_type.the_row }
+    ensures sync { IsSync entry_type.the_row }
+{
+    pattern_crosses();
+}
+
 fn rule_crosses()
     ensures send { IsSend rule_type.the_row }
     ensures sync { IsSync rule_type.the_row }
 {
-    pattern_crosses();
+    entry_crosses();
     crosses::<Rule>();
 }
 

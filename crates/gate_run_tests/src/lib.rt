@@ -17,3 +17,5 @@ mod posts;
 mod runs;
 #[cfg(test)]
 mod streams;
+#[cfg(test)]
+mod wide;
