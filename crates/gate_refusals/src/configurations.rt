@@ -18,6 +18,10 @@ const FAULTY_RULES: &str = r#"
     [{"event":["x","("]}]
     [{"event":"x","branch":["a","*"]}]
     [{"event":"x","email":5}]
+    [{"event":{"regex":"("}}]
+    [{"event":["x",{"regex":"x","Negate":true}]}]
+    [{"event":{}}]
+    {"event":{"regex":"x","negate":5}}
     [{"event":"x","approval":[{"Code-Review":"x"}]}]
     [{"branch":"master"}]
     [{"event":"x","ignore-deletes":"no"}]

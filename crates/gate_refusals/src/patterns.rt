@@ -4,7 +4,7 @@ use gate_record::{ConnId, Event, PipelineId, TenantId};
 use gate_refusing::{
     APPROVED, DELETED, Elsewhere, Log, MADE, UPLOADED, WHOLE, config_of, event_of, made, say,
 };
-use gate_rule::{Matcher, Pattern, PatternFault, Rule};
+use gate_rule::{Entry, Matcher, Pattern, PatternFault, Rule};
 use std::alloc::Global;
 
 // Patterns, of which the last ones are none.
@@ -40,7 +40,10 @@ pub(crate) fn run_large(log: &mut Log, alloc: Global) -> Result<(), Elsewhere> {
 fn build(log: &mut Log, alloc: Global, text: &str) -> Result<(), Elsewhere> {
     let call = "gate_rule Pattern::new";
     match made!(log, call, PatternFault::Memory, Pattern::new(alloc, text)) {
-        Ok(pattern) => return try_texts(log, alloc, &pattern),
+        Ok(pattern) => {
+            try_texts(log, alloc, &pattern)?;
+            return try_entry(log, alloc, &Entry::new(pattern, true));
+        }
         Err(fault) => say!(log.told, "{text} {fault}\n"),
     }
     Ok(())
@@ -51,6 +54,22 @@ fn try_texts(log: &mut Log, alloc: Global, pattern: &Pattern) -> Result<(), Else
         find(log, alloc, pattern, text)?;
         find_by_matcher(log, alloc, pattern, text)?;
     }
+    Ok(())
+}
+
+// The same of an entry that is negated.
+fn try_entry(log: &mut Log, alloc: Global, entry: &Entry) -> Result<(), Elsewhere> {
+    for text in TEXTS {
+        meet_entry(log, alloc, entry, text)?;
+    }
+    Ok(())
+}
+
+fn meet_entry(log: &mut Log, alloc: Global, entry: &Entry, text: &str) -> Result<(), Elsewhere> {
+    let front = made!(log, "gate_rule Entry::front", entry.front(alloc, text))?;
+    let call = "gate_rule Entry::within";
+    let within = made!(log, call, entry.within(alloc, text))?;
+    say!(log.told, "not {} {front} {within}\n", entry.pattern.text());
     Ok(())
 }
 

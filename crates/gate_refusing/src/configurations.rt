@@ -13,7 +13,7 @@ pub const WHOLE: &str = r#"{"tenants":[{"tenant":{"name":"main","source":{
 "config":{"main":[
     {"pipeline":{"name":"check","manager":"independent","trigger":{
         "gerrit":[
-            {"event":["patchset-created","comment-added"],"branch":["^mas","stable"],"username":"n$","email":"@example"},
+            {"event":["patchset-created","comment-added"],"branch":["^mas","stable"],"username":[{"regex":"n$"},"^z"],"email":{"regex":"@elsewhere","negate":true}},
             {"event":"comment-added","comment":"(?m)^recheck$"},
             {"event":"ref-updated","ref":["^refs/tags/","heads"],"ignore-deletes":false}],
         "review":{"event":"patchset-created"}}}},
