@@ -24,6 +24,9 @@ const ATTRIBUTES: [&str; 8] = [
     "username",
 ];
 
+// The keys of an entry of patterns that is an object.
+const KEYS: [&str; 2] = ["regex", "negate"];
+
 /// Adds the fault of bytes that are no JSON, and where they aren't.
 pub fn push_unread(out: &mut String, error: &Error) -> Result<(), Memory> {
     write!(out, "not-json\nThe document is no JSON: {error}.")?;
@@ -45,13 +48,28 @@ pub fn push_fault(out: &mut String, document: &Value, fault: &ConfigFault) -> Re
     }
 }
 
-// A value of another kind, or none.
+// A value of another kind, or none; or a key that an entry doesn't have.
 fn push_shape(out: &mut String, seen: &Seen<'_>) -> Result<(), Memory> {
+    match seen.spot {
+        Spot::EntryKey => push_key(out, seen.key),
+        _ => push_kind(out, seen),
+    }
+}
+
+fn push_kind(out: &mut String, seen: &Seen<'_>) -> Result<(), Memory> {
     let expected = seen.spot.expected();
     let found = Found(seen.value);
     write!(out, "Expected {expected}; found {found}")?;
     push_inside(out, seen)?;
     out.push_str(".")?;
+    Ok(())
+}
+
+fn push_key(out: &mut String, key: &str) -> Result<(), Memory> {
+    let found = QuotedFront(key);
+    write!(out, "Expected one of the keys regex, negate; found {found}")?;
+    push_meant(out, nearest(key, KEYS.as_slice()))?;
+    out.push_str(". An entry that left it out might be met by other texts, so it isn't ignored.")?;
     Ok(())
 }
 

@@ -55,7 +55,7 @@ impl Tenant<'_> {
     }
 }
 
-/// A place in a list as a number. There are at most 16 tenants, pipelines and connections.
+/// A place in a list as a number. There are at most 16 tenants, 64 pipelines of a tenant and 64 connections.
 pub fn number_of(place: usize) -> u32 {
     u32::try_from(place).unwrap_or(u32::MAX)
 }

@@ -28,7 +28,12 @@ pub enum Spot {
     Rule,
     Event,
     Patterns,
+    /// An entry of a list of patterns.
     Pattern,
+    /// The pattern of an entry that is an object.
+    Regex,
+    /// A key of such an entry that it doesn't have.
+    EntryKey,
     Approvals,
     Approval,
     Flag,
@@ -57,6 +62,7 @@ impl Spot {
             Spot::Pipeline => below_pipeline(key),
             Spot::Trigger => Spot::Rules,
             Spot::Rules | Spot::Rule => below_rule(key),
+            Spot::Event | Spot::Patterns | Spot::Pattern => below_entry(key),
             Spot::Stanza => Spot::Part,
             Spot::Part => Spot::Jobs,
             _ => Spot::Other,
@@ -109,9 +115,13 @@ impl Spot {
             Spot::Trigger => "an object from each connection's name to its rules",
             Spot::Rules => "a list of rules, one rule (an object), or null",
             Spot::Rule => "a rule, an object with at least an `event`",
-            Spot::Event => "one pattern (a text), or a list of at least one",
-            Spot::Patterns => "one pattern (a text), or a list of patterns",
-            Spot::Pattern => "a pattern (a text)",
+            Spot::Event => {
+                "one pattern (a text), one object with a pattern `regex`, or a list of at least one of these"
+            }
+            Spot::Patterns =>
+                "one pattern (a text), one object with a pattern `regex`, or a list of these",
+            Spot::Pattern => "a pattern (a text), or an object with a pattern `regex`",
+            Spot::Regex => "a pattern (a text)",
             Spot::Approvals =>
                 "an object from category to vote, an integer, or a list of such objects",
             Spot::Approval => "an object from category to vote, an integer",
@@ -128,8 +138,8 @@ impl Spot {
     pub fn most(self) -> &'static str {
         match self {
             Spot::Tenants => "16 tenants",
-            Spot::Source => "16 connections over all tenants",
-            Spot::Item => "16 pipelines of a tenant",
+            Spot::Source => "64 connections over all tenants",
+            Spot::Item => "64 pipelines of a tenant",
             Spot::Rules => "64 rules of a pipeline for one connection",
             Spot::Approvals => "32 approvals of a rule",
             _ => "32 patterns of an attribute",
@@ -178,5 +188,13 @@ fn below_rule(key: &str) -> Spot {
         "approval" => Spot::Approvals,
         "ignore-deletes" => Spot::Flag,
         _ => Spot::Attribute,
+    }
+}
+
+fn below_entry(key: &str) -> Spot {
+    match key {
+        "regex" => Spot::Regex,
+        "negate" => Spot::Flag,
+        _ => Spot::EntryKey,
     }
 }
