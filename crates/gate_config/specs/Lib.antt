@@ -2,6 +2,8 @@ pub mod CheckText
 pub mod Checks
 pub mod Document
 pub mod Faults
+pub mod Generations
+pub mod InForce
 pub mod Inner
 pub mod Laws
 pub mod Limits

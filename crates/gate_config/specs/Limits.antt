@@ -1,6 +1,10 @@
 -- The numbers that the standard gives: how much a configuration may have.
 use Rattle.std.specs.Prelude.{ℕ}
 
+-- the generations of a configuration
+abbrev pub most_generations : ℕ
+most_generations = 16
+
 -- the tenants of a configuration
 abbrev pub most_tenants : ℕ
 most_tenants = 16

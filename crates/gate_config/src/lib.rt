@@ -7,6 +7,7 @@ mod config;
 mod document;
 mod entries;
 mod fault;
+mod generations;
 mod job_list;
 mod jobs;
 mod laws;
@@ -30,7 +31,10 @@ mod text;
 pub use config::{Config, PipelineSpec, TenantSpec};
 pub use fault::ConfigFault;
 pub use gate_record::ManagerKind;
+pub use generations::Generations;
 pub use laws::{look_ups_are_of_the_document, one_document_selects_alike};
-pub use limits::{MAX_CONNECTIONS, MAX_ENTRIES, MAX_PIPELINES, MAX_RULES, MAX_TENANTS};
+pub use limits::{
+    MAX_CONNECTIONS, MAX_ENTRIES, MAX_GENERATIONS, MAX_PIPELINES, MAX_RULES, MAX_TENANTS,
+};
 pub use read::read_config;
 pub use text::check_text;

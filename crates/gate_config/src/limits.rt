@@ -1,3 +1,6 @@
+/// How many generations a configuration may have (this project's profile).
+pub const MAX_GENERATIONS: usize = 16;
+
 /// How many tenants a configuration may have (this project's profile).
 pub const MAX_TENANTS: usize = 16;
 
