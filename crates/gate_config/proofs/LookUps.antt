@@ -25,12 +25,12 @@ sources_at : (c : ℕ) (o : Option TenantSpec) →
 sources_at c None = refl
 sources_at c (Some tenant) = at_conn (slice_get tenant.sources c) ∙ ap (λ o. unwrap_or o None) (sym (slice_get-map (option_map has_project) tenant.sources c))
 
-projects_are : (config : Config) (t c : ℕ) → option_map has_project (projects_of config t c) ≡ sources_among (map texts_of_tenant config.tenants) t c
+pub projects_are : (config : Config) (t c : ℕ) → option_map has_project (projects_of config t c) ≡ sources_among (map texts_of_tenant config.tenants) t c
 projects_are config t c =
     sources_at c (slice_get config.tenants t)
     ∙ ap (λ o. option_and_then (λ (tenant : TenantTexts). unwrap_or (slice_get tenant.sources c) None) o) (sym (slice_get-map texts_of_tenant config.tenants t))
 
-is_there : (o : Option ProjectSet) → is_some o ≡ is_some (option_map has_project o)
+pub is_there : (o : Option ProjectSet) → is_some o ≡ is_some (option_map has_project o)
 is_there None = refl
 is_there (Some projects) = refl
 
@@ -83,7 +83,7 @@ of_tenant p project (Some tenant) =
     of_pipeline project (slice_get tenant.jobs p)
     ∙ ap (λ o. unwrap_or (option_map (λ (jobs : List ℕ → List (List ℕ)). jobs project) o) []) (sym (slice_get-map jobs_under tenant.jobs p))
 
-jobs_are : (config : Config) (t p : ℕ) (project : List ℕ) → jobs_of config t p project ≡ jobs_among (map texts_of_tenant config.tenants) t p project
+pub jobs_are : (config : Config) (t p : ℕ) (project : List ℕ) → jobs_of config t p project ≡ jobs_among (map texts_of_tenant config.tenants) t p project
 jobs_are config t p project =
     of_tenant p project (slice_get config.tenants t)
     ∙ ap (λ o. unwrap_or (option_map (λ (jobs : List ℕ → List (List ℕ)). jobs project) (option_and_then (λ (tenant : TenantTexts). slice_get tenant.jobs p) o)) []) (sym (slice_get-map texts_of_tenant config.tenants t))

@@ -1,7 +1,10 @@
 -- What only private contracts and proofs cite: no public contract rests on it.
 pub mod Attributes
+pub mod Comparing
 pub mod Faults
+pub mod Documents
 pub mod Found
 pub mod Jobs
 pub mod Keyed
 pub mod Lookups
+pub mod Structures

@@ -12,4 +12,5 @@ pub mod Names
 pub mod Parts
 pub mod Places
 pub mod Selection
+pub mod Structure
 pub mod Texts

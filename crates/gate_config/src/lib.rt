@@ -3,10 +3,12 @@
 #![tactic(auto)]
 
 mod approvals;
+mod comparing;
 mod config;
 mod document;
 mod entries;
 mod fault;
+mod generation_fault;
 mod generations;
 mod job_list;
 mod jobs;
@@ -22,6 +24,7 @@ mod places;
 mod project_set;
 mod projects;
 mod read;
+mod read_all;
 mod rules;
 mod sources;
 mod stanzas;
@@ -31,10 +34,12 @@ mod text;
 pub use config::{Config, PipelineSpec, TenantSpec};
 pub use fault::ConfigFault;
 pub use gate_record::ManagerKind;
+pub use generation_fault::GenerationFault;
 pub use generations::Generations;
 pub use laws::{look_ups_are_of_the_document, one_document_selects_alike};
 pub use limits::{
     MAX_CONNECTIONS, MAX_ENTRIES, MAX_GENERATIONS, MAX_PIPELINES, MAX_RULES, MAX_TENANTS,
 };
 pub use read::read_config;
+pub use read_all::read_generations;
 pub use text::check_text;

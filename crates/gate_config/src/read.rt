@@ -36,8 +36,22 @@ pub fn read_config(alloc: Global, bytes: &[u8]) -> Result<Config, ConfigFault>
     ensures passed { OnOk result (AllPass (checks_of bytes.now)) }
     ensures fault { IfErr result (λ fault. IsFaultOf (checks_of bytes.now) fault) }
 {
+    let mut table = PatternTable::new(alloc);
+    read_sharing(alloc, &mut table, bytes)
+}
+
+// The same with patterns that other documents share.
+pub(crate) fn read_sharing(
+    alloc: Global,
+    table: &mut PatternTable,
+    bytes: &[u8],
+) -> Result<Config, ConfigFault>
+    ensures read { IfOk result (λ config. (d : Data) × (json_of bytes.now ≡ Some d) × IsReadFrom d config) }
+    ensures passed { OnOk result (AllPass (checks_of bytes.now)) }
+    ensures fault { IfErr result (λ fault. IsFaultOf (checks_of bytes.now) fault) }
+{
     match Value::from_slice(alloc, bytes) {
-        Ok(document) => read_document(alloc, &document),
+        Ok(document) => read_document(alloc, table, &document),
         Err(error) => match error.classify() {
             Category::Memory => Err(ConfigFault::Memory),
             _ => Err(ConfigFault::NotJson),
@@ -45,7 +59,11 @@ pub fn read_config(alloc: Global, bytes: &[u8]) -> Result<Config, ConfigFault>
     }
 }
 
-fn read_document(alloc: Global, document: &Value) -> Result<Config, ConfigFault>
+fn read_document(
+    alloc: Global,
+    table: &mut PatternTable,
+    document: &Value,
+) -> Result<Config, ConfigFault>
     ensures { Reads (document_checks (view document.now))
         (λ read. (read.connections ≡ connection_names (view document.now))
         × (map texts_of_tenant read.tenants ≡ tenants_in (view document.now))) result }
@@ -54,11 +72,16 @@ fn read_document(alloc: Global, document: &Value) -> Result<Config, ConfigFault>
     let items = required_list(alloc, "", document, "tenants")?;
     let config = required_object(alloc, "", document, "config")?;
     let entries = tenant_entries(alloc, items)?;
-    read_entries(alloc, config, entries.as_slice())
+    read_entries(alloc, table, config, entries.as_slice())
 }
 
 // All tenants, and then their lists in `config`.
-fn read_entries(alloc: Global, config: &Value, entries: &[Found<'_>]) -> Result<Config, ConfigFault>
+fn read_entries(
+    alloc: Global,
+    table: &mut PatternTable,
+    config: &Value,
+    entries: &[Found<'_>],
+) -> Result<Config, ConfigFault>
     ensures { Reads (entries_checks (Some (view config.now)) (map found_view entries.now))
         (λ read. (read.connections ≡ names_in (map found_view entries.now))
         × (map texts_of_tenant read.tenants ≡ map (tenant_texts (Some (view config.now)) (names_in (map found_view entries.now))) (map found_view entries.now))) result }
@@ -66,8 +89,7 @@ fn read_entries(alloc: Global, config: &Value, entries: &[Found<'_>]) -> Result<
     check_count(alloc, entries)?;
     let names = check_tenants(alloc, entries)?;
     let connections = names.to_texts(alloc)?;
-    let mut table = PatternTable::new(alloc);
-    let tenants = read_tenants(alloc, &mut table, config, connections.as_slice(), entries)?;
+    let tenants = read_tenants(alloc, table, config, connections.as_slice(), entries)?;
     Ok(Config {
         connections,
         tenants,

@@ -1,0 +1,49 @@
+ghost use Rattle.std.specs.Prelude.{◌≡◌};
+ghost use Rattle.gate_config.specs.declared.generation_fault.GenerationFault.TheVariants.{Memory as Refused};
+
+use crate::fault::ConfigFault;
+use std::alloc::{AllocError, AllocFailed};
+use std::error::Error;
+use std::fmt;
+
+/// Why documents are no generations of a configuration. `Count` comes before any document is looked at, then the fault of the
+/// first document that has one.
+#[derive(Debug, Drop)]
+pub enum GenerationFault {
+    /// There is no document, or there are more than `MAX_GENERATIONS`.
+    Count,
+    /// The document of this number, from 0, has this fault, which is never `ConfigFault::Memory`.
+    Document(u32, ConfigFault),
+    /// Memory was refused, at whichever point of the reading.
+    Memory,
+}
+
+/// `generations`, `memory`, or the fault of the document: behind `generation G ` where it isn't the first.
+impl fmt::Display for GenerationFault {
+    fn fmt<W: fmt::Write>(&self, f: &mut fmt::Formatter<W>) -> fmt::Result {
+        match self {
+            GenerationFault::Count => f.write_str("generations"),
+            GenerationFault::Memory => f.write_str("memory"),
+            GenerationFault::Document(0, fault) => write!(f, "{fault}"),
+            GenerationFault::Document(number, fault) => write!(f, "generation {number} {fault}"),
+        }
+    }
+}
+
+impl Error for GenerationFault {}
+
+impl From<AllocError> for GenerationFault {
+    ghost from_gives = { λ _ fault. fault ≡ Refused };
+
+    fn from(_refused: AllocError) -> GenerationFault {
+        GenerationFault::Memory
+    }
+}
+
+impl<T: Drop> From<AllocFailed<T>> for GenerationFault {
+    ghost from_gives = { λ _ fault. fault ≡ Refused };
+
+    fn from(_refused: AllocFailed<T>) -> GenerationFault {
+        GenerationFault::Memory
+    }
+}
