@@ -1,4 +1,5 @@
 pub(crate) mod asked;
+mod generations;
 mod jobs;
 mod rules;
 mod tenants;
