@@ -1,5 +1,5 @@
-//! Configurations, read or refused, and what they say.
-use gate_config::{Config, check_text};
+//! Configurations, read or refused, what they say, and their generations.
+use gate_config::{Config, GenerationFault, check_text, read_generations};
 use gate_refusing::{Elsewhere, Log, PLAIN, WHOLE, made, read_twice, say};
 use std::alloc::Global;
 
@@ -59,7 +59,33 @@ pub(crate) fn run(log: &mut Log, alloc: Global) -> Result<(), Elsewhere> {
     read(log, alloc, "[]")?;
     read_all(log, alloc, RULES, FAULTY_RULES)?;
     read_all(log, alloc, TENANTS, FAULTY_TENANTS)?;
-    read_all(log, alloc, ITEMS, FAULTY_ITEMS)
+    read_all(log, alloc, ITEMS, FAULTY_ITEMS)?;
+    read_both(log, alloc, WHOLE, WHOLE)?;
+    read_both(log, alloc, PLAIN, WHOLE)?;
+    read_both(log, alloc, PLAIN, "[]")
+}
+
+// Two documents as the generations of a configuration.
+fn read_both(log: &mut Log, alloc: Global, first: &str, second: &str) -> Result<(), Elsewhere> {
+    let mut documents = Vec::new(alloc);
+    documents.push(first.as_bytes().to_vec(alloc)?)?;
+    documents.push(second.as_bytes().to_vec(alloc)?)?;
+    tell_generations(log, alloc, documents.as_slice());
+    Ok(())
+}
+
+fn tell_generations(log: &mut Log, alloc: Global, documents: &[Vec<u8>]) {
+    let call = "gate_config read_generations";
+    let read = made!(
+        log,
+        call,
+        GenerationFault::Memory,
+        read_generations(alloc, documents)
+    );
+    match read {
+        Ok(gens) => say!(log.told, "{} generations\n", gens.count()),
+        Err(fault) => say!(log.told, "{fault}\n"),
+    }
 }
 
 fn read(log: &mut Log, alloc: Global, document: &str) -> Result<(), Elsewhere> {
