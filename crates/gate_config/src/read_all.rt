@@ -1,4 +1,4 @@
-ghost use Rattle.std.specs.Prelude.{◌≡◌, ◌∷◌, ◌+◌, ◌<◌, ◌≤◌, Some, IfErr, IfOk, OnOk, length, map};
+ghost use Rattle.std.specs.Prelude.{◌≡◌, ◌∷◌, ◌+◌, ◌<◌, Some, IfErr, IfOk, OnOk, length, map};
 ghost use Rattle.std.specs.List.{All, AllZip};
 ghost use Rattle.gate_config.specs.Generations.{AreReadFrom, IsFaultAmong, IsReadFromBytes, PassesBeside, bytes_of, common_of, count_of};
 ghost use Rattle.gate_config.specs.Inner.Documents.{IsFaultBehind, MayFailBeside, fault_of};
@@ -37,13 +37,17 @@ pub fn read_generations(
         return Err(GenerationFault::Count);
     }
     match documents.split_first() {
-        Some((first, later)) => read_all(alloc, first.as_slice(), later),
+        Some((first, later)) => read_in_order(alloc, first.as_slice(), later),
         None => Err(GenerationFault::Count),
     }
 }
 
 // The first document, and then the later ones, with the patterns of all of them.
-fn read_all(alloc: Global, first: &[u8], later: &[Vec<u8>]) -> Result<Generations, GenerationFault>
+fn read_in_order(
+    alloc: Global,
+    first: &[u8],
+    later: &[Vec<u8>],
+) -> Result<Generations, GenerationFault>
     requires { length later.now < most_generations }
     ensures count { IfOk result (λ gens. count_of gens ≡ length later.now + 1) }
     ensures read { IfOk result (AreReadFrom (first.now ∷ map bytes_of later.now)) }

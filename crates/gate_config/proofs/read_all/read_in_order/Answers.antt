@@ -1,7 +1,7 @@
 use Rattle.std.proofs.Common.{map}
 use Rattle.gate_config.proofs.InOrder.{all_read, count_read}
 use Rattle.gate_config.specs.Generations.{bytes_of}
-use Rattle.gate_config.proofs.read_all.read_all.Goals as goal
+use Rattle.gate_config.proofs.read_all.read_in_order.Goals as goal
 
 pub returns-in-Ok-clause-count : goal.returns-in-Ok-clause-count
 returns-in-Ok-clause-count c = count_read c.args.later.now c.read_behind.result c.read_behind.ensures.read
