@@ -2,9 +2,11 @@
 #![tactic(auto)]
 
 mod documents;
+mod mixed;
 mod queues;
 
 use crate::documents::{configuration, script_of};
+use crate::mixed::{mixed_configurations, mixed_script};
 use crate::queues::{queue_configuration, queue_script};
 use anyhow::{Context, Result, bail};
 use gate_core::replay;
@@ -14,7 +16,8 @@ use std::io::Print;
 use std::time::{Clock, Duration, Instant};
 
 /// The words: how many records are offered, and how many tenants there are, each with so many pipelines; or, as the second
-/// word, `independent` or `dependent`, for one pipeline of that manager whose items are reset, taken out and have results.
+/// word, `independent` or `dependent`, for one pipeline of that manager whose items are reset, taken out and have results, or
+/// `mixed`, for sixteen generations of a configuration that come into force one after another while records are offered.
 fn main(rt: HostRuntime) -> Result<()> {
     let mut words = env::args(&rt)?;
     match (words.nth(1), words.next()) {
@@ -45,28 +48,35 @@ struct Played {
 }
 
 fn time_replay(clock: &impl Clock, alloc: Global, kind: &str, records: u32) -> Result<Played> {
-    let (document, script, lines) = documents_of(alloc, kind, records)?;
-    time_documents(clock, alloc, document.as_bytes(), script.as_bytes(), lines)
+    let (documents, script) = match kind {
+        "mixed" => mixed_documents(alloc, records)?,
+        "independent" | "dependent" => queue_documents(alloc, kind, records)?,
+        _ => way_documents(
+            alloc,
+            kind.parse::<u32>().context("the number of tenants")?,
+            records,
+        )?,
+    };
+    time_documents(clock, alloc, documents.as_slice(), &script)
 }
 
 fn time_documents(
     clock: &impl Clock,
     alloc: Global,
-    document: &[u8],
-    script: &[u8],
-    lines: u64,
+    documents: &[Vec<u8>],
+    script: &Script,
 ) -> Result<Played> {
     let start = Instant::now(clock)?;
-    let printed = replayed(alloc, document, script)?;
+    let printed = replayed(alloc, documents, script.0.as_bytes())?;
     Ok(Played {
-        lines,
+        lines: script.1,
         micros: micros(start.elapsed(clock)?),
         printed,
     })
 }
 
-fn replayed(alloc: Global, document: &[u8], script: &[u8]) -> Result<usize> {
-    match replay(alloc, document, script) {
+fn replayed(alloc: Global, documents: &[Vec<u8>], script: &[u8]) -> Result<usize> {
+    match replay(alloc, documents, script) {
         Ok(text) => Ok(text.len()),
         Err(_) => bail!("the script isn't replayed"),
     }
@@ -78,29 +88,29 @@ fn micros(time: Duration) -> u64 {
         .saturating_add(u64::from(time.subsec_micros()))
 }
 
-// The configuration, the script and how many lines it has.
-fn documents_of(alloc: Global, kind: &str, records: u32) -> Result<(String, String, u64)> {
-    if kind == "independent" || kind == "dependent" {
-        return Ok(queue_documents(alloc, kind, records)?);
-    }
-    let each = kind.parse::<u32>().context("the number of tenants")?;
-    Ok(way_documents(alloc, each, records)?)
+// A script, and how many lines it has.
+type Script = (String, u64);
+
+// Generations of a configuration, a document each, and a script.
+type Documents = (Vec<Vec<u8>>, Script);
+
+fn queue_documents(alloc: Global, kind: &str, changes: u32) -> Result<Documents, AllocError> {
+    let script = queue_script(alloc, changes, kind == "dependent")?;
+    Ok((one(alloc, queue_configuration(alloc, kind)?)?, script))
 }
 
-fn queue_documents(
-    alloc: Global,
-    kind: &str,
-    records: u32,
-) -> Result<(String, String, u64), AllocError> {
-    let (script, lines) = queue_script(alloc, records, kind == "dependent")?;
-    Ok((queue_configuration(alloc, kind)?, script, lines))
+fn way_documents(alloc: Global, each: u32, records: u32) -> Result<Documents, AllocError> {
+    let script = script_of(alloc, records, each)?;
+    Ok((one(alloc, configuration(alloc, each)?)?, script))
 }
 
-fn way_documents(
-    alloc: Global,
-    each: u32,
-    records: u32,
-) -> Result<(String, String, u64), AllocError> {
-    let (script, lines) = script_of(alloc, records, each)?;
-    Ok((configuration(alloc, each)?, script, lines))
+fn mixed_documents(alloc: Global, records: u32) -> Result<Documents, AllocError> {
+    let script = mixed_script(alloc, records)?;
+    Ok((mixed_configurations(alloc)?, script))
+}
+
+fn one(alloc: Global, document: String) -> Result<Vec<Vec<u8>>, AllocError> {
+    let mut documents = Vec::new(alloc);
+    documents.push(document.into_bytes())?;
+    Ok(documents)
 }

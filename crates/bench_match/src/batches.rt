@@ -13,9 +13,10 @@ pub(crate) fn selected(
     size: usize,
 ) -> Result<u64> {
     let mut selected: u64 = 0;
-    let conns = load.conns.chunks(size.max(1));
-    for (events, conns) in load.events.chunks(size.max(1)).zip(conns) {
-        selected = selected.saturating_add(selected_of(alloc, program, events, conns)?);
+    let size = size.max(1);
+    let numbers = load.gens.chunks(size).zip(load.conns.chunks(size));
+    for (events, (gens, conns)) in load.events.chunks(size).zip(numbers) {
+        selected = selected.saturating_add(selected_of(alloc, program, events, gens, conns)?);
     }
     Ok(selected)
 }
@@ -24,13 +25,14 @@ fn selected_of(
     alloc: Global,
     program: &Program<'_>,
     events: &[Shared<Event>],
+    gens: &[u32],
     conns: &[u32],
 ) -> Result<u64> {
-    if events.len() > MAX_ROWS || conns.len() != events.len() {
+    if events.len() > MAX_ROWS || gens.len() != events.len() || conns.len() != events.len() {
         bail!("a batch has at most 256 events");
     }
     let columns = Columns::build(alloc, events)?;
-    let masks = program.select(alloc, &columns, conns)?;
+    let masks = program.select(alloc, &columns, gens, conns)?;
     Ok(marked(masks.as_slice()))
 }
 

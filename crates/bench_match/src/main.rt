@@ -9,21 +9,23 @@ mod timing;
 use crate::load::{Load, read_load};
 use crate::timing::{Time, Way, timed};
 use anyhow::{Context, Result, bail};
-use gate_config::{Config, read_config};
+use gate_config::{Generations, read_generations};
 use gate_match::Program;
 use gate_record::TenantId;
 use std::alloc::Global;
+use std::fs::File;
+use std::rt::Files;
 use std::time::CpuClock;
 use std::{env, fs};
 
 /// The tenant whose rules are timed.
 const TENANT: TenantId = TenantId(0);
 
-/// The words: a file with a configuration, a file of records, one a line, which are of the connections in turn, and how many
-/// events a batch has.
+/// The words: a file with a configuration, or several joined by commas, which are its generations; a file of records, one a line,
+/// which are of the connections in turn and by the generations in turn; and how many events a batch has.
 fn main(rt: HostRuntime) -> Result<()> {
     let mut words = env::args(&rt)?;
-    let Some(config) = words.nth(1) else {
+    let Some(files) = words.nth(1) else {
         return Ok(());
     };
     let records = words.next().context("a file of records")?;
@@ -32,9 +34,7 @@ fn main(rt: HostRuntime) -> Result<()> {
         .as_str()
         .parse::<usize>()
         .context("the size of a batch")?;
-    let document = fs::read(&rt, config.as_str())?;
-    let records = fs::read_to_string(&rt, records.as_str())?;
-    let times = compare(&rt, rt.alloc(), document.as_slice(), records.as_str(), size)?;
+    let times = compare_files(&rt, rt.alloc(), files.as_str(), records.as_str(), size)?;
     println!(rt;
         "{} selected: {} rounds in {} us by gate_match, {} rounds in {} us by each rule",
         times.selected,
@@ -54,34 +54,58 @@ struct Compared {
     rules: Time,
 }
 
-fn compare(
-    clock: &impl CpuClock,
+fn compare_files<R: Files<File = File> + CpuClock + AllocGlobal>(
+    rt: &R,
     alloc: Global,
-    document: &[u8],
+    files: &str,
     records: &str,
     size: usize,
 ) -> Result<Compared> {
-    let Ok(config) = read_config(alloc, document) else {
+    let documents = read_documents(rt, alloc, files)?;
+    let records = fs::read_to_string(rt, records)?;
+    compare(rt, alloc, documents.as_slice(), records.as_str(), size)
+}
+
+fn read_documents<R: Files<File = File> + AllocGlobal>(
+    rt: &R,
+    alloc: Global,
+    files: &str,
+) -> Result<Vec<Vec<u8>>> {
+    let mut documents = Vec::new(alloc);
+    for file in files.split(',') {
+        documents.push(fs::read(rt, file)?)?;
+    }
+    Ok(documents)
+}
+
+fn compare(
+    clock: &impl CpuClock,
+    alloc: Global,
+    documents: &[Vec<u8>],
+    records: &str,
+    size: usize,
+) -> Result<Compared> {
+    let Ok(gens) = read_generations(alloc, documents) else {
         bail!("the configuration is refused");
     };
-    let load = read_load(alloc, records, config.connections().len())?;
-    compare_on(clock, alloc, &config, &load, size)
+    compare_on(clock, alloc, &gens, records, size)
 }
 
 fn compare_on(
     clock: &impl CpuClock,
     alloc: Global,
-    config: &Config,
-    load: &Load,
+    gens: &Generations,
+    records: &str,
     size: usize,
 ) -> Result<Compared> {
-    let program = Program::new(alloc, config, TENANT)?;
+    let load = read_load(alloc, records, gens)?;
+    let program = Program::new(alloc, gens, TENANT)?;
     both(
         clock,
         alloc,
         &Way::Batches(&program, size),
-        &Way::Rules(config),
-        load,
+        &Way::Rules(gens),
+        &load,
     )
 }
 

@@ -1,15 +1,16 @@
 use crate::TENANT;
 use crate::load::Load;
 use anyhow::Result;
-use gate_config::Config;
+use gate_config::{Config, Generations};
 use gate_record::{ConnId, Event, Memory, PipelineId};
 use gate_rule::Rule;
 use std::alloc::Global;
 
 /// How many events pipelines select, rule by rule.
-pub(crate) fn selected(alloc: Global, config: &Config, load: &Load) -> Result<u64> {
+pub(crate) fn selected(alloc: Global, gens: &Generations, load: &Load) -> Result<u64> {
     let mut selected: u64 = 0;
-    for (event, conn) in load.events.iter().zip(&load.conns) {
+    for ((event, generation), conn) in load.events.iter().zip(&load.gens).zip(&load.conns) {
+        let config = gens.generation(*generation);
         let pipelines = pipelines(alloc, config, event.get(), ConnId(*conn))?;
         selected = selected.saturating_add(pipelines);
     }

@@ -1,7 +1,7 @@
 use crate::load::Load;
 use crate::{batches, plain};
 use anyhow::{Result, bail};
-use gate_config::Config;
+use gate_config::Generations;
 use gate_match::Program;
 use std::alloc::Global;
 use std::time::{CpuClock, Duration};
@@ -15,7 +15,7 @@ pub(crate) enum Way<'p, 'c> {
     /// In batches of this size, by the rules of all pipelines at once.
     Batches(&'p Program<'c>, usize),
     /// Event by event, and rule by rule.
-    Rules(&'c Config),
+    Rules(&'c Generations),
 }
 
 impl Way<'_, '_> {
@@ -23,7 +23,7 @@ impl Way<'_, '_> {
     pub(crate) fn round(&self, alloc: Global, load: &Load) -> Result<u64> {
         match self {
             Way::Batches(program, size) => batches::selected(alloc, program, load, *size),
-            Way::Rules(config) => plain::selected(alloc, config, load),
+            Way::Rules(gens) => plain::selected(alloc, gens, load),
         }
     }
 }

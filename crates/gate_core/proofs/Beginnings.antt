@@ -1,22 +1,25 @@
 -- What holds in the beginning.
-use Rattle.std.proofs.Common.{◌≡◌, ◌∙◌, refl, sym, ap, subst, ℕ, zero, suc, ◌+◌, ◌<◌, List, [], ◌∷◌, ◌++◌, true, length, map, Option, Some, None, arith, add-zero}
+use Rattle.std.proofs.Common.{◌≡◌, ◌∙◌, refl, sym, ap, subst, ℕ, zero, suc, ◌+◌, ◌<◌, ◌≤◌, List, [], ◌∷◌, ◌++◌, true, length, map, Option, Some, None, arith, add-zero}
 use Rattle.std.specs.Prelude.{slice_get, is_some}
 use Rattle.std.specs.List.{range_with_len}
 use Rattle.std.proofs.lemmas.List.{length-map}
 use Rattle.std.proofs.lemmas.List.FromFn.{length-map-range_with_len}
 use Rattle.std.proofs.lemmas.Option.{slice_get-get_or}
-use Rattle.gate_config.specs.declared.config.Config.{Config}
+use Rattle.gate_config.specs.declared.generations.Generations.{Generations}
 use Rattle.gate_config.specs.Lookups.{connections_of, pipelines_of, tenants_of}
 use Rattle.gate_forward.specs.Forwarding.{forwarded}
-use Rattle.gate_forward.specs.Histories.{EachTenantGetsItsOwn, items_to}
+use Rattle.gate_forward.specs.Histories.{items_to}
+use Rattle.gate_core.proofs.LowerLaws.{Laws}
 use Rattle.gate_tenant.specs.Histories.{begins, beginning}
+use Rattle.gate_record.specs.Entries as entries
+use Rattle.std.proofs.lemmas.List.Elements.{All-nil}
 use Rattle.gate_core.specs.declared.pipeline.Pipeline.{Pipeline}
 use Rattle.gate_core.specs.Pipelines.{fresh_pipeline}
 use Rattle.gate_core.specs.States.{ConnectionState}
 use Rattle.gate_core.specs.Steps.{first, new_connection, new_tenant}
 use Rattle.gate_core.specs.Worlds.{AcceptedAtMost}
 use Rattle.gate_core.proofs.Fits.{fits_new}
-use Rattle.gate_core.proofs.Streams.{ConnHolds, Holds, PipeHolds, TenantHolds, count_of, hand_of, queue_of}
+use Rattle.gate_core.proofs.Streams.{ConnHolds, Holds, PipeHolds, TenantHolds, count_of, generation_of, hand_of, on_way, queue_of}
 use Rattle.gate_core.proofs.Working.{the_same}
 
 -- what is looked up where all values are the same
@@ -34,58 +37,58 @@ found_in_range f a zero i x e = absurd (cc)
 found_in_range f a (suc n) zero x e = sym (the_same (f a) x e) ∙ ap f (sym (add-zero a))
 found_in_range f a (suc n) (suc i) x e = found_in_range f (a + 1) n i x e ∙ ap f (omega arith)
 
-module _ (config : Config) where
+module _ (gens : Generations) where
   conns : List ConnectionState
-  conns = map (λ _. new_connection) (connections_of config)
+  conns = map (λ _. new_connection) (connections_of gens.first)
 
-  conn_there : (c : ℕ) → c < length (connections_of config) → is_some (slice_get conns c) ≡ true
+  conn_there : (c : ℕ) → c < length (connections_of gens.first) → is_some (slice_get conns c) ≡ true
   unfolding conns
   conn_there c inside =
-      let long : length conns ≡ length (connections_of config) = length-map (connections_of config) (λ _. new_connection) in
+      let long : length conns ≡ length (connections_of gens.first) = length-map (connections_of gens.first) (λ _. new_connection) in
       ap is_some (slice_get-get_or conns c new_connection (omega (arith, inside, long)))
 
-  new_conn : (c : ℕ) (o : Option ConnectionState) → AllSame new_connection o → (c < length (connections_of config) → is_some o ≡ true) → ConnHolds config [] c o
-  new_conn c None nothing there = record { count = refl; closing = refl; waits = refl; within = omega arith; there = there; own = tt }
-  new_conn c (Some k) that there = record { count = refl; closing = refl; waits = refl; within = omega arith; there = there; own = tt }
+  new_conn : (c : ℕ) (o : Option ConnectionState) → AllSame new_connection o → (c < length (connections_of gens.first) → is_some o ≡ true) → ConnHolds gens [] c o
+  new_conn c None nothing there = record { count = refl; closing = refl; waits = refl; within = omega arith; there = there; own = tt; renewed = refl; before = All-nil (λ m. m ≤ 0); stream = entries.begins; in_force = refl }
+  new_conn c (Some k) that there = record { count = refl; closing = refl; waits = refl; within = omega arith; there = there; own = tt; renewed = refl; before = All-nil (λ m. m ≤ 0); stream = entries.begins; in_force = refl }
 
-  nothing_put : (t c : ℕ) (o : Option ConnectionState) → AllSame new_connection o → items_to t (hand_of o) ++ forwarded config t c (queue_of o) ≡ []
+  nothing_put : (t c : ℕ) (o : Option ConnectionState) → AllSame new_connection o → items_to t (hand_of o) ++ on_way gens t c (generation_of o) (queue_of o) ≡ []
   nothing_put t c None nothing = refl
   nothing_put t c (Some k) that = refl
 
-  new_pipe : (t p : ℕ) (pipe : Pipeline) → slice_get (map (fresh_pipeline config t) (range_with_len 0 (length (pipelines_of config t)))) p ≡ Some pipe → PipeHolds config [] t p [] pipe
+  new_pipe : (t p : ℕ) (pipe : Pipeline) → slice_get (map (fresh_pipeline gens.first t) (range_with_len 0 (length (pipelines_of gens.first t)))) p ≡ Some pipe → PipeHolds gens.first [] t p [] pipe
   new_pipe t p pipe at =
-      subst (PipeHolds config [] t p []) (ap (fresh_pipeline config t) (sym (omega arith)) ∙ sym (found_in_range (fresh_pipeline config t) 0 (length (pipelines_of config t)) p pipe at)) (fits_new config t p)
+      subst (PipeHolds gens.first [] t p []) (ap (fresh_pipeline gens.first t) (sym (omega arith)) ∙ sym (found_in_range (fresh_pipeline gens.first t) 0 (length (pipelines_of gens.first t)) p pipe at)) (fits_new gens.first t p)
 
-  new_tenant_holds : (t : ℕ) → TenantHolds config [] conns t (new_tenant config t)
+  new_tenant_holds : (t : ℕ) → TenantHolds gens [] conns t (new_tenant gens.first t)
   unfolding conns
   new_tenant_holds t = record {
-    past = beginning config t;
+    past = beginning gens.first t;
     happens = begins;
     now = refl;
     in_hand = refl;
-    count = length-map-range_with_len (fresh_pipeline config t) 0 (length (pipelines_of config t));
+    count = length-map-range_with_len (fresh_pipeline gens.first t) 0 (length (pipelines_of gens.first t));
     pipes = λ p pipe at. new_pipe t p pipe at;
-    ways = λ c. nothing_put t c (slice_get conns c) (all_same new_connection (connections_of config) c);
+    ways = λ c. nothing_put t c (slice_get conns c) (all_same new_connection (connections_of gens.first) c);
   }
 
-  first_conns : (c : ℕ) → ConnHolds config [] c (slice_get (first config).connections c)
+  first_conns : (c : ℕ) → ConnHolds gens [] c (slice_get (first gens).connections c)
   unfolding conns
-  first_conns c = new_conn c (slice_get conns c) (all_same new_connection (connections_of config) c) (conn_there c)
+  first_conns c = new_conn c (slice_get conns c) (all_same new_connection (connections_of gens.first) c) (conn_there c)
 
-  pub first_holds : EachTenantGetsItsOwn → Holds config [] (first config)
+  pub first_holds : Laws → Holds gens [] (first gens)
   unfolding conns
-  first_holds gets = record {
-    each_gets = gets;
-    count = length-map-range_with_len (new_tenant config) 0 (length (tenants_of config));
-    conn_count = length-map (connections_of config) (λ _. new_connection);
+  first_holds laws = record {
+    laws = laws;
+    count = length-map-range_with_len (new_tenant gens.first) 0 (length (tenants_of gens.first));
+    conn_count = length-map (connections_of gens.first) (λ _. new_connection);
     conns = first_conns;
     tenants = λ t ten at.
-        subst (TenantHolds config [] conns t) (ap (new_tenant config) (sym (omega arith)) ∙ sym (found_in_range (new_tenant config) 0 (length (tenants_of config)) t ten at)) (new_tenant_holds t);
+        subst (TenantHolds gens [] conns t) (ap (new_tenant gens.first) (sym (omega arith)) ∙ sym (found_in_range (new_tenant gens.first) 0 (length (tenants_of gens.first)) t ten at)) (new_tenant_holds t);
     others = λ t p none. (refl, refl);
   }
 
 -- nothing is accepted in the beginning
-pub first_counts : (config : Config) → AcceptedAtMost 0 (first config)
-first_counts config c conn at =
-    let none : conn.accepted ≡ 0 = ap count_of (sym at) ∙ (first_conns config c).count in
+pub first_counts : (gens : Generations) → AcceptedAtMost 0 (first gens)
+first_counts gens c conn at =
+    let none : conn.accepted ≡ 0 = ap count_of (sym at) ∙ (first_conns gens c).count in
     omega (arith, none)

@@ -1,6 +1,9 @@
 -- A step accepts at most one record more.
 use Rattle.std.proofs.Common.{◌≡◌, ◌∙◌, refl, sym, ap, subst, ℕ, ◌+◌, ◌≤◌, List, [], ◌∷◌, ◌++◌, Bool, true, false, length, Option, Some, None, Result, Ok, Err, arith, slice_set, if◌then◌else◌}
-use Rattle.std.specs.Prelude.{nat_lt, slice_get}
+use Rattle.std.specs.Prelude.{nat_le, nat_lt, slice_get}
+use Rattle.gate_record.specs.Entries.{behind}
+use Rattle.gate_config.specs.Generations.{count_of}
+use Rattle.gate_forward.specs.Forwarding.{sends as entry_sends}
 use Rattle.gate_record.specs.declared.ids.PipelineId.{PipelineId}
 use Rattle.gate_record.specs.declared.ids.TenantId.{TenantId}
 use Rattle.gate_record.specs.declared.memory.Memory.{Memory}
@@ -8,16 +11,16 @@ use Rattle.gate_record.specs.declared.record.Record.{Record}
 use Rattle.gate_record.specs.declared.transit.ConnEntry.{ConnEntry}
 use Rattle.gate_record.specs.declared.transit.ConnEntry.TheVariants as entry
 use Rattle.gate_record.specs.declared.transit.TenantItem.{TenantItem}
-use Rattle.gate_config.specs.declared.config.Config.{Config}
+use Rattle.gate_config.specs.declared.generations.Generations.{Generations}
 use Rattle.gate_core.specs.Inner.Steps.{with_connection, with_tenant}
 use Rattle.gate_core.specs.declared.answer.Answer.{Answer}
-use Rattle.gate_core.specs.declared.answer.Answer.TheVariants.{Accepted, Closed, Full, Moved}
+use Rattle.gate_core.specs.declared.answer.Answer.TheVariants.{Accepted, Closed, Full, Idle, Moved}
 use Rattle.gate_core.specs.declared.step.Step.{Step}
 use Rattle.gate_core.specs.declared.step.Step.TheVariants as step
 use Rattle.gate_core.specs.Answers.{Does}
 use Rattle.gate_core.specs.History.{turn_of}
 use Rattle.gate_core.specs.States.{ConnectionState, State, TenantState}
-use Rattle.gate_core.specs.Steps.{close, offer, refused_in, refused_step, refused_turn_of, send_from, send_of, send_to, step_of, take, take_from}
+use Rattle.gate_core.specs.Steps.{close, is_past, offer, renew, refused_in, refused_step, refused_turn_of, send_from, send_of, send_to, step_of, take, take_from}
 use Rattle.gate_core.specs.Worlds.{AcceptedAtMost}
 use Rattle.gate_core.proofs.Spots.{AfterSet, after_set, another, it}
 use Rattle.gate_core.proofs.Working.{the_same}
@@ -60,10 +63,23 @@ module _ (n : ℕ) (state : State) (few : AcceptedAtMost n state) where
   closes k false true = omega arith
   closes k false false = omega arith
 
-  takes : (config : Config) (c : ℕ) (k : ConnectionState) (hand : List (TenantId × TenantItem)) (queue : List ConnEntry) → (take_from config c hand queue k).0.accepted ≤ k.accepted + 1
-  takes config c k (x ∷ hand) queue = omega arith
-  takes config c k [] [] = omega arith
-  takes config c k [] (x ∷ queue) = omega arith
+  renewing : (k : ConnectionState) (closed last room : Bool) →
+      (if◌then◌else◌ {A = ConnectionState × Answer} closed (k, Closed) (if◌then◌else◌ {A = ConnectionState × Answer} last (k, Idle)
+      (if◌then◌else◌ {A = ConnectionState × Answer} room (record k { renewals = k.renewals ++ k.accepted ∷ []; queue = k.queue ++ entry.Renew ∷ [] }, Moved) (k, Full)))).0.accepted ≤ k.accepted + 1
+  renewing k true last room = omega arith
+  renewing k false true room = omega arith
+  renewing k false false true = omega arith
+  renewing k false false false = omega arith
+
+  taking : (gens : Generations) (c : ℕ) (k : ConnectionState) (x : ConnEntry) (queue : List ConnEntry) (past : Bool) →
+      (if◌then◌else◌ {A = ConnectionState × Answer} past (k, Idle) (record k { queue = queue; generation = behind k.generation x; hand = entry_sends gens c k.generation x }, Moved)).0.accepted ≤ k.accepted + 1
+  taking gens c k x queue true = omega arith
+  taking gens c k x queue false = omega arith
+
+  takes : (gens : Generations) (c : ℕ) (k : ConnectionState) (hand : List (TenantId × TenantItem)) (queue : List ConnEntry) → (take_from gens c hand queue k).0.accepted ≤ k.accepted + 1
+  takes gens c k (x ∷ hand) queue = omega arith
+  takes gens c k [] [] = omega arith
+  takes gens c k [] (x ∷ queue) = taking gens c k x queue (is_past gens k.generation x)
 
   sends_to : (d : ℕ) (k : ConnectionState) (u : ℕ) (x : TenantItem) (hand : List (TenantId × TenantItem)) (o : Option TenantState) → slice_get state.connections d ≡ Some k → AcceptedAtMost (n + 1) (send_to d k u x hand o state).0
   sends_to d k u x hand None at = no_more
@@ -89,20 +105,21 @@ module _ (n : ℕ) (state : State) (few : AcceptedAtMost n state) where
   refused None = no_more
   refused (Some at) = refused_turn at.0.0 at.1.0 (slice_get state.tenants at.0.0)
 
-  step_counts : (config : Config) (s : Step) → AcceptedAtMost (n + 1) (step_of config state s).0
-  step_counts config (step.Offer c line) = moves (offer line) (λ k. offers line k k.closed (nat_lt (length k.queue) 4096)) c.0 (slice_get state.connections c.0) refl
-  step_counts config (step.Close c) = moves close (λ k. closes k k.closed (nat_lt (length k.queue) 4096)) c.0 (slice_get state.connections c.0) refl
-  step_counts config (step.Take c) = moves (take config c.0) (λ k. takes config c.0 k k.hand k.queue) c.0 (slice_get state.connections c.0) refl
-  step_counts config (step.Send c) = sends c.0 (slice_get state.connections c.0) refl
-  step_counts config (step.Fetch t count) = inside _ t.0 (slice_get state.tenants t.0)
-  step_counts config (step.Match t) = inside _ t.0 (slice_get state.tenants t.0)
-  step_counts config (step.Give t) = inside _ t.0 (slice_get state.tenants t.0)
-  step_counts config (step.PostManage t p m) = inside _ t.0 (slice_get state.tenants t.0)
-  step_counts config (step.PostResult t p r) = inside _ t.0 (slice_get state.tenants t.0)
-  step_counts config (step.Turn t p) = inside _ t.0 (slice_get state.tenants t.0)
+  step_counts : (gens : Generations) (s : Step) → AcceptedAtMost (n + 1) (step_of gens state s).0
+  step_counts gens (step.Offer c line) = moves (offer line) (λ k. offers line k k.closed (nat_lt (length k.queue) 4096)) c.0 (slice_get state.connections c.0) refl
+  step_counts gens (step.Close c) = moves close (λ k. closes k k.closed (nat_lt (length k.queue) 4096)) c.0 (slice_get state.connections c.0) refl
+  step_counts gens (step.Renew c) = moves (renew (count_of gens)) (λ k. renewing k k.closed (nat_le (count_of gens) (length k.renewals + 1)) (nat_lt (length k.queue) 4096)) c.0 (slice_get state.connections c.0) refl
+  step_counts gens (step.Take c) = moves (take gens c.0) (λ k. takes gens c.0 k k.hand k.queue) c.0 (slice_get state.connections c.0) refl
+  step_counts gens (step.Send c) = sends c.0 (slice_get state.connections c.0) refl
+  step_counts gens (step.Fetch t count) = inside _ t.0 (slice_get state.tenants t.0)
+  step_counts gens (step.Match t) = inside _ t.0 (slice_get state.tenants t.0)
+  step_counts gens (step.Give t) = inside _ t.0 (slice_get state.tenants t.0)
+  step_counts gens (step.PostManage t p m) = inside _ t.0 (slice_get state.tenants t.0)
+  step_counts gens (step.PostResult t p r) = inside _ t.0 (slice_get state.tenants t.0)
+  step_counts gens (step.Turn t p) = inside _ t.0 (slice_get state.tenants t.0)
 
 -- whatever a step that was done or refused leaves
-pub one_more : (config : Config) (state : State) (s : Step) (next : State) (result : Result Answer Memory) → Does (refused_step state s) (step_of config state s) next result →
+pub one_more : (gens : Generations) (state : State) (s : Step) (next : State) (result : Result Answer Memory) → Does (refused_step state s) (step_of gens state s) next result →
     (n : ℕ) → AcceptedAtMost n state → AcceptedAtMost (n + 1) next
-one_more config state s next (Ok answer) does n few = subst (λ (after : State × Answer). AcceptedAtMost (n + 1) after.0) (sym does) (step_counts n state few config s)
-one_more config state s next (Err memory) does n few = subst (AcceptedAtMost (n + 1)) (sym does.0) (refused n state few (turn_of s))
+one_more gens state s next (Ok answer) does n few = subst (λ (after : State × Answer). AcceptedAtMost (n + 1) after.0) (sym does) (step_counts n state few gens s)
+one_more gens state s next (Err memory) does n few = subst (AcceptedAtMost (n + 1)) (sym does.0) (refused n state few (turn_of s))

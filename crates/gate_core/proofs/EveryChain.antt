@@ -1,7 +1,7 @@
 -- What holds of every chain of attempts.
 use Rattle.std.proofs.Common.{◌≡◌, sym, subst, List, [], ◌∷◌, ◌++◌, Ok, Err, append-nil, append_assoc}
-use Rattle.gate_config.specs.declared.config.Config.{Config}
-use Rattle.gate_forward.specs.Histories.{EachTenantGetsItsOwn}
+use Rattle.gate_config.specs.declared.generations.Generations.{Generations}
+use Rattle.gate_core.proofs.LowerLaws.{Laws}
 use Rattle.gate_items.specs.History.{CancelledChangesNothing}
 use Rattle.gate_items.specs.Outcomes.{OutcomesAreSaid}
 use Rattle.gate_tenant.specs.Histories.{EachGetsItsOwn, NothingIsLost}
@@ -22,39 +22,39 @@ use Rattle.gate_core.proofs.Reported.{reported}
 use Rattle.gate_core.proofs.RightAnswers.{right_answer}
 use Rattle.gate_core.proofs.Streams.{Holds}
 
-module _ (config : Config) where
+module _ (gens : Generations) where
   -- one step that is answered
-  answered_holds : (h : History) (state : State) (s : Step) (answer : Answer) (next : State) → (next, answer) ≡ step_of config state s → Holds config h state → Holds config (h ++ (s, answer) ∷ []) next
-  answered_holds h state s answer next does holds = subst (λ (after : State × Answer). Holds config (h ++ (s, after.1) ∷ []) after.0) (sym does) (holds_on config h state s holds)
+  answered_holds : (h : History) (state : State) (s : Step) (answer : Answer) (next : State) → (next, answer) ≡ step_of gens state s → Holds gens h state → Holds gens (h ++ (s, answer) ∷ []) next
+  answered_holds h state s answer next does holds = subst (λ (after : State × Answer). Holds gens (h ++ (s, after.1) ∷ []) after.0) (sym does) (holds_on gens h state s holds)
 
   -- one that is refused
-  next_holds : (h : History) (state : State) (s : Step) (next : State) → next ≡ refused_step state s → Holds config h state → Holds config h next
-  next_holds h state s next same holds = subst (Holds config h) (sym same) (refused_holds config h state s holds)
+  next_holds : (h : History) (state : State) (s : Step) (next : State) → next ≡ refused_step state s → Holds gens h state → Holds gens h next
+  next_holds h state s next same holds = subst (Holds gens h) (sym same) (refused_holds gens h state s holds)
 
-  holds_along : (h : History) (state : State) (attempts : List Attempt) → IsChain config state attempts → Holds config h state → Holds config (h ++ answered_history attempts) (left_behind state attempts)
-  holds_along h state [] chain holds = subst (λ (x : History). Holds config x state) (sym (append-nil h)) holds
+  holds_along : (h : History) (state : State) (attempts : List Attempt) → IsChain gens state attempts → Holds gens h state → Holds gens (h ++ answered_history attempts) (left_behind state attempts)
+  holds_along h state [] chain holds = subst (λ (x : History). Holds gens x state) (sym (append-nil h)) holds
   holds_along h state ((s, Err memory, next) ∷ attempts) chain holds = holds_along h next attempts chain.1 (next_holds h state s next chain.0 holds)
   holds_along h state ((s, Ok answer, next) ∷ attempts) chain holds =
-      subst (λ (x : History). Holds config x (left_behind next attempts)) (append_assoc h ((s, answer) ∷ []) (answered_history attempts))
+      subst (λ (x : History). Holds gens x (left_behind next attempts)) (append_assoc h ((s, answer) ∷ []) (answered_history attempts))
       (holds_along (h ++ (s, answer) ∷ []) next attempts chain.1 (answered_holds h state s answer next chain.0 holds))
 
-  holds_all : EachTenantGetsItsOwn → (attempts : List Attempt) → IsChain config (first config) attempts → Holds config (answered_history attempts) (left_behind (first config) attempts)
-  holds_all gets attempts chain = holds_along [] (first config) attempts chain (first_holds config gets)
+  holds_all : Laws → (attempts : List Attempt) → IsChain gens (first gens) attempts → Holds gens (answered_history attempts) (left_behind (first gens) attempts)
+  holds_all laws attempts chain = holds_along [] (first gens) attempts chain (first_holds gens laws)
 
-  right_along : (h : History) (state : State) (attempts : List Attempt) → IsChain config state attempts → Holds config h state → AnswersRightly config h (answered_history attempts)
+  right_along : (h : History) (state : State) (attempts : List Attempt) → IsChain gens state attempts → Holds gens h state → AnswersRightly gens h (answered_history attempts)
   right_along h state [] chain holds = tt
   right_along h state ((s, Err memory, next) ∷ attempts) chain holds = right_along h next attempts chain.1 (next_holds h state s next chain.0 holds)
   right_along h state ((s, Ok answer, next) ∷ attempts) chain holds = (
-    subst (λ (after : State × Answer). IsRightAnswer config h s after.1) (sym chain.0) (right_answer config h state s holds),
+    subst (λ (after : State × Answer). IsRightAnswer gens h s after.1) (sym chain.0) (right_answer gens h state s holds),
     right_along (h ++ (s, answer) ∷ []) next attempts chain.1 (answered_holds h state s answer next chain.0 holds),
   )
 
-pub every_chain : EachTenantGetsItsOwn → EachGetsItsOwn → NothingIsLost → OutcomesAreSaid → CancelledChangesNothing → EveryChainDelivers
-every_chain gets own lossless says late = record {
-  delivers = λ config attempts chain. delivers own lossless config (answered_history attempts) (left_behind (first config) attempts) (holds_all config gets attempts chain);
-  rightly = λ config attempts chain. right_along config [] (first config) attempts chain (first_holds config gets);
-  report = λ config attempts chain. reported config (answered_history attempts) (left_behind (first config) attempts) (holds_all config gets attempts chain);
-  processes = λ config attempts chain. processes own lossless late config (answered_history attempts) (left_behind (first config) attempts) (holds_all config gets attempts chain);
-  keeps = λ config attempts chain. keeps says config (answered_history attempts) (left_behind (first config) attempts) (holds_all config gets attempts chain);
-  held = λ config state attempts chain t p pipe waits at held. next_is_held config state attempts chain t p pipe waits at held;
+pub every_chain : Laws → EachGetsItsOwn → NothingIsLost → OutcomesAreSaid → CancelledChangesNothing → EveryChainDelivers
+every_chain laws own lossless says late = record {
+  delivers = λ gens attempts chain. delivers own lossless gens (answered_history attempts) (left_behind (first gens) attempts) (holds_all gens laws attempts chain);
+  rightly = λ gens attempts chain. right_along gens [] (first gens) attempts chain (first_holds gens laws);
+  report = λ gens attempts chain. reported gens (answered_history attempts) (left_behind (first gens) attempts) (holds_all gens laws attempts chain);
+  processes = λ gens attempts chain. processes own lossless late gens (answered_history attempts) (left_behind (first gens) attempts) (holds_all gens laws attempts chain);
+  keeps = λ gens attempts chain. keeps says gens (answered_history attempts) (left_behind (first gens) attempts) (holds_all gens laws attempts chain);
+  held = λ gens state attempts chain t p pipe waits at held. next_is_held gens state attempts chain t p pipe waits at held;
 }

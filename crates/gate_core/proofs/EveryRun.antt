@@ -1,7 +1,7 @@
 -- What holds of every list of steps.
 use Rattle.std.proofs.Common.{sym, subst, List, [], ◌∷◌, ◌++◌, append-nil, append_assoc}
-use Rattle.gate_config.specs.declared.config.Config.{Config}
-use Rattle.gate_forward.specs.Histories.{EachTenantGetsItsOwn}
+use Rattle.gate_config.specs.declared.generations.Generations.{Generations}
+use Rattle.gate_core.proofs.LowerLaws.{Laws}
 use Rattle.gate_items.specs.History.{CancelledChangesNothing}
 use Rattle.gate_items.specs.Outcomes.{OutcomesAreSaid}
 use Rattle.gate_tenant.specs.Histories.{EachGetsItsOwn, NothingIsLost}
@@ -18,27 +18,27 @@ use Rattle.gate_core.proofs.Reported.{reported}
 use Rattle.gate_core.proofs.RightAnswers.{right_answer}
 use Rattle.gate_core.proofs.Streams.{Holds}
 
-holds_all : (config : Config) (steps : List Step) (h : History) (state : State) → Holds config h state → Holds config (h ++ run_from config state steps) (left_by config state steps)
-holds_all config [] h state holds = subst (λ (x : History). Holds config x state) (sym (append-nil h)) holds
-holds_all config (s ∷ steps) h state holds =
-    let next = step_of config state s in
-    subst (λ (x : History). Holds config x (left_by config next.0 steps)) (append_assoc h ((s, next.1) ∷ []) (run_from config next.0 steps))
-    (holds_all config steps (h ++ (s, next.1) ∷ []) next.0 (holds_on config h state s holds))
+holds_all : (gens : Generations) (steps : List Step) (h : History) (state : State) → Holds gens h state → Holds gens (h ++ run_from gens state steps) (left_by gens state steps)
+holds_all gens [] h state holds = subst (λ (x : History). Holds gens x state) (sym (append-nil h)) holds
+holds_all gens (s ∷ steps) h state holds =
+    let next = step_of gens state s in
+    subst (λ (x : History). Holds gens x (left_by gens next.0 steps)) (append_assoc h ((s, next.1) ∷ []) (run_from gens next.0 steps))
+    (holds_all gens steps (h ++ (s, next.1) ∷ []) next.0 (holds_on gens h state s holds))
 
-answers_rightly : (config : Config) (steps : List Step) (h : History) (state : State) → Holds config h state → AnswersRightly config h (run_from config state steps)
-answers_rightly config [] h state holds = tt
-answers_rightly config (s ∷ steps) h state holds =
-    (right_answer config h state s holds, answers_rightly config steps (h ++ (s, (step_of config state s).1) ∷ []) (step_of config state s).0 (holds_on config h state s holds))
+answers_rightly : (gens : Generations) (steps : List Step) (h : History) (state : State) → Holds gens h state → AnswersRightly gens h (run_from gens state steps)
+answers_rightly gens [] h state holds = tt
+answers_rightly gens (s ∷ steps) h state holds =
+    (right_answer gens h state s holds, answers_rightly gens steps (h ++ (s, (step_of gens state s).1) ∷ []) (step_of gens state s).0 (holds_on gens h state s holds))
 
-pub every_run : EachTenantGetsItsOwn → EachGetsItsOwn → NothingIsLost → OutcomesAreSaid → CancelledChangesNothing → EveryRunDelivers
-every_run gets own lossless says late = record {
-  delivers = λ config steps.
-      delivers own lossless config (run_from config (first config) steps) (left_by config (first config) steps) (holds_all config steps [] (first config) (first_holds config gets));
-  rightly = λ config steps. answers_rightly config steps [] (first config) (first_holds config gets);
-  report = λ config steps.
-      reported config (run_from config (first config) steps) (left_by config (first config) steps) (holds_all config steps [] (first config) (first_holds config gets));
-  processes = λ config steps.
-      processes own lossless late config (run_from config (first config) steps) (left_by config (first config) steps) (holds_all config steps [] (first config) (first_holds config gets));
-  keeps = λ config steps.
-      keeps says config (run_from config (first config) steps) (left_by config (first config) steps) (holds_all config steps [] (first config) (first_holds config gets));
+pub every_run : Laws → EachGetsItsOwn → NothingIsLost → OutcomesAreSaid → CancelledChangesNothing → EveryRunDelivers
+every_run laws own lossless says late = record {
+  delivers = λ gens steps.
+      delivers own lossless gens (run_from gens (first gens) steps) (left_by gens (first gens) steps) (holds_all gens steps [] (first gens) (first_holds gens laws));
+  rightly = λ gens steps. answers_rightly gens steps [] (first gens) (first_holds gens laws);
+  report = λ gens steps.
+      reported gens (run_from gens (first gens) steps) (left_by gens (first gens) steps) (holds_all gens steps [] (first gens) (first_holds gens laws));
+  processes = λ gens steps.
+      processes own lossless late gens (run_from gens (first gens) steps) (left_by gens (first gens) steps) (holds_all gens steps [] (first gens) (first_holds gens laws));
+  keeps = λ gens steps.
+      keeps says gens (run_from gens (first gens) steps) (left_by gens (first gens) steps) (holds_all gens steps [] (first gens) (first_holds gens laws));
 }

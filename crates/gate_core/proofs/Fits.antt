@@ -133,7 +133,7 @@ module _ {config : Config} {t p : ℕ} {given : List (PipelineId × PipelineItem
   s = pipe.worker.items
 
   abbrev asked_for : Stamped → Action
-  asked_for e = trigger_of config pipe.worker.tenant pipe.worker.pipeline e
+  asked_for e = trigger_of config pipe.worker.tenant pipe.worker.pipeline e.stamp e.event
 
   -- ---- what is held is processed
 
@@ -182,7 +182,7 @@ module _ {config : Config} {t p : ℕ} {given : List (PipelineId × PipelineItem
         plain = tt;
         stamps = filter_map_push stamp_in fits.taken (pipeline.Event e) ∙ ap (λ (xs : List Stamp). xs ++ e.stamp ∷ []) fits.stamps;
         asks = filter_map_push triggering ts x ∙ ap (λ (xs : List (Option Stamp × Action)). xs ++ (Some e.stamp, a) ∷ []) fits.asks
-            ∙ (λ i. filter_map (asking config t p) fits.taken ++ (Some e.stamp, trigger_of config (fits.tenant i) (fits.number i) e) ∷ [])
+            ∙ (λ i. filter_map (asking config t p) fits.taken ++ (Some e.stamp, trigger_of config (fits.tenant i) (fits.number i) e.stamp e.event) ∷ [])
             ∙ sym (filter_map_push (asking config t p) fits.taken (pipeline.Event e));
         does = ap (λ (xs : List Stamp). xs ++ e.stamp ∷ []) fits.does ∙ sym (filter_map_push stamp_of ts x);
         items = items_more config t p ts s (Some e.stamp) a fits.items;

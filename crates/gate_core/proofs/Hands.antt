@@ -16,10 +16,15 @@ use Rattle.gate_core.proofs.Elements.{written_back}
 abbrev Item : Type 0
 Item = TenantId × TenantItem
 
+-- what a connection shows of its forwarder's hand: what is to be sent, and the generation in force
+abbrev pub shown : Hand → List Item × ℕ
+shown hand = (hand.items, hand.generation)
+
 -- what is known once the first item of the hand is out
 pub record IsOut (old new : Hand) (first : TenantId × TenantItem) : Type 0 where
   pub items : old.items ≡ first ∷ new.items
   pub out : new.out ≡ Some first.0
+  pub generation : new.generation ≡ old.generation
 
 out_by : (items : List Item) (old new : Hand) (first : Item) → old.items ≡ items → (new, Some first) ≡ moved_out items old → IsOut old new first
 out_by [] old new first e moves =
@@ -32,22 +37,23 @@ out_by (x ∷ xs) old new first e moves =
     record {
       items = e ∙ ap (λ y. y ∷ xs) (sym one) ∙ ap (λ ys. first ∷ ys) (sym (ap (λ (h : Hand). h.items) same));
       out = ap (λ (h : Hand). h.out) same ∙ ap (λ (y : Item). Some y.0) (sym one);
+      generation = ap (λ (h : Hand). h.generation) same;
     }
 
 pub is_out : (old new : Hand) (first : TenantId × TenantItem) → (new, Some first) ≡ moved_out old.items old → IsOut old new first
 is_out old new first moves = out_by old.items old new first refl moves
 
 -- the item that came back is the first again
-pub came_back : (old new back : Hand) (first : TenantId × TenantItem) → IsOut old new first → back ≡ put_back first.1 new.out new → back.items ≡ old.items
-came_back old new back first out e = ap (λ (h : Hand). h.items) (e ∙ ap (λ o. put_back first.1 o new) out.out) ∙ sym out.items
+pub came_back : (old new back : Hand) (first : TenantId × TenantItem) → IsOut old new first → back ≡ put_back first.1 new.out new → shown back ≡ shown old
+came_back old new back first out e = ap shown (e ∙ ap (λ o. put_back first.1 o new) out.out) ∙ (λ i. (sym out.items i, out.generation i))
 
 -- what is known where the hand was empty
 pub record WasEmpty (old new : Hand) : Type 0 where
   pub items : old.items ≡ []
-  pub same : new.items ≡ old.items
+  pub same : shown new ≡ shown old
 
 empty_by : (items : List Item) (old new : Hand) → old.items ≡ items → (new, None) ≡ moved_out items old → WasEmpty old new
-empty_by [] old new e moves = record { items = e; same = ap (λ (m : Hand × Option Item). m.0.items) moves }
+empty_by [] old new e moves = record { items = e; same = ap (λ (m : Hand × Option Item). shown m.0) moves }
 empty_by (x ∷ xs) old new e moves =
     let something : None ≡ Some x = ap (λ (m : Hand × Option Item). m.1) moves in
     absurd (cc)

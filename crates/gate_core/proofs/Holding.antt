@@ -6,7 +6,7 @@ use Rattle.gate_record.specs.declared.ids.PipelineId.{PipelineId}
 use Rattle.gate_record.specs.declared.ids.TenantId.{TenantId}
 use Rattle.gate_record.specs.declared.transit.PipelineItem.{PipelineItem}
 use Rattle.gate_record.specs.declared.transit.TenantItem.{TenantItem}
-use Rattle.gate_config.specs.declared.config.Config.{Config}
+use Rattle.gate_config.specs.declared.generations.Generations.{Generations}
 use Rattle.gate_pipeline.specs.declared.which.Held.{Held}
 use Rattle.gate_pipeline.specs.declared.which.Taken.TheVariants as taken
 use Rattle.gate_pipeline.specs.declared.which.Which.TheVariants as which
@@ -23,7 +23,8 @@ use Rattle.gate_core.specs.History.{is_turn, turn_of, processed_in}
 use Rattle.gate_core.specs.History.{processed_of, processed_by}
 use Rattle.gate_core.specs.Pipelines.{Found, answer_of, found, found_where, holding, post_manage, post_result, refused, refused_by, turned, turned_by}
 use Rattle.gate_core.specs.States.{ConnectionState, State, TenantState, pipeline_at, with_gathered}
-use Rattle.gate_core.specs.Steps.{close, fetch, fetched, give, give_from, give_to, match_from, match_gathered, offer, on_pipeline, refused_in, refused_step, refused_turn_of, send_from, send_of, send_to, step_of, take, with_refused}
+use Rattle.gate_core.specs.Steps.{close, fetch, fetched, give, give_from, give_to, match_from, match_gathered, offer, on_pipeline, refused_in, renew, refused_step, refused_turn_of, send_from, send_of, send_to, step_of, take, with_refused}
+use Rattle.gate_config.specs.Generations.{count_of}
 use Rattle.gate_core.proofs.Spots.{AfterSet, after_set, another, it}
 use Rattle.gate_core.proofs.Arrivals.{same_as_itself}
 use Rattle.gate_core.proofs.Working.{the_same}
@@ -65,7 +66,7 @@ module _ (state : State) (conns : List ConnectionState) (t p : ℕ) (t0 : ℕ) (
     pipe_changes set same =
         tenant_changes (λ e. ap (λ (pipes : List Pipeline). option_map (λ (x : Pipeline). x.worker) (slice_get pipes p)) set ∙ pipe_by (λ f. same (e, f)) (after_set ten.pipelines p0 p pipe pipe' whose))
 
-module _ (config : Config) (state : State) (t p : ℕ) where
+module _ (gens : Generations) (state : State) (t p : ℕ) where
   abbrev Leaves : State → Type 0
   Leaves next = worker_at t p next ≡ worker_at t p state
 
@@ -93,17 +94,17 @@ module _ (config : Config) (state : State) (t p : ℕ) where
   fetch_keeps n true ten = refl
   fetch_keeps n false ten = refl
 
-  fetch_leaves : (u n : ℕ) (o : Option TenantState) → slice_get state.tenants u ≡ o → Leaves (with_tenant (fetch config u n) u o state).0
+  fetch_leaves : (u n : ℕ) (o : Option TenantState) → slice_get state.tenants u ≡ o → Leaves (with_tenant (fetch gens.first u n) u o state).0
   fetch_leaves u n None at = refl
-  fetch_leaves u n (Some ten) at = keeps u ten (fetch config u n ten).0 at (fetch_keeps (fetched config u n ten) (fetched config u n ten == 0) ten)
+  fetch_leaves u n (Some ten) at = keeps u ten (fetch gens.first u n ten).0 at (fetch_keeps (fetched gens.first u n ten) (fetched gens.first u n ten == 0) ten)
 
-  match_keeps : (u : ℕ) (items : List TenantItem) (ten : TenantState) → (match_from config u items ten).0.pipelines ≡ ten.pipelines
+  match_keeps : (u : ℕ) (items : List TenantItem) (ten : TenantState) → (match_from gens u items ten).0.pipelines ≡ ten.pipelines
   match_keeps u [] ten = refl
   match_keeps u (x ∷ items) ten = refl
 
-  match_leaves : (u : ℕ) (o : Option TenantState) → slice_get state.tenants u ≡ o → Leaves (with_tenant (match_gathered config u) u o state).0
+  match_leaves : (u : ℕ) (o : Option TenantState) → slice_get state.tenants u ≡ o → Leaves (with_tenant (match_gathered gens u) u o state).0
   match_leaves u None at = refl
-  match_leaves u (Some ten) at = keeps u ten (match_gathered config u ten).0 at (match_keeps u ten.dispatch.gathered ten)
+  match_leaves u (Some ten) at = keeps u ten (match_gathered gens u ten).0 at (match_keeps u ten.dispatch.gathered ten)
 
   give_by : (u : ℕ) (ten : TenantState) → slice_get state.tenants u ≡ Some ten → (q : PipelineId) (x : PipelineItem) (hand : List (PipelineId × PipelineItem)) (pipe : Pipeline) → slice_get ten.pipelines q.0 ≡ Some pipe →
       Leaves (record state { tenants = slice_set state.tenants u (record ten { dispatch = record ten.dispatch { items = hand; out = None }; pipelines = slice_set ten.pipelines q.0 (record pipe { triggers = pipe.triggers ++ x ∷ [] }) }) })
@@ -148,10 +149,11 @@ module _ (config : Config) (state : State) (t p : ℕ) where
       absurd (cc)
 
   -- a step that is no turn of it
-  step_leaves : (s : Step) → is_turn t p s ≡ false → Leaves (step_of config state s).0
+  step_leaves : (s : Step) → is_turn t p s ≡ false → Leaves (step_of gens state s).0
   step_leaves (step.Offer c line) e = conn_leaves (offer line) c.0 (slice_get state.connections c.0)
   step_leaves (step.Close c) e = conn_leaves close c.0 (slice_get state.connections c.0)
-  step_leaves (step.Take c) e = conn_leaves (take config c.0) c.0 (slice_get state.connections c.0)
+  step_leaves (step.Renew c) e = conn_leaves (renew (count_of gens)) c.0 (slice_get state.connections c.0)
+  step_leaves (step.Take c) e = conn_leaves (take gens c.0) c.0 (slice_get state.connections c.0)
   step_leaves (step.Send c) e = send_leaves c.0 (slice_get state.connections c.0)
   step_leaves (step.Fetch u n) e = fetch_leaves u.0 n (slice_get state.tenants u.0) refl
   step_leaves (step.Match u) e = match_leaves u.0 (slice_get state.tenants u.0) refl
@@ -160,7 +162,7 @@ module _ (config : Config) (state : State) (t p : ℕ) where
       on_pipe_leaves (post_manage m) u.0 q.0 (λ both pipe. kept_if (nat_lt (length pipe.management) 4096) pipe (record pipe { management = pipe.management ++ m ∷ [] }) refl) (slice_get state.tenants u.0) refl
   step_leaves (step.PostResult u q r) e =
       on_pipe_leaves (post_result r) u.0 q.0 (λ both pipe. kept_if (nat_lt (length pipe.results) 4096) pipe (record pipe { results = pipe.results ++ r ∷ [] }) refl) (slice_get state.tenants u.0) refl
-  step_leaves (step.Turn u q) e = on_pipe_leaves (turned config) u.0 q.0 (λ both. absurd (not_this u q e both)) (slice_get state.tenants u.0) refl
+  step_leaves (step.Turn u q) e = on_pipe_leaves (turned gens.first) u.0 q.0 (λ both. absurd (not_this u q e both)) (slice_get state.tenants u.0) refl
 
 -- ---- turns of a pipeline that holds something
 
@@ -184,20 +186,20 @@ refused_stays : (pipe : Pipeline) (waits : Held) → pipe.worker.held ≡ Some w
 refused_stays pipe waits e = ap (λ (f : Found). (refused_by f pipe).worker) (found_is pipe waits e) ∙ refused_keeps pipe.worker.finished waits pipe.worker.pass.phase pipe
 
 -- it is answered: nothing is processed and it stays, or what it holds is processed
-data Turns (config : Config) (pipe : Pipeline) (waits : Held) (next : Pipeline × Answer) : Type 0 where
-  stays : next.0.worker ≡ pipe.worker → processed_of next.1 ≡ None → Turns config pipe waits next
-  processes : processed_of next.1 ≡ Some (processed config waits (held_as None pipe.worker)).1 → Turns config pipe waits next
+data Turns (gens : Generations) (pipe : Pipeline) (waits : Held) (next : Pipeline × Answer) : Type 0 where
+  stays : next.0.worker ≡ pipe.worker → processed_of next.1 ≡ None → Turns gens pipe waits next
+  processes : processed_of next.1 ≡ Some (processed gens.first waits (held_as None pipe.worker)).1 → Turns gens pipe waits next
 
-turns_again : (config : Config) (pipe : Pipeline) (waits : Held) (o : Option Held) → o ≡ Some waits → processed_of (answer_of (with_processed config o pipe.worker).1) ≡ Some (processed config waits (held_as None pipe.worker)).1
-turns_again config pipe waits o e = ap (λ (x : Option Held). processed_of (answer_of (with_processed config x pipe.worker).1)) e
+turns_again : (gens : Generations) (pipe : Pipeline) (waits : Held) (o : Option Held) → o ≡ Some waits → processed_of (answer_of (with_processed gens.first o pipe.worker).1) ≡ Some (processed gens.first waits (held_as None pipe.worker)).1
+turns_again gens pipe waits o e = ap (λ (x : Option Held). processed_of (answer_of (with_processed gens.first x pipe.worker).1)) e
 
-turns_by : (config : Config) (fin : Bool) (waits : Held) (now : Phase) (pipe : Pipeline) → pipe.worker.held ≡ Some waits → Turns config pipe waits (turned_by config (found_as fin waits now pipe) pipe)
-turns_by config true waits now pipe e = stays refl refl
-turns_by config false waits now pipe e = processes (turns_again config pipe waits pipe.worker.held e)
+turns_by : (gens : Generations) (fin : Bool) (waits : Held) (now : Phase) (pipe : Pipeline) → pipe.worker.held ≡ Some waits → Turns gens pipe waits (turned_by gens.first (found_as fin waits now pipe) pipe)
+turns_by gens true waits now pipe e = stays refl refl
+turns_by gens false waits now pipe e = processes (turns_again gens pipe waits pipe.worker.held e)
 
-turns : (config : Config) (pipe : Pipeline) (waits : Held) → pipe.worker.held ≡ Some waits → Turns config pipe waits (turned config pipe)
-turns config pipe waits e =
-    subst (λ (f : Found). Turns config pipe waits (turned_by config f pipe)) (sym (found_is pipe waits e)) (turns_by config pipe.worker.finished waits pipe.worker.pass.phase pipe e)
+turns : (gens : Generations) (pipe : Pipeline) (waits : Held) → pipe.worker.held ≡ Some waits → Turns gens pipe waits (turned gens.first pipe)
+turns gens pipe waits e =
+    subst (λ (f : Found). Turns gens pipe waits (turned_by gens.first f pipe)) (sym (found_is pipe waits e)) (turns_by gens pipe.worker.finished waits pipe.worker.pass.phase pipe e)
 
 -- ---- one step, and a chain of them
 
@@ -206,9 +208,9 @@ data Goes (state : State) (t p : ℕ) (one : Processed) (s : Step) (next : State
   stays : worker_at t p next.0 ≡ worker_at t p state → processed_in t p (s, next.1) ≡ None → Goes state t p one s next
   processes : processed_in t p (s, next.1) ≡ Some one → Goes state t p one s next
 
-module _ (config : Config) (state : State) (waits : Held) (w : Worker) (held : w.held ≡ Some waits) where
+module _ (gens : Generations) (state : State) (waits : Held) (w : Worker) (held : w.held ≡ Some waits) where
   abbrev one : Processed
-  one = (processed config waits (held_as None w)).1
+  one = (processed gens.first waits (held_as None w)).1
 
   -- a turn of it
   module _ (u : TenantId) (q : PipelineId) where
@@ -224,24 +226,24 @@ module _ (config : Config) (state : State) (waits : Held) (w : Worker) (held : w
     turned_is : (a : Answer) → processed_in u.0 q.0 (s, a) ≡ processed_of a
     turned_is a = ap (λ b. if b then processed_of a else None) this
 
-    after_turn : (ten : TenantState) (pipe : Pipeline) → slice_get state.tenants u.0 ≡ Some ten → slice_get ten.pipelines q.0 ≡ Some pipe → pipe.worker ≡ w → (next : Pipeline × Answer) → Turns config pipe waits next →
+    after_turn : (ten : TenantState) (pipe : Pipeline) → slice_get state.tenants u.0 ≡ Some ten → slice_get ten.pipelines q.0 ≡ Some pipe → pipe.worker ≡ w → (next : Pipeline × Answer) → Turns gens pipe waits next →
         GoesBy (record state { tenants = slice_set state.tenants u.0 (record ten { pipelines = slice_set ten.pipelines q.0 next.0 }) }, next.1)
     after_turn ten pipe at whose same next (stays keeps none) =
         stays (pipe_changes state state.connections u.0 q.0 u.0 ten (record ten { pipelines = slice_set ten.pipelines q.0 next.0 }) at q.0 pipe next.0 whose refl (λ both. keeps)) (turned_is next.1 ∙ none)
-    after_turn ten pipe at whose same next (processes is) = processes (turned_is next.1 ∙ is ∙ ap (λ (x : Worker). Some (processed config waits (held_as None x)).1) same)
+    after_turn ten pipe at whose same next (processes is) = processes (turned_is next.1 ∙ is ∙ ap (λ (x : Worker). Some (processed gens.first waits (held_as None x)).1) same)
 
     of_pipe : (ten : TenantState) → slice_get state.tenants u.0 ≡ Some ten → (o : Option Pipeline) → slice_get ten.pipelines q.0 ≡ o → option_map (λ (pipe : Pipeline). pipe.worker) o ≡ Some w →
-        GoesBy (record state { tenants = slice_set state.tenants u.0 (with_pipeline (turned config) q.0 o ten).0 }, (with_pipeline (turned config) q.0 o ten).1)
+        GoesBy (record state { tenants = slice_set state.tenants u.0 (with_pipeline (turned gens.first) q.0 o ten).0 }, (with_pipeline (turned gens.first) q.0 o ten).1)
     of_pipe ten at None whose e = absurd (cc)
     of_pipe ten at (Some pipe) whose e =
         let same : pipe.worker ≡ w = the_same pipe.worker w e in
-        after_turn ten pipe at whose same (turned config pipe) (turns config pipe waits (ap (λ (x : Worker). x.held) same ∙ held))
+        after_turn ten pipe at whose same (turned gens.first pipe) (turns gens pipe waits (ap (λ (x : Worker). x.held) same ∙ held))
 
-    of_tenant : (o : Option TenantState) → slice_get state.tenants u.0 ≡ o → worker_in q.0 o ≡ Some w → GoesBy (with_tenant (on_pipeline (turned config) q.0) u.0 o state)
+    of_tenant : (o : Option TenantState) → slice_get state.tenants u.0 ≡ o → worker_in q.0 o ≡ Some w → GoesBy (with_tenant (on_pipeline (turned gens.first) q.0) u.0 o state)
     of_tenant None at e = absurd (cc)
     of_tenant (Some ten) at e = of_pipe ten at (slice_get ten.pipelines q.0) refl e
 
-    turn_goes : worker_at u.0 q.0 state ≡ Some w → GoesBy (step_of config state s)
+    turn_goes : worker_at u.0 q.0 state ≡ Some w → GoesBy (step_of gens state s)
     turn_goes e = of_tenant (slice_get state.tenants u.0) refl e
 
     -- which is refused
@@ -264,21 +266,22 @@ module _ (config : Config) (state : State) (waits : Held) (w : Worker) (held : w
     both_are i j k l true false e f both = absurd (cc)
     both_are i j k l false b e f both = absurd (cc)
 
-    other_goes : (s : Step) → is_turn t p s ≡ false → Goes state t p one s (step_of config state s)
-    other_goes s e = stays (step_leaves config state t p s e) (ap (λ b. if b then processed_of (step_of config state s).1 else None) e)
+    other_goes : (s : Step) → is_turn t p s ≡ false → Goes state t p one s (step_of gens state s)
+    other_goes s e = stays (step_leaves gens state t p s e) (ap (λ b. if b then processed_of (step_of gens state s).1 else None) e)
 
-    this_goes : (u : TenantId) (q : PipelineId) → (u.0 ≡ t) × (q.0 ≡ p) → Goes state t p one (step.Turn u q) (step_of config state (step.Turn u q))
+    this_goes : (u : TenantId) (q : PipelineId) → (u.0 ≡ t) × (q.0 ≡ p) → Goes state t p one (step.Turn u q) (step_of gens state (step.Turn u q))
     this_goes u q same =
-        subst (λ n. worker_at n p state ≡ Some w → Goes state n p one (step.Turn u q) (step_of config state (step.Turn u q))) same.0
-        (subst (λ n. worker_at u.0 n state ≡ Some w → Goes state u.0 n one (step.Turn u q) (step_of config state (step.Turn u q))) same.1 (turn_goes u q)) there
+        subst (λ n. worker_at n p state ≡ Some w → Goes state n p one (step.Turn u q) (step_of gens state (step.Turn u q))) same.0
+        (subst (λ n. worker_at u.0 n state ≡ Some w → Goes state u.0 n one (step.Turn u q) (step_of gens state (step.Turn u q))) same.1 (turn_goes u q)) there
 
-    turn_by : (u : TenantId) (q : PipelineId) (b : Bool) → is_turn t p (step.Turn u q) ≡ b → Goes state t p one (step.Turn u q) (step_of config state (step.Turn u q))
+    turn_by : (u : TenantId) (q : PipelineId) (b : Bool) → is_turn t p (step.Turn u q) ≡ b → Goes state t p one (step.Turn u q) (step_of gens state (step.Turn u q))
     turn_by u q true e = this_goes u q (both_are u.0 t q.0 p (u.0 == t) (q.0 == p) refl refl e)
     turn_by u q false e = other_goes (step.Turn u q) e
 
-    goes : (s : Step) → Goes state t p one s (step_of config state s)
+    goes : (s : Step) → Goes state t p one s (step_of gens state s)
     goes (step.Offer c line) = other_goes (step.Offer c line) refl
     goes (step.Close c) = other_goes (step.Close c) refl
+    goes (step.Renew c) = other_goes (step.Renew c) refl
     goes (step.Take c) = other_goes (step.Take c) refl
     goes (step.Send c) = other_goes (step.Send c) refl
     goes (step.Fetch u n) = other_goes (step.Fetch u n) refl
@@ -297,7 +300,7 @@ module _ (config : Config) (state : State) (waits : Held) (w : Worker) (held : w
 
     other_pipe : (u q : ℕ) → ((u ≡ t) × (q ≡ p) → ⊥) → (ten : TenantState) → slice_get state.tenants u ≡ Some ten → (o : Option Pipeline) → slice_get ten.pipelines q ≡ o →
         worker_at t p (record state { tenants = slice_set state.tenants u (with_refused q o ten) }) ≡ worker_at t p state
-    other_pipe u q differ ten at None whose = keeps config state t p u ten ten at refl
+    other_pipe u q differ ten at None whose = keeps gens state t p u ten ten at refl
     other_pipe u q differ ten at (Some pipe) whose =
         pipe_changes state state.connections t p u ten (record ten { pipelines = slice_set ten.pipelines q (refused pipe) }) at q pipe (refused pipe) whose refl (λ both. absurd (differ both))
 
@@ -307,16 +310,16 @@ module _ (config : Config) (state : State) (waits : Held) (w : Worker) (held : w
 
     turn_stays : (u : TenantId) (q : PipelineId) (b : Bool) → is_turn t p (step.Turn u q) ≡ b → worker_at t p (refused_in u.0 q.0 (slice_get state.tenants u.0) state) ≡ worker_at t p state
     turn_stays u q true e = this_stays u q (both_are u.0 t q.0 p (u.0 == t) (q.0 == p) refl refl e)
-    turn_stays u q false e = other_stays u.0 q.0 (not_this config state t p u q e) (slice_get state.tenants u.0) refl
+    turn_stays u q false e = other_stays u.0 q.0 (not_this gens state t p u q e) (slice_get state.tenants u.0) refl
 
     refused_leaves : (at : Option (TenantId × PipelineId)) → worker_at t p (refused_turn_of at state) ≡ worker_at t p state
     refused_leaves None = refl
     refused_leaves (Some (u, q)) = turn_stays u q (is_turn t p (step.Turn u q)) refl
 
 -- a chain of attempts
-module _ (config : Config) (t p : ℕ) (waits : Held) (w : Worker) (held : w.held ≡ Some waits) where
+module _ (gens : Generations) (t p : ℕ) (waits : Held) (w : Worker) (held : w.held ≡ Some waits) where
   abbrev first_one : Processed
-  first_one = (processed config waits (held_as None w)).1
+  first_one = (processed gens.first waits (held_as None w)).1
 
   first_if : (left : Option Pipeline) (o : Option Processed) (rest : List Processed) → o ≡ None → IsNext waits first_one rest left → IsNext waits first_one (cons_option o rest) left
   first_if left o rest none first = subst (λ (x : Option Processed). IsNext waits first_one (cons_option x rest) left) (sym none) first
@@ -337,20 +340,20 @@ module _ (config : Config) (t p : ℕ) (waits : Held) (w : Worker) (held : w.hel
   still_held None e = absurd (cc)
   still_held (Some ten) e = held_by (slice_get ten.pipelines p) e
 
-  held_first : (state : State) → worker_at t p state ≡ Some w → (attempts : List Attempt) → IsChain config state attempts →
+  held_first : (state : State) → worker_at t p state ≡ Some w → (attempts : List Attempt) → IsChain gens state attempts →
       IsNext waits first_one (processed_by t p (answered_history attempts)) (pipeline_at t p (left_behind state attempts))
   held_first state there [] chain = still_held (slice_get state.tenants t) there
   held_first state there ((s, Err memory, next) ∷ attempts) chain =
-      held_first next (ap (worker_at t p) chain.0 ∙ refused_leaves config state waits w held t p there (turn_of s) ∙ there) attempts chain.1
+      held_first next (ap (worker_at t p) chain.0 ∙ refused_leaves gens state waits w held t p there (turn_of s) ∙ there) attempts chain.1
   held_first state there ((s, Ok answer, next) ∷ attempts) chain =
       after_answer (pipeline_at t p (left_behind next attempts)) state there s answer next (processed_by t p (answered_history attempts))
-      (subst (Goes state t p first_one s) (sym chain.0) (goes config state waits w held t p there s)) (λ still. held_first next still attempts chain.1)
+      (subst (Goes state t p first_one s) (sym chain.0) (goes gens state waits w held t p there s)) (λ still. held_first next still attempts chain.1)
 
 worker_of : (p : ℕ) (o : Option TenantState) (pipe : Pipeline) → option_and_then (λ (ten : TenantState). slice_get ten.pipelines p) o ≡ Some pipe → worker_in p o ≡ Some pipe.worker
 worker_of p None pipe e = absurd (cc)
 worker_of p (Some ten) pipe e = ap (option_map (λ (x : Pipeline). x.worker)) e
 
-pub next_is_held : (config : Config) (state : State) (attempts : List Attempt) → IsChain config state attempts →
+pub next_is_held : (gens : Generations) (state : State) (attempts : List Attempt) → IsChain gens state attempts →
     (t p : ℕ) (pipe : Pipeline) (waits : Held) → pipeline_at t p state ≡ Some pipe → pipe.worker.held ≡ Some waits →
-    IsNext waits (processed config waits (held_as None pipe.worker)).1 (processed_by t p (answered_history attempts)) (pipeline_at t p (left_behind state attempts))
-next_is_held config state attempts chain t p pipe waits at held = held_first config t p waits pipe.worker held state (worker_of p (slice_get state.tenants t) pipe at) attempts chain
+    IsNext waits (processed gens.first waits (held_as None pipe.worker)).1 (processed_by t p (answered_history attempts)) (pipeline_at t p (left_behind state attempts))
+next_is_held gens state attempts chain t p pipe waits at held = held_first gens t p waits pipe.worker held state (worker_of p (slice_get state.tenants t) pipe at) attempts chain

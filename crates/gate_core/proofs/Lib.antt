@@ -2,8 +2,8 @@ pub mod AllSteps
 pub mod Arrivals
 pub mod Beginnings
 pub mod Counting
-pub mod Elements
 pub mod Delivering
+pub mod Elements
 pub mod EveryChain
 pub mod EveryRun
 pub mod Examples
@@ -12,13 +12,17 @@ pub mod Genuine
 pub mod Going
 pub mod Hands
 pub mod Holding
+pub mod InForce
+pub mod ItemsSeen
 pub mod Lines
+pub mod LowerLaws
 pub mod Makings
 pub mod Maps
 pub mod Outcomes
 pub mod Processing
-pub mod Readings
 pub mod Pushes
+pub mod Puts
+pub mod Readings
 pub mod Refusals
 pub mod Reported
 pub mod RightAnswers
@@ -28,6 +32,7 @@ pub mod SendSteps
 pub mod Sendings
 pub mod Spots
 pub mod Streams
+pub mod Takes
 pub mod Tenants
 pub mod Turning
 pub mod Wholes

@@ -7,7 +7,7 @@ use Rattle.gate_record.specs.declared.ids.ManagerKind.{ManagerKind}
 use Rattle.gate_record.specs.declared.ids.Stamp.{Stamp}
 use Rattle.gate_record.specs.declared.transit.PipelineItem.{PipelineItem}
 use Rattle.gate_record.specs.declared.transit.PipelineItem.TheVariants as pipeline
-use Rattle.gate_config.specs.declared.config.Config.{Config}
+use Rattle.gate_config.specs.declared.generations.Generations.{Generations}
 use Rattle.gate_config.specs.Lookups.{pipelines_of, tenants_of}
 use Rattle.gate_items.specs.declared.action.Action.{Action}
 use Rattle.gate_items.specs.declared.action.Action.TheVariants as action
@@ -62,35 +62,35 @@ discarded late manager done before between behind ended outcome e cancelled =
 
 -- ---- a pipeline that is there
 
-module _ (own : EachGetsItsOwn) (lossless : NothingIsLost) (config : Config) (h : History) (state : State) (holds : Holds config h state) (t p : ℕ) (ten : TenantState) (pipe : Pipeline)
+module _ (own : EachGetsItsOwn) (lossless : NothingIsLost) (gens : Generations) (h : History) (state : State) (holds : Holds gens h state) (t p : ℕ) (ten : TenantState) (pipe : Pipeline)
     (at : slice_get state.tenants t ≡ Some ten) (seat : slice_get ten.pipelines p ≡ Some pipe) where
-  abbrev there : TenantHolds config h state.connections t ten
+  abbrev there : TenantHolds gens h state.connections t ten
   there = holds.tenants t ten at
 
-  abbrev worked : PipeHolds config h t p there.past.given pipe
+  abbrev worked : PipeHolds gens.first h t p there.past.given pipe
   worked = there.pipes p pipe seat
 
   all_taken : AllOf (ItemIs (IsGenuine h)) (there.past.taken ++ ten.queue)
   all_taken =
       all_from (ItemIs (IsGenuine h)) (there.past.taken ++ ten.queue)
-      (λ c. all_front (ItemIs (IsGenuine h)) (filter (is_from c) (there.past.taken ++ ten.queue)) _ (subst (AllOf (ItemIs (IsGenuine h))) (sym (there.ways c)) (genuine_forwarded config t h c)))
+      (λ c. all_front (ItemIs (IsGenuine h)) (filter (is_from c) (there.past.taken ++ ten.queue)) _ (subst (AllOf (ItemIs (IsGenuine h))) (sym (there.ways c)) (genuine_forwarded holds.laws gens t h c (holds.conns c).stream)))
 
   all_matched : AllOf (ItemIs (IsGenuine h)) there.past.done
   all_matched =
       all_front (ItemIs (IsGenuine h)) there.past.done there.past.state.gathered
-      (subst (AllOf (ItemIs (IsGenuine h))) (sym (lossless config t there.past there.happens)) (all_front (ItemIs (IsGenuine h)) there.past.taken ten.queue all_taken))
+      (subst (AllOf (ItemIs (IsGenuine h))) (sym (lossless gens t there.past there.happens)) (all_front (ItemIs (IsGenuine h)) there.past.taken ten.queue all_taken))
 
   all_triggers : AllOf (TriggerIs (IsGenuine h)) worked.taken
   all_triggers =
       all_front (TriggerIs (IsGenuine h)) worked.taken (waiting_items pipe ++ items_for p there.past.state.items)
-      (subst (AllOf (TriggerIs (IsGenuine h))) (sym (all_chosen own lossless config h state holds t p 0 ten pipe at seat)) (chosen_are (IsGenuine h) config t p there.past.done all_matched))
+      (subst (AllOf (TriggerIs (IsGenuine h))) (sym (all_chosen own lossless gens h state holds t p 0 ten pipe at seat)) (chosen_are (IsGenuine h) gens t p there.past.done all_matched))
 
-  pub asked_there : (i : ℕ) (stamp : Option Stamp) (a : Action) → slice_get (processed_triggers t p h) i ≡ Some (stamp, a) → asked_by config t p h stamp ≡ Some a
+  pub asked_there : (i : ℕ) (stamp : Option Stamp) (a : Action) → slice_get (processed_triggers t p h) i ≡ Some (stamp, a) → asked_by gens.first t p h stamp ≡ Some a
   asked_there i stamp a e =
-      all_at (IsAsked config t p h) (filter_map (asking config t p) worked.taken) i (stamp, a) (asked_are config t p h worked.taken all_triggers)
+      all_at (IsAsked gens.first t p h) (filter_map (asking gens.first t p) worked.taken) i (stamp, a) (asked_are holds.laws gens.first t p h worked.taken all_triggers)
       (ap (λ (xs : List (Option Stamp × Action)). slice_get xs i) (sym worked.asks) ∙ e)
 
-  asking_stamps : (items : List PipelineItem) → filter_map stamp_with (filter_map (asking config t p) items) ≡ filter_map stamp_in items
+  asking_stamps : (items : List PipelineItem) → filter_map stamp_with (filter_map (asking gens.first t p) items) ≡ filter_map stamp_in items
   asking_stamps [] = refl
   asking_stamps (pipeline.Event s ∷ items) = ap (λ (stamps : List Stamp). s.stamp ∷ stamps) (asking_stamps items)
   asking_stamps (pipeline.End ∷ items) = asking_stamps items
@@ -101,15 +101,15 @@ module _ (own : EachGetsItsOwn) (lossless : NothingIsLost) (config : Config) (h 
 -- ---- every pipeline
 
 -- what is asked of a pipeline's history, in any case
-pub record Asked (config : Config) (h : History) (t p : ℕ) : Type 0 where
-  pub triggers : (i : ℕ) (stamp : Option Stamp) (a : Action) → slice_get (processed_triggers t p h) i ≡ Some (stamp, a) → asked_by config t p h stamp ≡ Some a
+pub record Asked (gens : Generations) (h : History) (t p : ℕ) : Type 0 where
+  pub triggers : (i : ℕ) (stamp : Option Stamp) (a : Action) → slice_get (processed_triggers t p h) i ≡ Some (stamp, a) → asked_by gens.first t p h stamp ≡ Some a
   pub stamps : filter_map stamp_with (processed_triggers t p h) ≡ done t p h
   pub management : IsPrefixOf (processed_management t p h) (manage_posts t p h)
   pub results : IsPrefixOf (processed_results t p h) (result_posts t p h)
-  pub outcome : outcomes t p h ≡ run (no_items config t p) (actions t p h)
+  pub outcome : outcomes t p h ≡ run (no_items gens.first t p) (actions t p h)
 
-module _ (own : EachGetsItsOwn) (lossless : NothingIsLost) (config : Config) (h : History) (state : State) (holds : Holds config h state) (t p : ℕ) where
-  nobody : is_some (pipe_of p (slice_get state.tenants t)) ≡ false → Asked config h t p
+module _ (own : EachGetsItsOwn) (lossless : NothingIsLost) (gens : Generations) (h : History) (state : State) (holds : Holds gens h state) (t p : ℕ) where
+  nobody : is_some (pipe_of p (slice_get state.tenants t)) ≡ false → Asked gens h t p
   nobody none =
       let nothing = (holds.others t p none).0 in
       record {
@@ -118,54 +118,54 @@ module _ (own : EachGetsItsOwn) (lossless : NothingIsLost) (config : Config) (h 
         stamps = ap (λ (ts : List Processed). filter_map stamp_with (filter_map triggering ts)) nothing ∙ sym (ap (λ (ts : List Processed). filter_map stamp_of ts) nothing);
         management = (manage_posts t p h, ap (λ (ts : List Processed). filter_map managing (map action_of ts) ++ manage_posts t p h) nothing);
         results = (result_posts t p h, ap (λ (ts : List Processed). filter_map resulting (map action_of ts) ++ result_posts t p h) nothing);
-        outcome = ap (map outcome_of) nothing ∙ ap (λ (ts : List Processed). run (no_items config t p) (map action_of ts)) (sym nothing);
+        outcome = ap (map outcome_of) nothing ∙ ap (λ (ts : List Processed). run (no_items gens.first t p) (map action_of ts)) (sym nothing);
       }
 
-  by_pipe : (ten : TenantState) → slice_get state.tenants t ≡ Some ten → (q : Option Pipeline) → slice_get ten.pipelines p ≡ q → Asked config h t p
+  by_pipe : (ten : TenantState) → slice_get state.tenants t ≡ Some ten → (q : Option Pipeline) → slice_get ten.pipelines p ≡ q → Asked gens h t p
   by_pipe ten at None e = nobody (ap (λ o. is_some (pipe_of p o)) at ∙ ap is_some e)
   by_pipe ten at (Some pipe) e =
       let worked = (holds.tenants t ten at).pipes p pipe e in
       record {
-        triggers = asked_there own lossless config h state holds t p ten pipe at e;
-        stamps = stamps_there own lossless config h state holds t p ten pipe at e;
+        triggers = asked_there own lossless gens h state holds t p ten pipe at e;
+        stamps = stamps_there own lossless gens h state holds t p ten pipe at e;
         management = (waiting_managed pipe, worked.manages);
         results = (waiting_ended pipe, worked.ends);
         outcome = worked.outcome;
       }
 
-  by_tenant : (o : Option TenantState) → slice_get state.tenants t ≡ o → Asked config h t p
+  by_tenant : (o : Option TenantState) → slice_get state.tenants t ≡ o → Asked gens h t p
   by_tenant None e = nobody (ap (λ o. is_some (pipe_of p o)) e)
   by_tenant (Some ten) e = by_pipe ten e (slice_get ten.pipelines p) refl
 
-  asked : Asked config h t p
+  asked : Asked gens h t p
   asked = by_tenant (slice_get state.tenants t) refl
 
-pub processes : EachGetsItsOwn → NothingIsLost → CancelledChangesNothing → (config : Config) (h : History) (state : State) → Holds config h state → Processes config h
-processes own lossless late config h state holds = record {
-  triggers = λ t p. (asked own lossless config h state holds t p).triggers;
-  stamps = λ t p. (asked own lossless config h state holds t p).stamps;
-  management = λ t p. (asked own lossless config h state holds t p).management;
-  results = λ t p. (asked own lossless config h state holds t p).results;
-  outcome = λ t p. (asked own lossless config h state holds t p).outcome;
-  late = λ t p. subst (LateIsDiscarded (manager_of config t p)) (sym (asked own lossless config h state holds t p).outcome) (discarded late (manager_of config t p) (actions t p h));
+pub processes : EachGetsItsOwn → NothingIsLost → CancelledChangesNothing → (gens : Generations) (h : History) (state : State) → Holds gens h state → Processes gens.first h
+processes own lossless late gens h state holds = record {
+  triggers = λ t p. (asked own lossless gens h state holds t p).triggers;
+  stamps = λ t p. (asked own lossless gens h state holds t p).stamps;
+  management = λ t p. (asked own lossless gens h state holds t p).management;
+  results = λ t p. (asked own lossless gens h state holds t p).results;
+  outcome = λ t p. (asked own lossless gens h state holds t p).outcome;
+  late = λ t p. subst (LateIsDiscarded (manager_of gens.first t p)) (sym (asked own lossless gens h state holds t p).outcome) (discarded late (manager_of gens.first t p) (actions t p h));
 }
 
 -- ---- queue items
 
-module _ (config : Config) (h : History) (state : State) (holds : Holds config h state) (t p : ℕ) where
+module _ (gens : Generations) (h : History) (state : State) (holds : Holds gens h state) (t p : ℕ) where
   kept_pipe : (ten : TenantState) → slice_get state.tenants t ≡ Some ten → (q : Option Pipeline) → slice_get ten.pipelines p ≡ q → (items : ItemsState) → option_map (λ (pipe : Pipeline). pipe.worker.items) q ≡ Some items →
-      (items ≡ after (no_items config t p) (actions t p h)) × (outcomes t p h ≡ run (no_items config t p) (actions t p h))
+      (items ≡ after (no_items gens.first t p) (actions t p h)) × (outcomes t p h ≡ run (no_items gens.first t p) (actions t p h))
   kept_pipe ten at None e items f = absurd (cc)
   kept_pipe ten at (Some pipe) e items f =
       let worked = (holds.tenants t ten at).pipes p pipe e in
       (sym (the_same pipe.worker.items items f) ∙ worked.items, worked.outcome)
 
   kept_tenant : (o : Option TenantState) → slice_get state.tenants t ≡ o → (items : ItemsState) → option_map (λ (pipe : Pipeline). pipe.worker.items) (pipe_of p o) ≡ Some items →
-      (items ≡ after (no_items config t p) (actions t p h)) × (outcomes t p h ≡ run (no_items config t p) (actions t p h))
+      (items ≡ after (no_items gens.first t p) (actions t p h)) × (outcomes t p h ≡ run (no_items gens.first t p) (actions t p h))
   kept_tenant None e items f = absurd (cc)
   kept_tenant (Some ten) e items f = kept_pipe ten e (slice_get ten.pipelines p) refl items f
 
-  kept : (items : ItemsState) → items_at t p state ≡ Some items → (items ≡ after (no_items config t p) (actions t p h)) × (outcomes t p h ≡ run (no_items config t p) (actions t p h))
+  kept : (items : ItemsState) → items_at t p state ≡ Some items → (items ≡ after (no_items gens.first t p) (actions t p h)) × (outcomes t p h ≡ run (no_items gens.first t p) (actions t p h))
   kept items e = kept_tenant (slice_get state.tenants t) refl items e
 
 -- ---- each pipeline of the configuration is there
@@ -179,7 +179,7 @@ some_of : {X Y : Type 0} (f : X → Y) (o : Option X) → is_some o ≡ true →
 some_of f None e = e
 some_of f (Some x) e = refl
 
-module _ (config : Config) (h : History) (state : State) (holds : Holds config h state) (t p : ℕ) (tenant : t < length (tenants_of config)) (inside : p < length (pipelines_of config t)) where
+module _ (gens : Generations) (h : History) (state : State) (holds : Holds gens h state) (t p : ℕ) (tenant : t < length (tenants_of gens.first)) (inside : p < length (pipelines_of gens.first t)) where
   there_in : (o : Option TenantState) → slice_get state.tenants t ≡ o → is_some o ≡ true → is_some (option_map (λ (pipe : Pipeline). pipe.worker.items) (option_and_then (λ (ten : TenantState). slice_get ten.pipelines p) o)) ≡ true
   there_in None e there = absurd (cc)
   there_in (Some ten) e there = some_of (λ (pipe : Pipeline). pipe.worker.items) (slice_get ten.pipelines p) (seated ten.pipelines p (omega (arith, inside, (holds.tenants t ten e).count)))
@@ -187,12 +187,12 @@ module _ (config : Config) (h : History) (state : State) (holds : Holds config h
   is_there : is_some (items_at t p state) ≡ true
   is_there = there_in (slice_get state.tenants t) refl (seated state.tenants t (omega (arith, tenant, holds.count)))
 
-pub keeps : OutcomesAreSaid → (config : Config) (h : History) (state : State) → Holds config h state → Keeps config h state
-keeps says config h state holds = record {
-  there = λ t p tenant inside. is_there config h state holds t p tenant inside;
-  items = λ t p items e. (kept config h state holds t p items e).0;
+pub keeps : OutcomesAreSaid → (gens : Generations) (h : History) (state : State) → Holds gens h state → Keeps gens.first h state
+keeps says gens h state holds = record {
+  there = λ t p tenant inside. is_there gens h state holds t p tenant inside;
+  items = λ t p items e. (kept gens h state holds t p items e).0;
   jobs = λ t p i j items item job e at seat.
-      let all = kept config h state holds t p items e in
-      says (manager_of config t p) 0 (actions t p h) i j item job (ap (λ (s : ItemsState). slice_get s.items i) (sym all.0) ∙ at) seat
+      let all = kept gens h state holds t p items e in
+      says (manager_of gens.first t p) 0 (actions t p h) i j item job (ap (λ (s : ItemsState). slice_get s.items i) (sym all.0) ∙ at) seat
       ∙ ap (said item.set job.0) (sym all.1);
 }

@@ -7,8 +7,9 @@ use Rattle.std.proofs.lemmas.List.Sums.{sum_by-append}
 use Rattle.gate_core.specs.declared.answer.Answer.{Answer}
 use Rattle.gate_core.specs.declared.answer.Answer.TheVariants.{Closed, Full, Idle, Passed}
 use Rattle.gate_core.specs.declared.step.Step.{Step}
-use Rattle.gate_core.specs.History.{History, accepted_records, accepted_in, finished, closed, manage_posted_in, manage_posts, posted_manage, posted_result, result_posted_in, result_posts, processed_by, processed_in, is_put, is_taking, is_turn, is_close, is_take, is_offer, is_moved, is_accepted, offered_to, processed_of}
+use Rattle.gate_core.specs.History.{History, accepted_records, accepted_in, finished, closed, manage_posted_in, manage_posts, posted_manage, posted_result, result_posted_in, result_posts, processed_by, processed_in, is_put, has_taken, is_turn, is_close, is_take, is_offer, is_renew, is_moved, is_accepted, offered_to, processed_of, renewals, renewed_in}
 use Rattle.gate_core.proofs.Maps.{filter_map_push}
+use Rattle.gate_core.proofs.Puts.{put_by, put_stays, renewals_stay}
 
 pub accepted_push : (c : ℕ) (h : History) (e : Step × Answer) → accepted_records c (h ++ e ∷ []) ≡ accepted_records c h ++ option_to_list (accepted_in c e)
 accepted_push c h e = filter_map_push (accepted_in c) h e
@@ -40,6 +41,8 @@ pub record Same (h h' : History) : Type 0 where
   pub ends : (t p : ℕ) → result_posts t p h' ≡ result_posts t p h
   pub finishes : (t p : ℕ) → finished t p h' ≡ finished t p h
   pub closes : (c : ℕ) → closed c h' ≡ closed c h
+  pub renews : (c : ℕ) → renewals c h' ≡ renewals c h
+  pub entries : (c : ℕ) → put_by c h' ≡ put_by c h
 
 pub and_false : (b : Bool) → (b && false) ≡ false
 and_false true = refl
@@ -59,14 +62,16 @@ cond_none false = refl
 
 pub same_after : (h : History) (e : Step × Answer) → ((c : ℕ) → accepted_in c e ≡ None) → ((t p : ℕ) → processed_in t p e ≡ None) →
     ((t p : ℕ) → manage_posted_in t p e ≡ None) → ((t p : ℕ) → result_posted_in t p e ≡ None) →
-    ((t p : ℕ) → (is_turn t p e.0 && is_moved e.1) ≡ false) → ((c : ℕ) → (is_close c e.0 && is_moved e.1) ≡ false) → Same h (h ++ e ∷ [])
-same_after h e a d m r f k = record {
+    ((t p : ℕ) → (is_turn t p e.0 && is_moved e.1) ≡ false) → ((c : ℕ) → (is_close c e.0 && is_moved e.1) ≡ false) → ((c : ℕ) → renewed_in c e ≡ false) → Same h (h ++ e ∷ [])
+same_after h e a d m r f k n = record {
   accepts = λ c. accepted_push c h e ∙ ap (λ o. accepted_records c h ++ option_to_list o) (a c) ∙ append-nil _;
   turns = λ t p. turned_push t p h e ∙ ap (λ o. processed_by t p h ++ option_to_list o) (d t p) ∙ append-nil _;
   manages = λ t p. managed_push t p h e ∙ ap (λ o. manage_posts t p h ++ option_to_list o) (m t p) ∙ append-nil _;
   ends = λ t p. ended_push t p h e ∙ ap (λ o. result_posts t p h ++ option_to_list o) (r t p) ∙ append-nil _;
   finishes = λ t p. finished_push t p h e ∙ ap (λ b. finished t p h || (b || false)) (f t p) ∙ or_false _;
   closes = λ c. closed_push c h e ∙ ap (λ b. closed c h || (b || false)) (k c) ∙ or_false _;
+  renews = λ c. renewals_stay c h e (n c);
+  entries = λ c. put_stays c h e (a c) (n c) (k c);
 }
 
 -- an answer that says that nothing was put, taken, processed or ended
@@ -83,20 +88,22 @@ same_quiet h step answer q = same_after h (step, answer)
     (λ t p. ap (λ b. cond b (posted_result t p step) None) q.not_moved)
     (λ t p. ap (λ b. is_turn t p step && b) q.not_moved ∙ and_false (is_turn t p step))
     (λ c. ap (λ b. is_close c step && b) q.not_moved ∙ and_false (is_close c step))
+    (λ c. ap (λ b. is_renew c step && b) q.not_moved ∙ and_false (is_renew c step))
 
 -- what a quiet answer adds to the counts
 pub puts_quiet : (c : ℕ) (h : History) (step : Step) (answer : Answer) → IsQuiet answer → count_by (is_put c) (h ++ (step, answer) ∷ []) ≡ count_by (is_put c) h
 puts_quiet c h step answer q =
     let none : is_put c (step, answer) ≡ false =
-    ap (λ b. (is_offer c step && b) || (is_close c step && is_moved answer)) q.not_accepted
-    ∙ ap (λ b. (is_offer c step && false) || (is_close c step && b)) q.not_moved
-    ∙ ap (λ b. b || (is_close c step && false)) (and_false (is_offer c step)) ∙ and_false (is_close c step) in
+    ap (λ b. (is_offer c step && b) || ((is_close c step && is_moved answer) || (is_renew c step && is_moved answer))) q.not_accepted
+    ∙ ap (λ b. (is_offer c step && false) || ((is_close c step && b) || (is_renew c step && b))) q.not_moved
+    ∙ ap (λ b. b || ((is_close c step && false) || (is_renew c step && false))) (and_false (is_offer c step))
+    ∙ ap (λ b. b || (is_renew c step && false)) (and_false (is_close c step)) ∙ and_false (is_renew c step) in
     count_push (is_put c) h (step, answer) ∙ ap (λ b. count_by (is_put c) h + (0 + cond b 1 0)) none ∙ add-zero _
 
-pub takes_quiet : (c : ℕ) (h : History) (step : Step) (answer : Answer) → IsQuiet answer → count_by (is_taking c) (h ++ (step, answer) ∷ []) ≡ count_by (is_taking c) h
+pub takes_quiet : (c : ℕ) (h : History) (step : Step) (answer : Answer) → IsQuiet answer → count_by (has_taken c) (h ++ (step, answer) ∷ []) ≡ count_by (has_taken c) h
 takes_quiet c h step answer q =
-    let none : is_taking c (step, answer) ≡ false = ap (λ b. is_take c step && b) q.not_moved ∙ and_false (is_take c step) in
-    count_push (is_taking c) h (step, answer) ∙ ap (λ b. count_by (is_taking c) h + (0 + cond b 1 0)) none ∙ add-zero _
+    let none : has_taken c (step, answer) ≡ false = ap (λ b. is_take c step && b) q.not_moved ∙ and_false (is_take c step) in
+    count_push (has_taken c) h (step, answer) ∙ ap (λ b. count_by (has_taken c) h + (0 + cond b 1 0)) none ∙ add-zero _
 
 pub quiet_idle : IsQuiet Idle
 quiet_idle = record { not_accepted = refl; not_moved = refl; not_processed = refl }

@@ -1,8 +1,9 @@
 -- What is forwarded and chosen is of the records that it is read from.
-use Rattle.std.proofs.Common.{◌≡◌, ◌∙◌, refl, sym, ap, subst, ℕ, suc, zero, ◌+◌, ◌==◌, List, [], ◌∷◌, ◌++◌, Bool, true, false, map, Option, Some, None, cond, arith, add-zero}
+use Rattle.std.proofs.Common.{◌≡◌, ◌∙◌, refl, sym, ap, subst, ℕ, suc, zero, ◌<◌, ◌==◌, length, List, [], ◌∷◌, ◌++◌, Bool, true, false, map, Option, Some, None, cond, arith}
 use Rattle.std.specs.Prelude.{slice_get}
-use Rattle.std.specs.List.{cons_option, enumerate_from, filter, filter_map}
+use Rattle.std.specs.List.{cons_option, filter, filter_map}
 use Rattle.std.proofs.lemmas.Bool.{eq-eqb}
+use Rattle.std.proofs.lemmas.Option.{slice_get_within}
 use Rattle.gate_record.specs.declared.event.Event.{Event}
 use Rattle.gate_record.specs.declared.ids.ConnId.{ConnId}
 use Rattle.gate_record.specs.declared.reading.Reading.{Reading}
@@ -15,14 +16,16 @@ use Rattle.gate_record.specs.declared.transit.PipelineItem.TheVariants as pipeli
 use Rattle.gate_record.specs.declared.transit.Stamped.{Stamped}
 use Rattle.gate_record.specs.declared.transit.TenantItem.{TenantItem}
 use Rattle.gate_record.specs.declared.transit.TenantItem.TheVariants as tenant
-use Rattle.gate_record.specs.Entries.{entries_of, numbered}
+use Rattle.gate_record.specs.Entries.{AreEntriesOf, accepts, begins, closes, generation_behind, renews, with_generations}
+use Rattle.gate_record.specs.Generations.{EntriesHaveGenerations}
+use Rattle.gate_config.specs.Generations.{config_at}
 use Rattle.gate_record.specs.Reading.{reading_of}
-use Rattle.gate_config.specs.declared.config.Config.{Config}
+use Rattle.gate_config.specs.declared.generations.Generations.{Generations}
 use Rattle.gate_config.specs.Lookups.{lists}
 use Rattle.gate_config.specs.Selection.{is_listed, selects_event}
-use Rattle.gate_forward.specs.Forwarding.{conn_id, forwarded, forwarded_entry, forwarded_reading, stamped}
+use Rattle.gate_forward.specs.Forwarding.{conn_id, forwarded, forwarded_at, forwarded_reading, stamped}
 use Rattle.gate_tenant.specs.Dispatching.{chosen, chosen_item, conn_of_item, all_marked_in, is_from}
-use Rattle.gate_core.specs.Ways.{IsReadFrom, Way, mark}
+use Rattle.gate_core.specs.Ways.{IsEventOf, Way}
 use Rattle.gate_core.proofs.Arrivals.{same_as_itself}
 use Rattle.gate_core.proofs.Working.{the_same}
 
@@ -75,73 +78,94 @@ abbrev pub TriggerIs : (Stamped → Type 0) → PipelineItem → Type 0
 TriggerIs P (pipeline.Event s) = P s
 TriggerIs P pipeline.End = Unit {0}
 
-abbrev EntryIs : List Record → ConnEntry → Type 0
-EntryIs all (entry.Numbered n r) = slice_get all n ≡ Some r
-EntryIs all entry.End = Unit {0}
+-- a record that is there with its number and its generation
+abbrev EntryIs : List (ℕ × Record) → ℕ × ConnEntry → Type 0
+EntryIs all (g, entry.Numbered n r) = slice_get {X = ℕ × Record} all n ≡ Some (g, r)
+EntryIs all (g, entry.Renew) = Unit {0}
+EntryIs all (g, entry.End) = Unit {0}
 
-entries_are : (all : List Record) (n : ℕ) (records : List Record) → ((i : ℕ) (r : Record) → slice_get records i ≡ Some r → slice_get all (n + i) ≡ Some r) → AllOf (EntryIs all) (map numbered (enumerate_from n records))
-entries_are all n [] at = tt
-entries_are all n (r ∷ records) at =
-    (ap (slice_get all) (sym (add-zero n)) ∙ at 0 r refl, entries_are all (n + 1) records (λ i x e. ap (slice_get all) (omega arith) ∙ at (suc i) x e))
+still_there : {X : Type 0} (xs : List X) (y : X) (n : ℕ) (x : X) → slice_get xs n ≡ Some x → slice_get (xs ++ y ∷ []) n ≡ Some x
+still_there [] y n x e = let none : n < 0 = slice_get_within [] n x e in absurd (omega (arith, none))
+still_there (z ∷ xs) y zero x e = e
+still_there (z ∷ xs) y (suc n) x e = still_there xs y n x e
 
-mark_is : (all : List Record) (b : Bool) → AllOf (EntryIs all) (mark b)
-mark_is all true = (tt, tt)
-mark_is all false = tt
+last_there : {X : Type 0} (xs : List X) (y : X) → slice_get (xs ++ y ∷ []) (length xs) ≡ Some y
+last_there [] y = refl
+last_there (x ∷ xs) y = last_there xs y
 
-put_are : (records : List Record) (closed : Bool) → AllOf (EntryIs records) (entries_of records ++ mark closed)
-put_are records closed =
-    all_both (EntryIs records) (entries_of records) (mark closed)
-    (entries_are records 0 records (λ i r e. ap (slice_get records) (omega arith) ∙ e)) (mark_is records closed)
+entry_still : (all : List (ℕ × Record)) (y : ℕ × Record) (x : ℕ × ConnEntry) → EntryIs all x → EntryIs (all ++ y ∷ []) x
+entry_still all y (g, entry.Numbered n r) is = still_there all y n (g, r) is
+entry_still all y (g, entry.Renew) is = tt
+entry_still all y (g, entry.End) is = tt
+
+all_still : (all : List (ℕ × Record)) (y : ℕ × Record) (xs : List (ℕ × ConnEntry)) → AllOf (EntryIs all) xs → AllOf (EntryIs (all ++ y ∷ [])) xs
+all_still all y [] are = tt
+all_still all y (x ∷ xs) are = (entry_still all y x are.0, all_still all y xs are.1)
+
+module _ (laws : EntriesHaveGenerations) where
+  one_more : {entries : List ConnEntry} {records : List (ℕ × Record)} {g : ℕ} (all : List (ℕ × Record)) (e : ConnEntry) → AreEntriesOf entries records g false → AllOf (EntryIs all) (with_generations 0 entries) → EntryIs all (g, e) →
+      AllOf (EntryIs all) (with_generations 0 (entries ++ e ∷ []))
+  one_more {entries} {records} {g} all e are was is =
+      subst (AllOf (EntryIs all)) (sym (laws.joined 0 entries (e ∷ [])))
+      (all_both (EntryIs all) (with_generations 0 entries) ((generation_behind 0 entries, e) ∷ []) was (subst (λ n. EntryIs all (n, e)) (sym (laws.behind_all are)) is, tt))
+
+  put_are : {entries : List ConnEntry} {records : List (ℕ × Record)} {g : ℕ} {closed : Bool} → AreEntriesOf entries records g closed → AllOf (EntryIs records) (with_generations 0 entries)
+  put_are begins = tt
+  put_are (accepts {entries} {records} {g} line before) =
+      one_more (records ++ (g, line) ∷ []) (entry.Numbered (length records) line) before (all_still records (g, line) (with_generations 0 entries) (put_are before)) (last_there records (g, line))
+  put_are (renews {entries} {records} before) = one_more records entry.Renew before (put_are before) tt
+  put_are (closes {entries} {records} before) = one_more records entry.End before (put_are before) tt
 
 module _ (P : Stamped → Type 0) where
-  module _ (config : Config) (t c : ℕ) (records : List Record) (keeps : (s : Stamped) → s.stamp.conn.0 ≡ c → IsReadFrom records s → P s) where
-    event_is : (n : ℕ) (line : Record) (event : Event) (b : Bool) (item : TenantItem) → slice_get records n ≡ Some line → reading_of line ≡ reading.Event event →
-        cond b (Some (tenant.Event (stamped c n event))) None ≡ Some item → ItemIs P item
-    event_is n line event true item at reads e =
-        subst (ItemIs P) (the_same (tenant.Event (stamped c n event)) item e) (keeps (stamped c n event) refl (record { line = line; there = at; reads = reads }))
-    event_is n line event false item at reads e = absurd (cc)
+  module _ (gens : Generations) (t c : ℕ) (records : List (ℕ × Record)) (keeps : (s : Stamped) → s.stamp.conn.0 ≡ c → IsEventOf records s → P s) where
+    event_is : (g n : ℕ) (line : Record) (event : Event) (b : Bool) (item : TenantItem) → slice_get {X = ℕ × Record} records n ≡ Some (g, line) → reading_of line ≡ reading.Event event →
+        cond b (Some (tenant.Event (stamped c g n event))) None ≡ Some item → ItemIs P item
+    event_is g n line event true item at reads e =
+        subst (ItemIs P) (the_same (tenant.Event (stamped c g n event)) item e) (keeps (stamped c g n event) refl (record { line = line; there = at; reads = reads }))
+    event_is g n line event false item at reads e = absurd (cc)
 
-    reading_is : (n : ℕ) (line : Record) (r : Reading) (item : TenantItem) → slice_get records n ≡ Some line → reading_of line ≡ r → forwarded_reading config t c n r ≡ Some item → ItemIs P item
-    reading_is n line (reading.Event event) item at reads e = event_is n line event (is_listed config t c event.project) item at reads e
-    reading_is n line (reading.Nothing why) item at reads e = absurd (cc)
+    reading_is : (g n : ℕ) (line : Record) (r : Reading) (item : TenantItem) → slice_get {X = ℕ × Record} records n ≡ Some (g, line) → reading_of line ≡ r → forwarded_reading gens t c g n r ≡ Some item → ItemIs P item
+    reading_is g n line (reading.Event event) item at reads e = event_is g n line event (is_listed (config_at gens g) t c event.project) item at reads e
+    reading_is g n line (reading.Nothing why) item at reads e = absurd (cc)
 
     mark_sent : (b : Bool) (item : TenantItem) → cond b (Some (tenant.End (conn_id c))) None ≡ Some item → ItemIs P item
     mark_sent true item e = subst (ItemIs P) (the_same (tenant.End (conn_id c)) item e) tt
     mark_sent false item e = absurd (cc)
 
-    entry_is : (x : ConnEntry) (item : TenantItem) → EntryIs records x → forwarded_entry config t c x ≡ Some item → ItemIs P item
-    entry_is (entry.Numbered n line) item at e = reading_is n line (reading_of line) item at refl e
-    entry_is entry.End item at e = mark_sent (lists config t c) item e
+    entry_is : (x : ℕ × ConnEntry) (item : TenantItem) → EntryIs records x → forwarded_at gens t c x ≡ Some item → ItemIs P item
+    entry_is (g, entry.Numbered n line) item at e = reading_is g n line (reading_of line) item at refl e
+    entry_is (g, entry.Renew) item at e = absurd (cc)
+    entry_is (g, entry.End) item at e = mark_sent (lists gens.first t c) item e
 
     -- what is forwarded of all that was put
-    pub forwarded_are : (closed : Bool) → AllOf (ItemIs P) (forwarded config t c (entries_of records ++ mark closed))
-    forwarded_are closed = all_picked (EntryIs records) (ItemIs P) (forwarded_entry config t c) entry_is (entries_of records ++ mark closed) (put_are records closed)
+    pub forwarded_are : EntriesHaveGenerations → {entries : List ConnEntry} {g : ℕ} {closed : Bool} → AreEntriesOf entries records g closed → AllOf (ItemIs P) (forwarded gens t c entries)
+    forwarded_are laws {entries} are = all_picked (EntryIs records) (ItemIs P) (forwarded_at gens t c) entry_is (with_generations 0 entries) (put_are laws are)
 
   chosen_if : (s : Stamped) (b : Bool) (item : PipelineItem) → P s → cond b (Some (pipeline.Event s)) None ≡ Some item → TriggerIs P item
   chosen_if s true item is e = subst (TriggerIs P) (the_same (pipeline.Event s) item e) is
   chosen_if s false item is e = absurd (cc)
 
-  chosen_is : (config : Config) (t p : ℕ) (x : TenantItem) (item : PipelineItem) → ItemIs P x → chosen_item config t p x ≡ Some item → TriggerIs P item
-  chosen_is config t p (tenant.Event s) item is e = chosen_if s (selects_event config t p s.stamp.conn.0 s.event) item is e
-  chosen_is config t p (tenant.End d) item is e = absurd (cc)
+  chosen_is : (gens : Generations) (t p : ℕ) (x : TenantItem) (item : PipelineItem) → ItemIs P x → chosen_item gens t p x ≡ Some item → TriggerIs P item
+  chosen_is gens t p (tenant.Event s) item is e = chosen_if s (selects_event (config_at gens s.generation) t p s.stamp.conn.0 s.event) item is e
+  chosen_is gens t p (tenant.End d) item is e = absurd (cc)
 
   marked_if : (b : Bool) → AllOf (TriggerIs P) (cond b (pipeline.End ∷ []) [])
   marked_if true = (tt, tt)
   marked_if false = tt
 
   -- what a pipeline is to get of them
-  pub chosen_are : (config : Config) (t p : ℕ) (items : List TenantItem) → AllOf (ItemIs P) items → AllOf (TriggerIs P) (chosen config t p items)
-  chosen_are config t p items all =
-      all_both (TriggerIs P) (filter_map (chosen_item config t p) items) (cond (all_marked_in config t items) (pipeline.End ∷ []) [])
-      (all_picked (ItemIs P) (TriggerIs P) (chosen_item config t p) (chosen_is config t p) items all) (marked_if (all_marked_in config t items))
+  pub chosen_are : (gens : Generations) (t p : ℕ) (items : List TenantItem) → AllOf (ItemIs P) items → AllOf (TriggerIs P) (chosen gens t p items)
+  chosen_are gens t p items all =
+      all_both (TriggerIs P) (filter_map (chosen_item gens t p) items) (cond (all_marked_in gens.first t items) (pipeline.End ∷ []) [])
+      (all_picked (ItemIs P) (TriggerIs P) (chosen_item gens t p) (chosen_is gens t p) items all) (marked_if (all_marked_in gens.first t items))
 
 -- ---- one way
 
 -- of the events of a connection alone
-abbrev OfConn : ℕ → List Record → Stamped → Type 0
-OfConn c records s = s.stamp.conn.0 ≡ c → IsReadFrom records s
+abbrev OfConn : ℕ → List (ℕ × Record) → Stamped → Type 0
+OfConn c records s = s.stamp.conn.0 ≡ c → IsEventOf records s
 
-module _ (c : ℕ) (records : List Record) where
+module _ (c : ℕ) (records : List (ℕ × Record)) where
   event_by : (s : Stamped) (items : List TenantItem) (b : Bool) → (s.stamp.conn.0 == c) ≡ b → (AllOf (ItemIs (OfConn c records)) (filter (is_from c) items) → AllOf (ItemIs (OfConn c records)) items) →
       AllOf (ItemIs (OfConn c records)) (cond b (tenant.Event s ∷ filter (is_from c) items) (filter (is_from c) items)) → AllOf (ItemIs (OfConn c records)) (tenant.Event s ∷ items)
   event_by s items true e rest all = (all.0, rest all.1)
@@ -158,7 +182,7 @@ module _ (c : ℕ) (records : List Record) where
   own_are (tenant.Event s ∷ items) all = event_by s items (s.stamp.conn.0 == c) refl (own_are items) all
   own_are (tenant.End d ∷ items) all = mark_by d items (d.0 == c) (own_are items) all
 
-module _ (config : Config) (t p c : ℕ) (records : List Record) (closed : Bool) (taken : List PipelineItem) (way : Way config t p c records closed taken) where
+module _ (laws : EntriesHaveGenerations) (gens : Generations) (t p c : ℕ) {entries : List ConnEntry} {records : List (ℕ × Record)} {g : ℕ} {closed : Bool} (taken : List PipelineItem) (are : AreEntriesOf entries records g closed) (way : Way gens t p c entries taken) where
   abbrev Own : Stamped → Type 0
   Own = OfConn c records
 
@@ -167,10 +191,10 @@ module _ (config : Config) (t p c : ℕ) (records : List Record) (closed : Bool)
       all_front (ItemIs Own) way.matched way.unmatched
       (own_are c records (way.matched ++ way.unmatched)
       (all_front (ItemIs Own) (filter (is_from c) (way.matched ++ way.unmatched)) way.unsent
-      (subst (AllOf (ItemIs Own)) (sym way.forwards) (forwarded_are Own config t c records (λ s e is same. is) closed))))
+      (subst (AllOf (ItemIs Own)) (sym way.forwards) (forwarded_are Own gens t c records (λ s e is same. is) laws are))))
 
   taken_are : AllOf (TriggerIs Own) taken
-  taken_are = all_front (TriggerIs Own) taken way.untaken (subst (AllOf (TriggerIs Own)) (sym way.chooses) (chosen_are Own config t p way.matched matched_are))
+  taken_are = all_front (TriggerIs Own) taken way.untaken (subst (AllOf (TriggerIs Own)) (sym way.chooses) (chosen_are Own gens t p way.matched matched_are))
 
-  pub genuine : (i : ℕ) (s : Stamped) → slice_get taken i ≡ Some (pipeline.Event s) → s.stamp.conn.0 ≡ c → IsReadFrom records s
+  pub genuine : (i : ℕ) (s : Stamped) → slice_get taken i ≡ Some (pipeline.Event s) → s.stamp.conn.0 ≡ c → IsEventOf records s
   genuine i s at same = all_at (TriggerIs Own) taken i (pipeline.Event s) taken_are at same

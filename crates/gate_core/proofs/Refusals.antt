@@ -6,6 +6,7 @@ use Rattle.gate_record.specs.declared.ids.TenantId.{TenantId}
 use Rattle.gate_record.specs.declared.transit.PipelineItem.{PipelineItem}
 use Rattle.gate_record.specs.declared.transit.PipelineItem.TheVariants as item
 use Rattle.gate_config.specs.declared.config.Config.{Config}
+use Rattle.gate_config.specs.declared.generations.Generations.{Generations}
 use Rattle.gate_items.specs.declared.action.JobResult.{JobResult}
 use Rattle.gate_items.specs.declared.action.Manage.{Manage}
 use Rattle.gate_pipeline.specs.declared.pass.Phase.{Phase}
@@ -26,7 +27,7 @@ use Rattle.gate_core.proofs.Streams.{ConnSame, Holds, PipeSame}
 use Rattle.gate_core.proofs.Turning.{pipeline_goes}
 
 conn_stays : (c : ℕ) (h : History) → ConnSame c h h
-conn_stays c h = record { accepts = refl; closes = refl; puts = refl; takes = refl }
+conn_stays c h = record { accepts = refl; closes = refl; puts = refl; takes = refl; renews = refl; entries = refl }
 
 pipe_stays : (t p : ℕ) (h : History) → PipeSame t p h h
 pipe_stays t p h = record { turns = refl; finishes = refl; manages = refl; ends = refl }
@@ -67,25 +68,25 @@ module _ {config : Config} {t p : ℕ} {given : List (PipelineId × PipelineItem
 
 -- ---- a step that is refused
 
-module _ (config : Config) (h : History) (state : State) (holds : Holds config h state) where
-  tenant_stays : (t : ℕ) (ten : TenantState) → slice_get state.tenants t ≡ Some ten → Holds config h (record state { tenants = slice_set state.tenants t ten })
-  tenant_stays t ten at = subst (λ (tenants : List TenantState). Holds config h (record state { tenants = tenants })) (sym (set_same state.tenants t ten at)) holds
+module _ (gens : Generations) (h : History) (state : State) (holds : Holds gens h state) where
+  tenant_stays : (t : ℕ) (ten : TenantState) → slice_get state.tenants t ≡ Some ten → Holds gens h (record state { tenants = slice_set state.tenants t ten })
+  tenant_stays t ten at = subst (λ (tenants : List TenantState). Holds gens h (record state { tenants = tenants })) (sym (set_same state.tenants t ten at)) holds
 
   pipe_refused : (tid : TenantId) (pid : PipelineId) (ten : TenantState) → slice_get state.tenants tid.0 ≡ Some ten → (o : Option Pipeline) → slice_get ten.pipelines pid.0 ≡ o →
-      Holds config h (record state { tenants = slice_set state.tenants tid.0 (with_refused pid.0 o ten) })
+      Holds gens h (record state { tenants = slice_set state.tenants tid.0 (with_refused pid.0 o ten) })
   pipe_refused tid pid ten at None whose = tenant_stays tid.0 ten at
   pipe_refused tid pid ten at (Some pipe) whose =
-      pipeline_goes config h h state tid pid ten pipe (refused pipe) at whose (λ c. conn_stays c h) (λ t p differ. pipe_stays t p h) holds
+      pipeline_goes gens h h state tid pid ten pipe (refused pipe) at whose (λ c. conn_stays c h) (λ t p differ. pipe_stays t p h) holds
       (refused_fits ((holds.tenants tid.0 ten at).pipes pid.0 pipe whose))
 
-  turn_refused : (tid : TenantId) (pid : PipelineId) (o : Option TenantState) → slice_get state.tenants tid.0 ≡ o → Holds config h (refused_in tid.0 pid.0 o state)
+  turn_refused : (tid : TenantId) (pid : PipelineId) (o : Option TenantState) → slice_get state.tenants tid.0 ≡ o → Holds gens h (refused_in tid.0 pid.0 o state)
   turn_refused tid pid None at = holds
   turn_refused tid pid (Some ten) at = pipe_refused tid pid ten at (slice_get ten.pipelines pid.0) refl
 
-  refused_turn : (at : Option (TenantId × PipelineId)) → Holds config h (refused_turn_of at state)
+  refused_turn : (at : Option (TenantId × PipelineId)) → Holds gens h (refused_turn_of at state)
   refused_turn None = holds
   refused_turn (Some (tid, pid)) = turn_refused tid pid (slice_get state.tenants tid.0) refl
 
 -- what holds, holds where a step is refused memory
-pub refused_holds : (config : Config) (h : History) (state : State) (s : Step) → Holds config h state → Holds config h (refused_step state s)
-refused_holds config h state s holds = refused_turn config h state holds (turn_of s)
+pub refused_holds : (gens : Generations) (h : History) (state : State) (s : Step) → Holds gens h state → Holds gens h (refused_step state s)
+refused_holds gens h state s holds = refused_turn gens h state holds (turn_of s)

@@ -3,7 +3,7 @@ use Rattle.std.proofs.Common.{◌≡◌, ◌∙◌, sym, ap, subst, ℕ, List, m
 use Rattle.std.specs.Prelude.{option_and_then, slice_get}
 use Rattle.std.proofs.lemmas.List.{map-set}
 use Rattle.gate_record.specs.declared.memory.Memory.{Memory}
-use Rattle.gate_config.specs.declared.config.Config.{Config}
+use Rattle.gate_config.specs.declared.generations.Generations.{Generations}
 use Rattle.gate_core.specs.declared.answer.Answer.{Answer}
 use Rattle.gate_core.specs.declared.answer.Answer.TheVariants.{Idle}
 use Rattle.gate_core.specs.declared.connection.Connection.{Connection}
@@ -19,27 +19,27 @@ use Rattle.gate_core.specs.Inner.Pipelines.{pipeline_step, refused_step}
 use Rattle.gate_core.specs.Steps.{on_connection, on_pipeline, on_tenant, refused_in, refused_turn, send, send_of}
 use Rattle.gate_core.specs.Inner.Steps.{refused_at, with_connection, with_tenant}
 use Rattle.gate_core.specs.Views.{connection_view, tenant_view}
-use Rattle.gate_core.specs.Inner.Views.{AreConnections, AreTenants, IsConnection, IsTenant, config_of_connection, config_of_tenant, number_of_connection, number_of_tenant}
+use Rattle.gate_core.specs.Inner.Views.{AreConnections, AreTenants, IsConnection, IsTenant, gens_of_connection, gens_of_tenant, number_of_connection, number_of_tenant}
 use Rattle.gate_core.proofs.Elements.{each_set, seen, seen_same, unseen}
 use Rattle.gate_core.proofs.Tenants.{posts, turns}
 
 -- a fact at the configuration and the number that a worker has is one at the world's
-pub known : (P : Config → ℕ → Type 0) (config config' : Config) (n n' : ℕ) → (config ≡ config') × (n ≡ n') → P config n → P config' n'
-known P config config' n n' same p = subst (P config') same.1 (subst (λ k. P k n) same.0 p)
+pub known : (P : Generations → ℕ → Type 0) (gens gens' : Generations) (n n' : ℕ) → (gens ≡ gens') × (n ≡ n') → P gens n → P gens' n'
+known P gens gens' n n' same p = subst (P gens') same.1 (subst (λ k. P k n) same.0 p)
 
 -- connections of which one is changed, and keeps its number and its configuration
-pub still_connections : (config : Config) (conns : List Connection) (c : ℕ) (old new : Connection) → slice_get conns c ≡ Some old → AreConnections config conns →
-    config_of_connection new ≡ config_of_connection old → number_of_connection new ≡ number_of_connection old → AreConnections config (slice_set conns c new)
-still_connections config conns c old new at all same same_number =
+pub still_connections : (gens : Generations) (conns : List Connection) (c : ℕ) (old new : Connection) → slice_get conns c ≡ Some old → AreConnections gens conns →
+    gens_of_connection new ≡ gens_of_connection old → number_of_connection new ≡ number_of_connection old → AreConnections gens (slice_set conns c new)
+still_connections gens conns c old new at all same same_number =
     let was = all c old at in
-    each_set (IsConnection config) conns c old new at all (same ∙ was.0, same_number ∙ was.1)
+    each_set (IsConnection gens) conns c old new at all (same ∙ was.0, same_number ∙ was.1)
 
 -- tenants of which one is
-pub still_tenants : (config : Config) (tenants : List Tenant) (t : ℕ) (old new : Tenant) → slice_get tenants t ≡ Some old → AreTenants config tenants →
-    config_of_tenant new ≡ config_of_tenant old → number_of_tenant new ≡ number_of_tenant old → AreTenants config (slice_set tenants t new)
-still_tenants config tenants t old new at all same same_number =
+pub still_tenants : (gens : Generations) (tenants : List Tenant) (t : ℕ) (old new : Tenant) → slice_get tenants t ≡ Some old → AreTenants gens tenants →
+    gens_of_tenant new ≡ gens_of_tenant old → number_of_tenant new ≡ number_of_tenant old → AreTenants gens (slice_set tenants t new)
+still_tenants gens tenants t old new at all same same_number =
     let was = all t old at in
-    each_set (IsTenant config) tenants t old new at all (same ∙ was.0, same_number ∙ was.1)
+    each_set (IsTenant gens) tenants t old new at all (same ∙ was.0, same_number ∙ was.1)
 
 module _ (move : ConnectionState → ConnectionState × Answer) (c : ℕ) (conns : List Connection) (tenants : List TenantState) where
   -- a step of the connection that is looked up
@@ -76,24 +76,24 @@ module _ (move : TenantState → TenantState × Answer) (t : ℕ) (conns : List 
   tenant_idles gone = sym (ap (λ o. with_tenant move t o (state conns (map tenant_view tenants))) (unseen tenant_view tenants t gone))
 
 -- a turn of one of its pipelines, which may leave something held
-turn_does : (config : Config) (t p : ℕ) (conns : List ConnectionState) (tenants : List Tenant) (old new : Tenant) (result : Result Answer Memory) → slice_get tenants t ≡ Some old →
-    Does (refused_turn p (tenant_view old)) (on_pipeline (turned config) p (tenant_view old)) (tenant_view new) result →
-    Does (refused_at Turn t p (state conns (map tenant_view tenants))) (on_tenant (on_pipeline (turned config) p) t (state conns (map tenant_view tenants))) (state conns (map tenant_view (slice_set tenants t new))) result
-turn_does config t p conns tenants old new (Ok answer) at does = tenant_does (on_pipeline (turned config) p) t conns tenants old new (Ok answer) at does
-turn_does config t p conns tenants old new (Err memory) at does = (
+turn_does : (gens : Generations) (t p : ℕ) (conns : List ConnectionState) (tenants : List Tenant) (old new : Tenant) (result : Result Answer Memory) → slice_get tenants t ≡ Some old →
+    Does (refused_turn p (tenant_view old)) (on_pipeline (turned gens.first) p (tenant_view old)) (tenant_view new) result →
+    Does (refused_at Turn t p (state conns (map tenant_view tenants))) (on_tenant (on_pipeline (turned gens.first) p) t (state conns (map tenant_view tenants))) (state conns (map tenant_view (slice_set tenants t new))) result
+turn_does gens t p conns tenants old new (Ok answer) at does = tenant_does (on_pipeline (turned gens.first) p) t conns tenants old new (Ok answer) at does
+turn_does gens t p conns tenants old new (Err memory) at does = (
   ap (state conns) (map-set tenant_view tenants t new ∙ ap (slice_set (map tenant_view tenants) t) does.0)
       ∙ sym (ap (λ o. refused_in t p o (state conns (map tenant_view tenants))) (seen tenant_view tenants t old at)),
-  subst Changes (sym (tenant_answers (on_pipeline (turned config) p) t conns tenants old at)) does.1,
+  subst Changes (sym (tenant_answers (on_pipeline (turned gens.first) p) t conns tenants old at)) does.1,
 )
 
-module _ (config : Config) (t p : ℕ) (conns : List ConnectionState) (tenants : List Tenant) where
+module _ (gens : Generations) (t p : ℕ) (conns : List ConnectionState) (tenants : List Tenant) where
   abbrev before : State
   before = state conns (map tenant_view tenants)
 
   -- a post to the pipeline that is looked up, or a turn of it
   pub pipeline_does : (s : PipelineStep) (old new : Tenant) (pipe pipe' : Pipeline) (result : Result Answer Memory) → slice_get tenants t ≡ Some old → slice_get old.pipelines.items p ≡ Some pipe →
-      tenant_view new ≡ record (tenant_view old) { pipelines = slice_set old.pipelines.items p pipe' } → Does (refused_step s pipe) (pipeline_step config s pipe) pipe' result →
-      Does (refused_at s t p before) (on_tenant (on_pipeline (pipeline_step config s) p) t before) (state conns (map tenant_view (slice_set tenants t new))) result
+      tenant_view new ≡ record (tenant_view old) { pipelines = slice_set old.pipelines.items p pipe' } → Does (refused_step s pipe) (pipeline_step gens.first s pipe) pipe' result →
+      Does (refused_at s t p before) (on_tenant (on_pipeline (pipeline_step gens.first s) p) t before) (state conns (map tenant_view (slice_set tenants t new))) result
   pipeline_does (PostManage m) old new pipe pipe' result at whose same does =
       tenant_does (on_pipeline (post_manage m) p) t conns tenants old new result at
       (subst (λ ten. Does (tenant_view old) (on_pipeline (post_manage m) p (tenant_view old)) ten result) (sym same) (posts (post_manage m) p (tenant_view old) pipe pipe' result whose does))
@@ -101,8 +101,8 @@ module _ (config : Config) (t p : ℕ) (conns : List ConnectionState) (tenants :
       tenant_does (on_pipeline (post_result r) p) t conns tenants old new result at
       (subst (λ ten. Does (tenant_view old) (on_pipeline (post_result r) p (tenant_view old)) ten result) (sym same) (posts (post_result r) p (tenant_view old) pipe pipe' result whose does))
   pipeline_does Turn old new pipe pipe' result at whose same does =
-      turn_does config t p conns tenants old new result at
-      (subst (λ ten. Does (refused_turn p (tenant_view old)) (on_pipeline (turned config) p (tenant_view old)) ten result) (sym same) (turns config p (tenant_view old) pipe pipe' result whose does))
+      turn_does gens t p conns tenants old new result at
+      (subst (λ ten. Does (refused_turn p (tenant_view old)) (on_pipeline (turned gens.first) p (tenant_view old)) ten result) (sym same) (turns gens.first p (tenant_view old) pipe pipe' result whose does))
 
   pub pipeline_is : (old : Tenant) → slice_get tenants t ≡ Some old → pipeline_at t p before ≡ slice_get old.pipelines.items p
   pipeline_is old at = ap (option_and_then (λ (ten : TenantState). slice_get ten.pipelines p)) (seen tenant_view tenants t old at)

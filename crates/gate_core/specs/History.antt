@@ -1,7 +1,8 @@
 -- What a history of steps and answers says: which records were accepted, which events are wanted, what was posted to the
 -- pipelines, and what they have processed.
-use Rattle.std.specs.Prelude.{ℕ, ◌-◌, ◌==◌, ◌&&◌, ◌||◌, List, Bool, true, false, map, Option, Some, None, option_and_then, count_by, slice_get, if◌then◌else◌}
-use Rattle.std.specs.List.{filter_map, list_any, enumerate_from}
+use Rattle.std.specs.Prelude.{◌≡◌, ℕ, suc, ◌+◌, ◌-◌, ◌==◌, ◌&&◌, ◌||◌, List, [], ◌∷◌, ◌++◌, Bool, true, false, length, map, Option, Some, None, option_and_then, option_map, count_by, slice_get, if◌then◌else◌}
+use Rattle.std.specs.List.{cons_option, filter_map, list_any, enumerate_from}
+use Rattle.std.specs.Option.{option_to_list}
 use Rattle.gate_record.specs.declared.ids.PipelineId.{PipelineId}
 use Rattle.gate_record.specs.declared.ids.Stamp.{Stamp}
 use Rattle.gate_record.specs.declared.ids.TenantId.{TenantId}
@@ -10,6 +11,9 @@ use Rattle.gate_record.specs.declared.reading.Reading.TheVariants as reading
 use Rattle.gate_record.specs.declared.record.Record.{Record}
 use Rattle.gate_record.specs.Reading.{reading_of}
 use Rattle.gate_config.specs.declared.config.Config.{Config}
+use Rattle.gate_config.specs.declared.generations.Generations.{Generations}
+use Rattle.gate_config.specs.Generations.{config_at}
+use Rattle.gate_record.specs.Entries.{beside}
 use Rattle.gate_config.specs.Selection.{selects}
 use Rattle.gate_items.specs.declared.action.Action.{Action}
 use Rattle.gate_items.specs.declared.action.JobResult.{JobResult}
@@ -21,7 +25,7 @@ use Rattle.gate_pipeline.specs.Triggers.{trigger_of}
 use Rattle.gate_core.specs.declared.answer.Answer.{Answer}
 use Rattle.gate_core.specs.declared.answer.Answer.TheVariants.{Accepted, Closed, Full, Moved, Idle, Turned, Passed}
 use Rattle.gate_core.specs.declared.step.Step.{Step}
-use Rattle.gate_core.specs.declared.step.Step.TheVariants.{Offer, Close, Take, Send, Fetch, Match, Give, PostManage, PostResult, Turn}
+use Rattle.gate_core.specs.declared.step.Step.TheVariants.{Offer, Close, Renew, Take, Send, Fetch, Match, Give, PostManage, PostResult, Turn}
 
 -- the steps so far, each with its answer, in order
 abbrev pub History : Type 0
@@ -54,6 +58,10 @@ is_offer c other = false
 abbrev pub is_close : ℕ → Step → Bool
 is_close c (Close d) = d.0 == c
 is_close c other = false
+
+abbrev pub is_renew : ℕ → Step → Bool
+is_renew c (Renew d) = d.0 == c
+is_renew c other = false
 
 abbrev pub is_take : ℕ → Step → Bool
 is_take c (Take d) = d.0 == c
@@ -89,13 +97,45 @@ accepted_in c event = if is_accepted event.1 then offered_to c event.0 else None
 abbrev pub accepted_records : ℕ → History → List Record
 accepted_records c history = filter_map (accepted_in c) history
 
--- the number of a record, where the record passes
-abbrev pub number_where : (Record → Bool) → ℕ × Record → Option ℕ
+-- the next generation was put in force on connection c
+abbrev pub renewed_in : ℕ → Step × Answer → Bool
+renewed_in c event = is_renew c event.0 && is_moved event.1
+
+-- for each renewal of connection c, how many records it had accepted before, where n were accepted before all of these
+abbrev pub renewals_from : ℕ → ℕ → History → List ℕ
+renewals_from c n [] = []
+renewals_from c n (event ∷ history) =
+    (if renewed_in c event then n ∷ [] else []) ++ renewals_from c (n + length (option_to_list (accepted_in c event))) history
+
+abbrev pub renewals : ℕ → History → List ℕ
+renewals c history = renewals_from c 0 history
+
+-- the records that connection c accepted, each beside how many renewals came before it, where there were g before all of these
+abbrev pub accepted_behind : ℕ → ℕ → History → List (ℕ × Record)
+accepted_behind c g [] = []
+accepted_behind c g (event ∷ history) =
+    cons_option (option_map (λ line. (g, line)) (accepted_in c event)) (accepted_behind c (if renewed_in c event then suc g else g) history)
+
+-- the same by the places of the renewals: each record beside the generation in force at its number
+abbrev pub accepted_in_force : ℕ → History → List (ℕ × Record)
+accepted_in_force c history = beside (renewals c history) (accepted_records c history)
+
+-- both are one
+abbrev pub EachHasItsGeneration : Type 0
+EachHasItsGeneration = (c : ℕ) (history : History) → accepted_behind c 0 history ≡ accepted_in_force c history
+
+-- the number of something, where it passes
+abbrev pub number_where : {X : Type 0} → (X → Bool) → ℕ × X → Option ℕ
 number_where test entry = if test entry.1 then Some entry.0 else None
 
--- the numbers, rising from 0, of the records that pipeline p of tenant t selects among those of connection c
-abbrev pub wanted : Config → ℕ → ℕ → ℕ → List Record → List ℕ
-wanted config t p c records = filter_map (number_where (selects config t p c)) (enumerate_from 0 records)
+-- pipeline p of tenant t selects the record by the generation in force at it
+abbrev pub selects_in_force : Generations → ℕ → ℕ → ℕ → ℕ × Record → Bool
+selects_in_force gens t p c (g, line) = selects (config_at gens g) t p c line
+
+-- the numbers, rising from 0, of the records that pipeline p of tenant t selects among those of connection c, each beside the
+-- generation in force at it
+abbrev pub wanted : Generations → ℕ → ℕ → ℕ → List (ℕ × Record) → List ℕ
+wanted gens t p c records = filter_map (number_where (selects_in_force gens t p c)) (enumerate_from 0 records)
 
 -- ---- what was processed
 
@@ -134,7 +174,7 @@ stamp_with trigger = trigger.0
 
 -- the action that a record of this stamp asks for, where it is an event
 abbrev pub asked_of : Config → ℕ → ℕ → Stamp → Reading → Option Action
-asked_of config t p stamp (reading.Event event) = Some (trigger_of config t p (record { stamp = stamp; event = event }))
+asked_of config t p stamp (reading.Event event) = Some (trigger_of config t p stamp event)
 asked_of config t p stamp (reading.Nothing why) = None
 
 -- the action that the record of this stamp asks for, where there is a stamp and its record is among those that its connection
@@ -178,11 +218,11 @@ abbrev pub closed : ℕ → History → Bool
 closed c history = list_any (λ (event : Step × Answer). is_close c event.0 && is_moved event.1) history
 
 abbrev pub is_put : ℕ → Step × Answer → Bool
-is_put c event = (is_offer c event.0 && is_accepted event.1) || (is_close c event.0 && is_moved event.1)
+is_put c event = (is_offer c event.0 && is_accepted event.1) || ((is_close c event.0 && is_moved event.1) || renewed_in c event)
 
-abbrev pub is_taking : ℕ → Step × Answer → Bool
-is_taking c event = is_take c event.0 && is_moved event.1
+abbrev pub has_taken : ℕ → Step × Answer → Bool
+has_taken c event = is_take c event.0 && is_moved event.1
 
 -- how many entries wait in the queue of connection c
 abbrev pub waiting : ℕ → History → ℕ
-waiting c history = count_by (is_put c) history - count_by (is_taking c) history
+waiting c history = count_by (is_put c) history - count_by (has_taken c) history

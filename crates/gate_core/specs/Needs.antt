@@ -17,10 +17,11 @@ abbrev pub IsThere : {X : Type 0} → (X → Type 0) → Option X → Type 0
 IsThere P None = ⊥
 IsThere P (Some x) = P x
 
--- the first entry is a line, which is to be read; neither an end mark nor a record that is too long needs memory
+-- the first entry is a line, which is to be read; neither a mark nor a record that is too long needs memory
 abbrev pub NeedsOf : List ConnEntry → Type 0
 NeedsOf [] = ⊥
 NeedsOf (entry.Numbered n line ∷ queue) = IsLine line
+NeedsOf (entry.Renew ∷ queue) = ⊥
 NeedsOf (entry.End ∷ queue) = ⊥
 
 abbrev pub TakeNeeds : ConnectionState → Type 0

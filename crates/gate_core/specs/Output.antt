@@ -77,11 +77,16 @@ cause_word cause.Memory = codes "memory"
 abbrev pub connection_line : List ℕ → ConnectionReport → List ℕ
 connection_line name report = codes "connection " ++ name_text name ++ codes " accepted " ++ decimal report.accepted ++ codes " " ++ cause_word report.cause ++ codes "\n"
 
--- a line for each connection, by number
+-- where it was renewed: behind how many records each time
+abbrev pub renewed_line : List ℕ → List ℕ → List ℕ
+renewed_line name [] = []
+renewed_line name (n ∷ numbers) = codes "renewed " ++ name_text name ++ (flat_map number_text (n ∷ numbers) ++ codes "\n")
+
+-- the lines of each connection, by number
 abbrev pub connection_lines : List (List ℕ) → List ConnectionReport → List ℕ
 connection_lines [] reports = []
 connection_lines (name ∷ names) [] = []
-connection_lines (name ∷ names) (report ∷ reports) = connection_line name report ++ connection_lines names reports
+connection_lines (name ∷ names) (report ∷ reports) = connection_line name report ++ (renewed_line name report.renewals ++ connection_lines names reports)
 
 abbrev pub state_word : Bool → List ℕ
 state_word finished = if finished then codes "finished" else codes "running"

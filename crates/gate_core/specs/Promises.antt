@@ -1,10 +1,12 @@
 -- What the core promises of every history of a run.
-use Rattle.std.specs.Prelude.{◌≡◌, ◌<◌, ◌==◌, ℕ, List, [], ◌∷◌, ◌++◌, Bool, true, length, Option, Some, is_some, slice_get, if◌then◌else◌}
+use Rattle.std.specs.Prelude.{◌≡◌, ◌<◌, ◌==◌, ◌+◌, ℕ, nat_le, List, [], ◌∷◌, ◌++◌, Bool, true, length, Option, Some, is_some, slice_get, if◌then◌else◌}
 use Rattle.std.specs.List.{filter_map}
 use Rattle.std.specs.Option.{option_to_list}
 use Rattle.gate_record.specs.declared.ids.Stamp.{Stamp}
 use Rattle.gate_record.specs.Prefixes.{IsPrefixOf}
 use Rattle.gate_config.specs.declared.config.Config.{Config}
+use Rattle.gate_config.specs.declared.generations.Generations.{Generations}
+use Rattle.gate_config.specs.Generations.{count_of}
 use Rattle.gate_config.specs.Lookups.{connections_of, pipelines_of, tenants_of}
 use Rattle.gate_items.specs.declared.action.Action.{Action}
 use Rattle.gate_items.specs.declared.item.QueueItem.{QueueItem}
@@ -13,21 +15,22 @@ use Rattle.gate_items.specs.Machine.{State as ItemsState}
 use Rattle.gate_items.specs.Outcomes.{run, said}
 use Rattle.gate_pipeline.specs.States.{manager_of}
 use Rattle.gate_core.specs.declared.answer.Answer.{Answer}
-use Rattle.gate_core.specs.declared.answer.Answer.TheVariants.{Accepted, Closed, Full, Moved}
+use Rattle.gate_core.specs.declared.answer.Answer.TheVariants.{Accepted, Closed, Full, Idle, Moved}
 use Rattle.gate_core.specs.declared.step.Step.{Step}
-use Rattle.gate_core.specs.declared.step.Step.TheVariants.{Offer, Close, Take, Send, Fetch, Match, Give, PostManage, PostResult, Turn}
+use Rattle.gate_core.specs.declared.step.Step.TheVariants.{Offer, Close, Renew, Take, Send, Fetch, Match, Give, PostManage, PostResult, Turn}
 use Rattle.gate_core.specs.Limits.{places}
-use Rattle.gate_core.specs.History.{History, accepted_records, actions, asked_by, closed, done, finished, manage_posts, processed_management, numbers_from, outcomes, result_posts, processed_results, stamp_with, processed_triggers, waiting, wanted}
+use Rattle.gate_core.specs.History.{History, accepted_in_force, accepted_records, actions, asked_by, closed, done, finished, manage_posts, processed_management, numbers_from, outcomes, result_posts, processed_results, stamp_with, processed_triggers, renewals, waiting, wanted}
 use Rattle.gate_core.specs.Late.{LateIsDiscarded}
 use Rattle.gate_core.specs.Reports.{report_after, report_of}
 use Rattle.gate_core.specs.States.{State, items_at}
 use Rattle.gate_core.specs.Steps.{first, left_by, run_from}
 
 -- The trigger events that a pipeline has processed are, connection by connection, a prefix of the accepted records
--- that its rules select, each once and in order, and all of them once its end mark is met.
-pub record Delivers (config : Config) (history : History) : Type 0 where
-  pub in_order : (t p c : ℕ) → IsPrefixOf (numbers_from c (done t p history)) (wanted config t p c (accepted_records c history))
-  pub whole : (t p c : ℕ) → finished t p history ≡ true → numbers_from c (done t p history) ≡ wanted config t p c (accepted_records c history)
+-- that its rules select, those of the generation in force at the record, each once and in order, and all of them once its end
+-- mark is met.
+pub record Delivers (gens : Generations) (history : History) : Type 0 where
+  pub in_order : (t p c : ℕ) → IsPrefixOf (numbers_from c (done t p history)) (wanted gens t p c (accepted_in_force c history))
+  pub whole : (t p c : ℕ) → finished t p history ≡ true → numbers_from c (done t p history) ≡ wanted gens t p c (accepted_in_force c history)
 
 -- the answer to an offer, after this history
 abbrev pub offer_answer : ℕ → History → Answer
@@ -39,17 +42,25 @@ offer_answer c history =
 abbrev pub close_answer : ℕ → History → Answer
 close_answer c history = if closed c history then Closed else (if waiting c history == places then Full else Moved)
 
--- offers and closes of connections in range have these answers
-abbrev pub IsRightAnswer : Config → History → Step → Answer → Type 0
-IsRightAnswer config before (Offer c line) answer = c.0 < length (connections_of config) → answer ≡ offer_answer c.0 before
-IsRightAnswer config before (Close c) answer = c.0 < length (connections_of config) → answer ≡ close_answer c.0 before
-IsRightAnswer config before other answer = Unit {0}
+-- the answer to a renewal, after this history: `Idle` where the last generation is in force
+abbrev pub renew_answer : ℕ → ℕ → History → Answer
+renew_answer count c history =
+    if closed c history then Closed
+    else (if nat_le count (length (renewals c history) + 1) then Idle
+    else (if waiting c history == places then Full else Moved))
 
--- each offer and each close is answered by what came before it
-abbrev pub AnswersRightly : Config → History → History → Type 0
-AnswersRightly config before [] = Unit {0}
-AnswersRightly config before (event ∷ history) =
-    IsRightAnswer config before event.0 event.1 × AnswersRightly config (before ++ event ∷ []) history
+-- offers, closes and renewals of connections in range have these answers
+abbrev pub IsRightAnswer : Generations → History → Step → Answer → Type 0
+IsRightAnswer gens before (Offer c line) answer = c.0 < length (connections_of gens.first) → answer ≡ offer_answer c.0 before
+IsRightAnswer gens before (Close c) answer = c.0 < length (connections_of gens.first) → answer ≡ close_answer c.0 before
+IsRightAnswer gens before (Renew c) answer = c.0 < length (connections_of gens.first) → answer ≡ renew_answer (count_of gens) c.0 before
+IsRightAnswer gens before other answer = Unit {0}
+
+-- each offer, each close and each renewal is answered by what came before it
+abbrev pub AnswersRightly : Generations → History → History → Type 0
+AnswersRightly gens before [] = Unit {0}
+AnswersRightly gens before (event ∷ history) =
+    IsRightAnswer gens before event.0 event.1 × AnswersRightly gens (before ++ event ∷ []) history
 
 -- ---- queue items
 
@@ -82,12 +93,12 @@ pub record Keeps (config : Config) (history : History) (state : State) : Type 0 
 
 -- ---- every run
 
--- For every configuration, with any number of connections, tenants and pipelines, and for every list of steps: what was
--- processed is what was wanted, offers and closes are answered by what came before them, and the report of what is left
+-- For all generations of a configuration, with any number of connections, tenants and pipelines, and for every list of steps: what
+-- was processed is what was wanted, offers, closes and renewals are answered by what came before them, and the report of what is left
 -- says what happened; what was processed is what was asked, and the queue items are what came of it.
 pub record EveryRunDelivers : Type 0 where
-  pub delivers : (config : Config) (steps : List Step) → Delivers config (run_from config (first config) steps)
-  pub rightly : (config : Config) (steps : List Step) → AnswersRightly config [] (run_from config (first config) steps)
-  pub report : (config : Config) (steps : List Step) → report_of (left_by config (first config) steps) ≡ report_after config (run_from config (first config) steps)
-  pub processes : (config : Config) (steps : List Step) → Processes config (run_from config (first config) steps)
-  pub keeps : (config : Config) (steps : List Step) → Keeps config (run_from config (first config) steps) (left_by config (first config) steps)
+  pub delivers : (gens : Generations) (steps : List Step) → Delivers gens (run_from gens (first gens) steps)
+  pub rightly : (gens : Generations) (steps : List Step) → AnswersRightly gens [] (run_from gens (first gens) steps)
+  pub report : (gens : Generations) (steps : List Step) → report_of (left_by gens (first gens) steps) ≡ report_after gens.first (run_from gens (first gens) steps)
+  pub processes : (gens : Generations) (steps : List Step) → Processes gens.first (run_from gens (first gens) steps)
+  pub keeps : (gens : Generations) (steps : List Step) → Keeps gens.first (run_from gens (first gens) steps) (left_by gens (first gens) steps)

@@ -1,13 +1,9 @@
--- What `replay` gives for a document and a script.
-use Rattle.std.specs.Prelude.{◌≡◌, ◌≢◌, ℕ, List, [], ◌∷◌, ◌++◌, Option, Some, None, Ok, Err}
-use Rattle.std.specs.List.{filter_map}
-use Rattle.serde_json.specs.Data.{Data}
-use Rattle.gate_record.specs.Json.{json_of}
-use Rattle.gate_config.specs.declared.config.Config.{Config}
-use Rattle.gate_config.specs.declared.fault.ConfigFault.TheVariants as config
-use Rattle.gate_config.specs.Checks.{checks_of}
-use Rattle.gate_config.specs.Faults.{AllPass, IsFaultOf}
-use Rattle.gate_config.specs.Texts.{IsReadFrom}
+-- What `replay` gives for documents and a script.
+use Rattle.std.specs.Prelude.{◌≡◌, ◌≢◌, ℕ, List, [], ◌∷◌, ◌++◌, Option, Some, None, Ok, Err, true, length}
+use Rattle.std.specs.List.{All, filter_map}
+use Rattle.gate_config.specs.declared.generations.Generations.{Generations}
+use Rattle.gate_config.specs.declared.generation_fault.GenerationFault.TheVariants as generations
+use Rattle.gate_config.specs.Generations.{AreReadFrom, IsFaultAmong, PassesBeside, common_of, count_of, is_count}
 use Rattle.gate_core.specs.declared.replaying.ReplayFault.{ReplayFault}
 use Rattle.gate_core.specs.declared.replaying.ReplayFault.TheVariants as replay
 use Rattle.gate_core.specs.declared.script.Scripted.{Scripted}
@@ -25,10 +21,10 @@ use Rattle.gate_core.specs.Steps.{first, left_by, run_from, step_of}
 -- ---- what is printed
 
 -- what the lines of a script print, from a state on: the answer to each step, and the items that are shown
-abbrev pub script_lines : Config → State → List Scripted → List ℕ
-script_lines config state [] = []
-script_lines config state (line.Step step ∷ script) = answer_line (step_of config state step).1 ++ script_lines config (step_of config state step).0 script
-script_lines config state (line.Show t p ∷ script) = shown_text (items_at t p state) ++ script_lines config state script
+abbrev pub script_lines : Generations → State → List Scripted → List ℕ
+script_lines gens state [] = []
+script_lines gens state (line.Step step ∷ script) = answer_line (step_of gens state step).1 ++ script_lines gens (step_of gens state step).0 script
+script_lines gens state (line.Show t p ∷ script) = shown_text (items_at t p state) ++ script_lines gens state script
 
 -- the steps among the lines
 abbrev pub step_in : Scripted → Option Step
@@ -39,36 +35,34 @@ abbrev pub steps_in : List Scripted → List Step
 steps_in script = filter_map step_in script
 
 -- what a script's steps do from the beginning, each with its answer
-abbrev pub history_of : Config → List Scripted → History
-history_of config script = run_from config (first config) (steps_in script)
+abbrev pub history_of : Generations → List Scripted → History
+history_of gens script = run_from gens (first gens) (steps_in script)
 
 -- The text is what the lines print, and then the report of what the steps did, of which all is true that every run promises.
-pub record Plays (config : Config) (script : List Scripted) (text : List ℕ) : Type 0 where
-  pub printed : text ≡ script_lines config (first config) script ++ report_text config (report_after config (history_of config script))
-  pub delivers : Delivers config (history_of config script)
-  pub rightly : AnswersRightly config [] (history_of config script)
-  pub processes : Processes config (history_of config script)
+pub record Plays (gens : Generations) (script : List Scripted) (text : List ℕ) : Type 0 where
+  pub printed : text ≡ script_lines gens (first gens) script ++ report_text gens.first (report_after gens.first (history_of gens script))
+  pub delivers : Delivers gens (history_of gens script)
+  pub rightly : AnswersRightly gens [] (history_of gens script)
+  pub processes : Processes gens.first (history_of gens script)
   -- behind each part of the script from its beginning, so wherever items are shown
-  pub keeps : (before behind : List Scripted) → before ++ behind ≡ script → Keeps config (history_of config before) (left_by config (first config) (steps_in before))
+  pub keeps : (before behind : List Scripted) → before ++ behind ≡ script → Keeps gens.first (history_of gens before) (left_by gens (first gens) (steps_in before))
 
--- the configuration says what the document says
-abbrev pub Configures : List ℕ → Config → Type 0
-Configures document config = (data' : Data) × (json_of document ≡ Some data') × IsReadFrom data' config
-
--- the document is a configuration and passes every check, the script stands for its lines, and the text is what they play
-pub record Replays (document script text : List ℕ) : Type 0 where
-  pub config : Config
-  pub read : Configures document config
-  pub passed : AllPass (checks_of document)
+-- each document passes its checks and is one of the generations, the script stands for its lines, and the text is what they play
+pub record Replays (documents : List (List ℕ)) (script text : List ℕ) : Type 0 where
+  pub gens : Generations
+  pub count : count_of gens ≡ length documents
+  pub read : AreReadFrom documents gens
+  pub passed : All (PassesBeside (common_of documents)) documents
   pub lines : List Scripted
   pub parsed : script_of script ≡ Ok lines
-  pub plays : Plays config lines text
+  pub plays : Plays gens lines text
 
 -- ---- faults
 
--- Memory may be refused at whichever point. A fault of the configuration is its first. A script is read where the
--- configuration has no fault, and its fault is the first line that stands for nothing.
-abbrev pub FailsReplay : List ℕ → List ℕ → ReplayFault → Type 0
-FailsReplay document script replay.Memory = Unit {0}
-FailsReplay document script (replay.Config fault) = IsFaultOf (checks_of document) fault × (fault ≢ config.Memory)
-FailsReplay document script (replay.Script line) = AllPass (checks_of document) × (script_of script ≡ Err line)
+-- How many documents there are is judged first. Then memory may be refused at whichever point. A fault of the documents is their
+-- first. A script is read where the documents have no fault, and its fault is the first line that stands for nothing.
+abbrev pub FailsReplay : List (List ℕ) → List ℕ → ReplayFault → Type 0
+FailsReplay documents script replay.Memory = is_count (length documents) ≡ true
+FailsReplay documents script (replay.Generations fault) = IsFaultAmong documents fault × (fault ≢ generations.Memory)
+FailsReplay documents script (replay.Script line) =
+    (is_count (length documents) ≡ true) × All (PassesBeside (common_of documents)) documents × (script_of script ≡ Err line)

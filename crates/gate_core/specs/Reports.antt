@@ -11,7 +11,7 @@ use Rattle.gate_core.specs.declared.report.EndCause.{EndCause}
 use Rattle.gate_core.specs.declared.report.EndCause.TheVariants.{Unclosed, Ended}
 use Rattle.gate_core.specs.declared.report.PipelineReport.{PipelineReport}
 use Rattle.gate_core.specs.declared.report.RunReport.{RunReport}
-use Rattle.gate_core.specs.History.{History, accepted_records, done, finished, closed}
+use Rattle.gate_core.specs.History.{History, accepted_records, done, finished, closed, renewals}
 use Rattle.gate_core.specs.States.{ConnectionState, TenantState, State}
 
 abbrev pub cause_of : Bool → EndCause
@@ -19,9 +19,9 @@ cause_of closing = if closing then Ended else Unclosed
 
 -- ---- the report of a history
 
--- how many records connection c accepted, and whether it was closed
+-- how many records connection c accepted, for each renewal how many before it, and whether it was closed
 abbrev pub connection_after : History → ℕ → ConnectionReport
-connection_after history c = record { accepted = length (accepted_records c history); cause = cause_of (closed c history) }
+connection_after history c = record { accepted = length (accepted_records c history); renewals = renewals c history; cause = cause_of (closed c history) }
 
 -- what pipeline p of tenant t has processed, and whether it met its end mark
 abbrev pub pipeline_after : History → ℕ → ℕ → PipelineReport
@@ -42,7 +42,7 @@ report_after config history = record {
 -- ---- the report of a state
 
 abbrev pub connection_report : ConnectionState → ConnectionReport
-connection_report conn = record { accepted = conn.accepted; cause = cause_of conn.closed }
+connection_report conn = record { accepted = conn.accepted; renewals = conn.renewals; cause = cause_of conn.closed }
 
 abbrev pub pipeline_report : Pipeline → PipelineReport
 pipeline_report pipeline = record { done = pipeline.worker.done; finished = pipeline.worker.finished }

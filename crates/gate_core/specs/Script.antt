@@ -16,7 +16,7 @@ use Rattle.gate_items.specs.declared.key.Key.TheVariants as key
 use Rattle.gate_core.specs.declared.script.Scripted.{Scripted}
 use Rattle.gate_core.specs.declared.script.Scripted.TheVariants as scripted
 use Rattle.gate_core.specs.declared.step.Step.{Step}
-use Rattle.gate_core.specs.declared.step.Step.TheVariants.{Offer, Close, Take, Send, Fetch, Match, Give, PostManage, PostResult, Turn}
+use Rattle.gate_core.specs.declared.step.Step.TheVariants.{Offer, Close, Renew, Take, Send, Fetch, Match, Give, PostManage, PostResult, Turn}
 
 -- ---- words and numbers
 
@@ -155,9 +155,10 @@ abbrev pub plain_named : List ℕ → List ℕ → Option Step
 plain_named word rest =
     if bytes_eq word (codes "oversize") then to_connection (λ c. Offer c Oversize) rest
     else (if bytes_eq word (codes "close") then to_connection Close rest
+    else (if bytes_eq word (codes "renew") then to_connection Renew rest
     else (if bytes_eq word (codes "take") then to_connection Take rest
     else (if bytes_eq word (codes "send") then to_connection Send rest
-    else tenant_named word rest)))
+    else tenant_named word rest))))
 
 -- the step that a line's first word and the rest of the line stand for
 abbrev pub step_named : List ℕ → List ℕ → Option Step

@@ -7,12 +7,15 @@ use Rattle.gate_items.specs.Machine.{State as ItemsState}
 use Rattle.gate_tenant.specs.States.{State as DispatchState}
 use Rattle.gate_core.specs.declared.pipeline.Pipeline.{Pipeline}
 
--- how many records a connection accepted, whether its end mark was put, what waits for its forwarder, and what the
--- forwarder has still to send, each item with its tenant
+-- how many records a connection accepted, and for each renewal how many of them before it; whether its end mark was put; what
+-- waits for its forwarder; the generation in force for the next entry that the forwarder takes; and what it has still to send,
+-- each item with its tenant
 pub record ConnectionState : Type 0 where
   pub accepted : ℕ
+  pub renewals : List ℕ
   pub closed : Bool
   pub queue : List ConnEntry
+  pub generation : ℕ
   pub hand : List (TenantId × TenantItem)
 
 -- what waits for a tenant's worker, what the worker has, and the tenant's pipelines by number

@@ -1,6 +1,6 @@
 -- The state after a step, and what the step answers: the core as a machine over plain lists, with any number of
 -- connections, tenants and pipelines.
-use Rattle.std.specs.Prelude.{ℕ, ◌+◌, ◌==◌, List, [], ◌∷◌, ◌++◌, true, false, min, length, map, Option, Some, None, slice_get, slice_set, if◌then◌else◌}
+use Rattle.std.specs.Prelude.{ℕ, suc, ◌+◌, ◌==◌, List, [], ◌∷◌, ◌++◌, Bool, true, false, nat_le, min, length, map, Option, Some, None, slice_get, slice_set, if◌then◌else◌}
 use Rattle.std.specs.List.{range_with_len}
 use Rattle.gate_record.specs.declared.ids.PipelineId.{PipelineId}
 use Rattle.gate_record.specs.declared.ids.TenantId.{TenantId}
@@ -10,6 +10,9 @@ use Rattle.gate_record.specs.declared.transit.ConnEntry.TheVariants as entry
 use Rattle.gate_record.specs.declared.transit.TenantItem.{TenantItem}
 use Rattle.gate_record.specs.declared.transit.PipelineItem.{PipelineItem}
 use Rattle.gate_config.specs.declared.config.Config.{Config}
+use Rattle.gate_config.specs.declared.generations.Generations.{Generations}
+use Rattle.gate_config.specs.Generations.{count_of}
+use Rattle.gate_record.specs.Entries.{behind}
 use Rattle.gate_config.specs.Lookups.{connections_of, tenants_of, pipelines_of}
 use Rattle.gate_forward.specs.Forwarding.{sends}
 use Rattle.gate_tenant.specs.States.{first_state, has_ended, matched, room_of}
@@ -26,15 +29,15 @@ use Rattle.gate_core.specs.States.{ConnectionState, TenantState, State, with_gat
 -- ---- the state in which nothing was offered yet
 
 abbrev pub new_connection : ConnectionState
-new_connection = record { accepted = 0; closed = false; queue = []; hand = [] }
+new_connection = record { accepted = 0; renewals = []; closed = false; queue = []; generation = 0; hand = [] }
 
 abbrev pub new_tenant : Config → ℕ → TenantState
 new_tenant config t = record { queue = []; dispatch = first_state config t; pipelines = map (fresh_pipeline config t) (range_with_len 0 (length (pipelines_of config t))) }
 
-abbrev pub first : Config → State
-first config = record {
-  connections = map (λ _. new_connection) (connections_of config);
-  tenants = map (new_tenant config) (range_with_len 0 (length (tenants_of config)));
+abbrev pub first : Generations → State
+first gens = record {
+  connections = map (λ _. new_connection) (connections_of gens.first);
+  tenants = map (new_tenant gens.first) (range_with_len 0 (length (tenants_of gens.first)));
 }
 
 -- ---- a part of something does something
@@ -58,14 +61,31 @@ close conn =
     if conn.closed then (conn, Closed)
     else (if has_place conn.queue then (record conn { closed = true; queue = conn.queue ++ entry.End ∷ [] }, Moved) else (conn, Full))
 
--- with these in the forwarder's hand, and these in the queue
-abbrev pub take_from : Config → ℕ → List (TenantId × TenantItem) → List ConnEntry → ConnectionState → ConnectionState × Answer
-take_from config c (item ∷ hand) queue conn = (conn, Idle)
-take_from config c [] [] conn = (conn, Idle)
-take_from config c [] (entry ∷ queue) conn = (record conn { queue = queue; hand = sends config c entry }, Moved)
+-- the next of so many generations is put in force for what comes behind; `Idle` where the last one is
+abbrev pub renew : ℕ → ConnectionState → ConnectionState × Answer
+renew count conn =
+    if conn.closed then (conn, Closed)
+    else (if nat_le count (length conn.renewals + 1) then (conn, Idle)
+    else (if has_place conn.queue
+    then (record conn { renewals = conn.renewals ++ conn.accepted ∷ []; queue = conn.queue ++ entry.Renew ∷ [] }, Moved)
+    else (conn, Full)))
 
-abbrev pub take : Config → ℕ → ConnectionState → ConnectionState × Answer
-take config c conn = take_from config c conn.hand conn.queue conn
+-- the mark of a renewal behind the last generation, which is never put
+abbrev pub is_past : Generations → ℕ → ConnEntry → Bool
+is_past gens g (entry.Numbered n line) = false
+is_past gens g entry.Renew = nat_le (count_of gens) (suc g)
+is_past gens g entry.End = false
+
+-- with these in the forwarder's hand, and these in the queue
+abbrev pub take_from : Generations → ℕ → List (TenantId × TenantItem) → List ConnEntry → ConnectionState → ConnectionState × Answer
+take_from gens c (item ∷ hand) queue conn = (conn, Idle)
+take_from gens c [] [] conn = (conn, Idle)
+take_from gens c [] (entry ∷ queue) conn =
+    if is_past gens conn.generation entry then (conn, Idle)
+    else (record conn { queue = queue; generation = behind conn.generation entry; hand = sends gens c conn.generation entry }, Moved)
+
+abbrev pub take : Generations → ℕ → ConnectionState → ConnectionState × Answer
+take gens c conn = take_from gens c conn.hand conn.queue conn
 
 -- ---- steps of a tenant
 
@@ -81,12 +101,12 @@ abbrev pub fetch : Config → ℕ → ℕ → TenantState → TenantState × Ans
 fetch config t count tenant = fetch_first (fetched config t count tenant) tenant
 
 -- with these gathered
-abbrev pub match_from : Config → ℕ → List TenantItem → TenantState → TenantState × Answer
-match_from config t [] tenant = (tenant, Idle)
-match_from config t (item ∷ items) tenant = (record tenant { dispatch = matched config t tenant.dispatch }, Moved)
+abbrev pub match_from : Generations → ℕ → List TenantItem → TenantState → TenantState × Answer
+match_from gens t [] tenant = (tenant, Idle)
+match_from gens t (item ∷ items) tenant = (record tenant { dispatch = matched gens t tenant.dispatch }, Moved)
 
-abbrev pub match_gathered : Config → ℕ → TenantState → TenantState × Answer
-match_gathered config t tenant = match_from config t tenant.dispatch.gathered tenant
+abbrev pub match_gathered : Generations → ℕ → TenantState → TenantState × Answer
+match_gathered gens t tenant = match_from gens t tenant.dispatch.gathered tenant
 
 -- the pipeline with the item at the back of its queue
 abbrev pub with_item : Pipeline → PipelineItem → Pipeline
@@ -145,17 +165,18 @@ abbrev pub send : ℕ → State → State × Answer
 send c state = send_of c (slice_get state.connections c) state
 
 -- the state that a step leaves, and its answer
-abbrev pub step_of : Config → State → Step → State × Answer
-step_of config state (step.Offer c line) = on_connection (offer line) c.0 state
-step_of config state (step.Close c) = on_connection close c.0 state
-step_of config state (step.Take c) = on_connection (take config c.0) c.0 state
-step_of config state (step.Send c) = send c.0 state
-step_of config state (step.Fetch t count) = on_tenant (fetch config t.0 count) t.0 state
-step_of config state (step.Match t) = on_tenant (match_gathered config t.0) t.0 state
-step_of config state (step.Give t) = on_tenant give t.0 state
-step_of config state (step.PostManage t p manage) = on_tenant (on_pipeline (post_manage manage) p.0) t.0 state
-step_of config state (step.PostResult t p ended) = on_tenant (on_pipeline (post_result ended) p.0) t.0 state
-step_of config state (step.Turn t p) = on_tenant (on_pipeline (turned config) p.0) t.0 state
+abbrev pub step_of : Generations → State → Step → State × Answer
+step_of gens state (step.Offer c line) = on_connection (offer line) c.0 state
+step_of gens state (step.Close c) = on_connection close c.0 state
+step_of gens state (step.Renew c) = on_connection (renew (count_of gens)) c.0 state
+step_of gens state (step.Take c) = on_connection (take gens c.0) c.0 state
+step_of gens state (step.Send c) = send c.0 state
+step_of gens state (step.Fetch t count) = on_tenant (fetch gens.first t.0 count) t.0 state
+step_of gens state (step.Match t) = on_tenant (match_gathered gens t.0) t.0 state
+step_of gens state (step.Give t) = on_tenant give t.0 state
+step_of gens state (step.PostManage t p manage) = on_tenant (on_pipeline (post_manage manage) p.0) t.0 state
+step_of gens state (step.PostResult t p ended) = on_tenant (on_pipeline (post_result ended) p.0) t.0 state
+step_of gens state (step.Turn t p) = on_tenant (on_pipeline (turned gens.first) p.0) t.0 state
 
 -- the state that a step leaves that is refused memory: as it was, save that a turn holds what it took, and has counted it in
 -- its phase
@@ -171,15 +192,15 @@ abbrev pub refused_step : State → Step → State
 refused_step state s = refused_turn_of (turn_of s) state
 
 -- steps one after another, each with its answer
-abbrev pub run_from : Config → State → List Step → List (Step × Answer)
-run_from config state [] = []
-run_from config state (s ∷ steps) = (s, (step_of config state s).1) ∷ run_from config (step_of config state s).0 steps
+abbrev pub run_from : Generations → State → List Step → List (Step × Answer)
+run_from gens state [] = []
+run_from gens state (s ∷ steps) = (s, (step_of gens state s).1) ∷ run_from gens (step_of gens state s).0 steps
 
 -- the answers alone
-abbrev pub answers_to : Config → State → List Step → List Answer
-answers_to config state steps = map (λ (event : Step × Answer). event.1) (run_from config state steps)
+abbrev pub answers_to : Generations → State → List Step → List Answer
+answers_to gens state steps = map (λ (event : Step × Answer). event.1) (run_from gens state steps)
 
 -- the state that steps leave
-abbrev pub left_by : Config → State → List Step → State
-left_by config state [] = state
-left_by config state (s ∷ steps) = left_by config (step_of config state s).0 steps
+abbrev pub left_by : Generations → State → List Step → State
+left_by gens state [] = state
+left_by gens state (s ∷ steps) = left_by gens (step_of gens state s).0 steps

@@ -13,7 +13,14 @@ EachAt {X} has xs = (i : ℕ) (x : X) → slice_get xs i ≡ Some x → has i x
 -- ---- a connection
 
 abbrev pub connection_view : Connection → ConnectionState
-connection_view conn = record { accepted = conn.accepted; closed = conn.closed; queue = conn.queue.items; hand = (hand_of conn.forward).items }
+connection_view conn = record {
+  accepted = conn.accepted;
+  renewals = conn.renewals.items;
+  closed = conn.closed;
+  queue = conn.queue.items;
+  generation = (hand_of conn.forward).generation;
+  hand = (hand_of conn.forward).items;
+}
 
 -- ---- a tenant
 

@@ -1,18 +1,18 @@
 -- The way of a connection's records to a pipeline, as a whole: what is forwarded, then chosen, is what is wanted; and in its
 -- parts, wherever they are.
-use Rattle.std.specs.Prelude.{◌≡◌, ◌<◌, ℕ, List, [], ◌∷◌, ◌++◌, Bool, true, false, Option, Some, None, length, slice_get, take}
+use Rattle.std.specs.Prelude.{◌≡◌, ◌<◌, ℕ, List, ◌++◌, Bool, true, Option, Some, None, length, slice_get, take}
 use Rattle.std.specs.List.{filter, filter_map, list_any}
 use Rattle.gate_record.specs.declared.reading.Reading.TheVariants as reading
 use Rattle.gate_record.specs.declared.record.Record.{Record}
-use Rattle.gate_record.specs.Entries.{entries_of}
+use Rattle.gate_record.specs.Entries.{AreEntriesOf}
+use Rattle.gate_record.specs.Generations.{AreFirstEntries}
 use Rattle.gate_record.specs.declared.transit.ConnEntry.{ConnEntry}
-use Rattle.gate_record.specs.declared.transit.ConnEntry.TheVariants as entry
 use Rattle.gate_record.specs.declared.transit.TenantItem.{TenantItem}
 use Rattle.gate_record.specs.declared.transit.PipelineItem.{PipelineItem}
 use Rattle.gate_record.specs.declared.transit.PipelineItem.TheVariants as item
 use Rattle.gate_record.specs.declared.transit.Stamped.{Stamped}
 use Rattle.gate_record.specs.Reading.{reading_of}
-use Rattle.gate_config.specs.declared.config.Config.{Config}
+use Rattle.gate_config.specs.declared.generations.Generations.{Generations}
 use Rattle.gate_config.specs.Lookups.{connections_of, lists}
 use Rattle.gate_forward.specs.Forwarding.{forwarded}
 use Rattle.gate_tenant.specs.Dispatching.{chosen, is_from}
@@ -26,49 +26,55 @@ number_of_item c (item.Event s) = number_from c s.stamp
 number_of_item c item.End = None
 
 -- the numbers of the events of connection c that pipeline p of tenant t gets of entries of that connection
-abbrev pub arrives : Config → ℕ → ℕ → ℕ → List ConnEntry → List ℕ
-arrives config t p c entries = filter_map (number_of_item c) (chosen config t p (forwarded config t c entries))
+abbrev pub arrives : Generations → ℕ → ℕ → ℕ → List ConnEntry → List ℕ
+arrives gens t p c entries = filter_map (number_of_item c) (chosen gens t p (forwarded gens t c entries))
 
--- Of entries that are numbered from 0 in order, with or without the end mark behind them, the wanted numbers arrive, and
--- so they do of each prefix.
+-- entries of a connection with some of these records, from the first on, and the wanted numbers of those arrive
+pub record FirstArrive (gens : Generations) (t p c : ℕ) (entries : List ConnEntry) (records : List (ℕ × Record)) : Type 0 where
+  pub front : AreFirstEntries entries records
+  pub arrive : arrives gens t p c entries ≡ wanted gens t p c front.first
+
+-- Of the entries of a connection the wanted numbers of their records arrive, and of each prefix of the entries those of the records
+-- in it.
 pub record WantedArrive : Type 0 where
-  pub open_stream : (config : Config) (t p c : ℕ) (records : List Record) → arrives config t p c (entries_of records) ≡ wanted config t p c records
-  pub ended_stream : (config : Config) (t p c : ℕ) (records : List Record) → arrives config t p c (entries_of records ++ entry.End ∷ []) ≡ wanted config t p c records
-  pub each_prefix : (config : Config) (t p c : ℕ) (records : List Record) (k : ℕ) → arrives config t p c (take k (entries_of records)) ≡ wanted config t p c (take k records)
+  pub all : (gens : Generations) (t p c : ℕ) {entries : List ConnEntry} {records : List (ℕ × Record)} {g : ℕ} {closed : Bool} → AreEntriesOf entries records g closed →
+      arrives gens t p c entries ≡ wanted gens t p c records
+  pub each_prefix : (gens : Generations) (t p c : ℕ) {entries : List ConnEntry} {records : List (ℕ × Record)} {g : ℕ} {closed : Bool} → AreEntriesOf entries records g closed → (k : ℕ) →
+      FirstArrive gens t p c (take k entries) records
 
 -- ---- the parts of a way
 
--- the end mark of a connection, if it was put behind its entries
-abbrev pub mark : Bool → List ConnEntry
-mark true = entry.End ∷ []
-mark false = []
-
--- The way of connection c's records to pipeline p of tenant t, behind which the end mark was put if it is closed. What the
--- pipeline has taken, followed by what it still gets, is what is chosen of what the tenant has matched. Of what it matched and
--- of what it got besides, the part of this connection, followed by what wasn't sent yet, is what is forwarded to it.
-pub record Way (config : Config) (t p c : ℕ) (records : List Record) (closed : Bool) (taken : List PipelineItem) : Type 0 where
+-- The way of connection c's entries to pipeline p of tenant t. What the pipeline has taken, followed by what it still gets, is
+-- what is chosen of what the tenant has matched. Of what it matched and of what it got besides, the part of this connection,
+-- followed by what wasn't sent yet, is what is forwarded to it.
+pub record Way (gens : Generations) (t p c : ℕ) (entries : List ConnEntry) (taken : List PipelineItem) : Type 0 where
   pub matched : List TenantItem
   pub unmatched : List TenantItem
   pub unsent : List TenantItem
   pub untaken : List PipelineItem
-  pub chooses : taken ++ untaken ≡ chosen config t p matched
-  pub forwards : filter (is_from c) (matched ++ unmatched) ++ unsent ≡ forwarded config t c (entries_of records ++ mark closed)
+  pub chooses : taken ++ untaken ≡ chosen gens t p matched
+  pub forwards : filter (is_from c) (matched ++ unmatched) ++ unsent ≡ forwarded gens t c entries
 
--- among these records, the one with the number of this event's stamp reads as the event
-pub record IsReadFrom (records : List Record) (s : Stamped) : Type 0 where
+-- among these records, each beside the generation in force at it, the one with the number of this event's stamp reads as the
+-- event, and has its generation
+pub record IsEventOf (records : List (ℕ × Record)) (s : Stamped) : Type 0 where
   pub line : Record
-  pub there : slice_get records s.stamp.number ≡ Some line
+  pub there : slice_get records s.stamp.number ≡ Some (s.generation, line)
   pub reads : reading_of line ≡ reading.Event s.event
 
--- On each way the numbers of what was taken are a prefix of those that are wanted, and all of them once the end mark was taken,
--- which it is only where the connection, if the tenant lists it, was closed; and each event of the connection that was taken is
--- what the record with its number reads as.
+-- On each way of a connection's entries the numbers of what was taken are a prefix of those that are wanted, and all of them once
+-- the end mark was taken, which it is only where the connection, if the tenant lists it, was closed; and each event of the
+-- connection that was taken is what the record with its number reads as.
 pub record EachWayDelivers : Type 0 where
-  pub in_order : (config : Config) (t p c : ℕ) (records : List Record) (closed : Bool) (taken : List PipelineItem) → Way config t p c records closed taken →
-      IsPrefixOf (filter_map (number_of_item c) taken) (wanted config t p c records)
-  pub whole : (config : Config) (t p c : ℕ) (records : List Record) (closed : Bool) (taken : List PipelineItem) → c < length (connections_of config) → Way config t p c records closed taken →
-      list_any is_end taken ≡ true → filter_map (number_of_item c) taken ≡ wanted config t p c records
-  pub closes : (config : Config) (t p c : ℕ) (records : List Record) (closed : Bool) (taken : List PipelineItem) → c < length (connections_of config) → lists config t c ≡ true → Way config t p c records closed taken →
+  pub in_order : (gens : Generations) (t p c : ℕ) (entries : List ConnEntry) (records : List (ℕ × Record)) (g : ℕ) (closed : Bool) (taken : List PipelineItem) →
+      AreEntriesOf entries records g closed → Way gens t p c entries taken →
+      IsPrefixOf (filter_map (number_of_item c) taken) (wanted gens t p c records)
+  pub whole : (gens : Generations) (t p c : ℕ) (entries : List ConnEntry) (records : List (ℕ × Record)) (g : ℕ) (closed : Bool) (taken : List PipelineItem) →
+      AreEntriesOf entries records g closed → c < length (connections_of gens.first) → Way gens t p c entries taken →
+      list_any is_end taken ≡ true → filter_map (number_of_item c) taken ≡ wanted gens t p c records
+  pub closes : (gens : Generations) (t p c : ℕ) (entries : List ConnEntry) (records : List (ℕ × Record)) (g : ℕ) (closed : Bool) (taken : List PipelineItem) →
+      AreEntriesOf entries records g closed → c < length (connections_of gens.first) → lists gens.first t c ≡ true → Way gens t p c entries taken →
       list_any is_end taken ≡ true → closed ≡ true
-  pub genuine : (config : Config) (t p c : ℕ) (records : List Record) (closed : Bool) (taken : List PipelineItem) → Way config t p c records closed taken →
-      (i : ℕ) (s : Stamped) → slice_get taken i ≡ Some (item.Event s) → s.stamp.conn.0 ≡ c → IsReadFrom records s
+  pub genuine : (gens : Generations) (t p c : ℕ) (entries : List ConnEntry) (records : List (ℕ × Record)) (g : ℕ) (closed : Bool) (taken : List PipelineItem) →
+      AreEntriesOf entries records g closed → Way gens t p c entries taken →
+      (i : ℕ) (s : Stamped) → slice_get taken i ≡ Some (item.Event s) → s.stamp.conn.0 ≡ c → IsEventOf records s

@@ -1,6 +1,6 @@
 -- What clauses see of a world.
 use Rattle.std.specs.Prelude.{◌≡◌, ◌<◌, ◌≤◌, ◌+◌, ◌^◌, ℕ, map, Some, slice_get}
-use Rattle.gate_config.specs.declared.config.Config.{Config}
+use Rattle.gate_config.specs.declared.generations.Generations.{Generations}
 use Rattle.gate_record.specs.declared.record.Record.{Record}
 use Rattle.gate_core.specs.declared.step.Step.{Step}
 use Rattle.gate_core.specs.declared.world.World.{World}
@@ -8,9 +8,9 @@ use Rattle.gate_core.specs.History.{offered_to}
 use Rattle.gate_core.specs.States.{ConnectionState, State}
 use Rattle.gate_core.specs.Views.{EachAt, connection_view, tenant_view}
 
--- the configuration that it runs by
-abbrev pub config_of : World → Config
-config_of world = world.config.now
+-- the generations of the configuration that it runs by
+abbrev pub gens_of : World → Generations
+gens_of world = world.gens.now
 
 -- what moves in it
 abbrev pub state_of : World → State

@@ -4,8 +4,8 @@ ghost use Rattle.gate_forward.specs.Hands.{hand_of};
 
 use crate::PLACES;
 use crate::answer::Answer;
-use gate_config::Config;
-use gate_forward::Forward;
+use gate_config::Generations;
+use gate_forward::{Forward, Last};
 use gate_record::{ConnEntry, ConnId, Memory, Record};
 use std::alloc::Global;
 use std::collections::VecDeque;
@@ -17,6 +17,8 @@ pub enum ConnectionStep {
     Offer(Record),
     /// The reader puts the end mark.
     Close,
+    /// The reader puts the mark of the next of so many generations.
+    Renew(u32),
     /// The forwarder takes the next entry.
     Take,
 }
@@ -26,6 +28,8 @@ pub enum ConnectionStep {
 pub struct Connection<'c> {
     /// How many records were accepted.
     pub accepted: u64,
+    /// For each renewal, how many records were accepted before it.
+    pub renewals: Vec<u64>,
     /// Whether the end mark was put.
     pub closed: bool,
     /// What waits for the forwarder, at most 4,096 entries.
@@ -41,36 +45,38 @@ impl<'c> Connection<'c> {
     ghost use Rattle.gate_core.specs.Answers.{Does};
     ghost use Rattle.gate_core.specs.Needs.{TakeNeeds};
     ghost use Rattle.gate_core.specs.Inner.Needs.{ConnectionNeeds};
-    ghost use Rattle.gate_core.specs.Steps.{new_connection, offer, close, take};
+    ghost use Rattle.gate_core.specs.Steps.{new_connection, offer, close, renew, take};
     ghost use Rattle.gate_core.specs.Inner.Steps.{connection_step};
     ghost use Rattle.gate_core.specs.Views.{connection_view};
-    ghost use Rattle.gate_core.specs.Inner.Views.{HasNumberLeft, config_of_connection, number_of_connection};
+    ghost use Rattle.gate_core.specs.Inner.Views.{HasNumberLeft, gens_of_connection, number_of_connection};
 
     /// The connection of this number before any record came. It takes no memory.
-    pub fn new(alloc: Global, config: &'c Config, conn: ConnId) -> Connection<'c>
-        ensures config { config_of_connection result ≡ config.entry.now }
+    pub fn new(alloc: Global, gens: &'c Generations, conn: ConnId) -> Connection<'c>
+        ensures gens { gens_of_connection result ≡ gens.entry.now }
         ensures number { number_of_connection result ≡ conn.0 }
         ensures view { connection_view result ≡ new_connection }
     {
         Connection {
             accepted: 0,
+            renewals: Vec::new(alloc),
             closed: false,
             queue: VecDeque::new(alloc),
-            forward: Forward::new(config, conn),
+            forward: Forward::new(gens, conn),
         }
     }
 
     /// Takes one step.
     pub fn step(&mut self, alloc: Global, step: ConnectionStep) -> Result<Answer, Memory>
         requires { HasNumberLeft step (connection_view self.old) }
-        ensures config { config_of_connection self.new ≡ config_of_connection self.old }
+        ensures gens { gens_of_connection self.new ≡ gens_of_connection self.old }
         ensures number { number_of_connection self.new ≡ number_of_connection self.old }
-        ensures does { Does (connection_view self.old) (connection_step (config_of_connection self.old) (number_of_connection self.old) step (connection_view self.old)) (connection_view self.new) result }
+        ensures does { Does (connection_view self.old) (connection_step (gens_of_connection self.old) (number_of_connection self.old) step (connection_view self.old)) (connection_view self.new) result }
         ensures needs { OnErr result (ConnectionNeeds step (connection_view self.old)) }
     {
         match step {
             ConnectionStep::Offer(line) => self.offer(line),
             ConnectionStep::Close => self.close(),
+            ConnectionStep::Renew(count) => self.renew(count),
             ConnectionStep::Take => self.take(alloc),
         }
     }
@@ -79,7 +85,7 @@ impl<'c> Connection<'c> {
     // is refused, all is as before, as in each step.
     fn offer(&mut self, line: Record) -> Result<Answer, Memory>
         requires { (connection_view self.old).accepted + 1 < 2 ^ 64 }
-        ensures config { config_of_connection self.new ≡ config_of_connection self.old }
+        ensures gens { gens_of_connection self.new ≡ gens_of_connection self.old }
         ensures number { number_of_connection self.new ≡ number_of_connection self.old }
         ensures does { Does (connection_view self.old) (offer line (connection_view self.old)) (connection_view self.new) result }
     {
@@ -97,7 +103,7 @@ impl<'c> Connection<'c> {
 
     // Puts the end mark, behind all records.
     fn close(&mut self) -> Result<Answer, Memory>
-        ensures config { config_of_connection self.new ≡ config_of_connection self.old }
+        ensures gens { gens_of_connection self.new ≡ gens_of_connection self.old }
         ensures number { number_of_connection self.new ≡ number_of_connection self.old }
         ensures does { Does (connection_view self.old) (close (connection_view self.old)) (connection_view self.new) result }
     {
@@ -112,11 +118,32 @@ impl<'c> Connection<'c> {
         Ok(Answer::Moved)
     }
 
+    // Puts the mark behind which the next of so many generations is in force: `Idle` where the last one is.
+    fn renew(&mut self, count: u32) -> Result<Answer, Memory>
+        ensures gens { gens_of_connection self.new ≡ gens_of_connection self.old }
+        ensures number { number_of_connection self.new ≡ number_of_connection self.old }
+        ensures does { Does (connection_view self.old) (renew count (connection_view self.old)) (connection_view self.new) result }
+    {
+        if self.closed {
+            return Ok(Answer::Closed);
+        }
+        if count as usize <= self.renewals.len() + 1 {
+            return Ok(Answer::Idle);
+        }
+        if self.queue.len() >= PLACES {
+            return Ok(Answer::Full);
+        }
+        self.renewals.reserve(1)?;
+        self.queue.push_back(ConnEntry::Renew)?;
+        self.renewals.push_reserved(self.accepted);
+        Ok(Answer::Moved)
+    }
+
     // Takes the next entry into the forwarder's empty hand, and reads it there, once.
     fn take(&mut self, alloc: Global) -> Result<Answer, Memory>
-        ensures config { config_of_connection self.new ≡ config_of_connection self.old }
+        ensures gens { gens_of_connection self.new ≡ gens_of_connection self.old }
         ensures number { number_of_connection self.new ≡ number_of_connection self.old }
-        ensures does { Does (connection_view self.old) (take (config_of_connection self.old) (number_of_connection self.old) (connection_view self.old)) (connection_view self.new) result }
+        ensures does { Does (connection_view self.old) (take (gens_of_connection self.old) (number_of_connection self.old) (connection_view self.old)) (connection_view self.new) result }
         ensures needs { OnErr result (TakeNeeds (connection_view self.old)) }
     {
         if !self.forward.is_empty() {
@@ -128,6 +155,13 @@ impl<'c> Connection<'c> {
                 self.forward.load_end();
                 Ok(Answer::Moved)
             }
+            Some(ConnEntry::Renew) => match self.forward.load_renew() {
+                Ok(()) => Ok(Answer::Moved),
+                Err(Last) => {
+                    self.queue.push_front_reserved(ConnEntry::Renew);
+                    Ok(Answer::Idle)
+                }
+            },
             Some(ConnEntry::Numbered(number, line)) => {
                 match self.forward.load(alloc, number, line) {
                     Ok(()) => Ok(Answer::Moved),

@@ -23,7 +23,8 @@ mod world;
 
 pub use answer::Answer;
 pub use laws::{
-    each_way_delivers, every_chain_delivers, every_run_delivers, what_is_wanted_arrives,
+    each_record_has_its_generation, each_way_delivers, every_chain_delivers, every_run_delivers,
+    what_is_wanted_arrives,
 };
 pub use output::report_text;
 pub use replaying::{ReplayFault, replay};

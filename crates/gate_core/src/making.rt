@@ -7,33 +7,36 @@ ghost use Rattle.gate_core.specs.Inner.Views.{AreConnections, AreTenants};
 
 use crate::connection::Connection;
 use crate::tenant::Tenant;
-use gate_config::Config;
+use gate_config::Generations;
 use gate_record::{ConnId, Memory, TenantId};
 use std::alloc::Global;
 
 /// The connections of a configuration at work, by number, before any record came.
 pub(crate) fn new_connections<'c>(
     alloc: Global,
-    config: &'c Config,
+    gens: &'c Generations,
 ) -> Result<Vec<Connection<'c>>, Memory>
-    ensures numbered { IfOk result (λ connections. AreConnections config.entry.now connections.items) }
-    ensures view { IfOk result (λ connections. map connection_view connections.items ≡ map (λ _. new_connection) (connections_of config.entry.now)) }
+    ensures numbered { IfOk result (λ connections. AreConnections gens.entry.now connections.items) }
+    ensures view { IfOk result (λ connections. map connection_view connections.items ≡ map (λ _. new_connection) (connections_of gens.entry.now.first)) }
 {
     let mut connections = Vec::new(alloc);
-    for number in 0..config.connections().len() {
-        connections.push(Connection::new(alloc, config, ConnId(number as u32)))?;
+    for number in 0..gens.first().connections().len() {
+        connections.push(Connection::new(alloc, gens, ConnId(number as u32)))?;
     }
     Ok(connections)
 }
 
 /// The tenants of a configuration at work, by number, before anything came.
-pub(crate) fn new_tenants<'c>(alloc: Global, config: &'c Config) -> Result<Vec<Tenant<'c>>, Memory>
-    ensures numbered { IfOk result (λ tenants. AreTenants config.entry.now tenants.items) }
-    ensures view { IfOk result (λ tenants. map tenant_view tenants.items ≡ map (new_tenant config.entry.now) (range_with_len 0 (length (tenants_of config.entry.now)))) }
+pub(crate) fn new_tenants<'c>(
+    alloc: Global,
+    gens: &'c Generations,
+) -> Result<Vec<Tenant<'c>>, Memory>
+    ensures numbered { IfOk result (λ tenants. AreTenants gens.entry.now tenants.items) }
+    ensures view { IfOk result (λ tenants. map tenant_view tenants.items ≡ map (new_tenant gens.entry.now.first) (range_with_len 0 (length (tenants_of gens.entry.now.first)))) }
 {
     let mut tenants = Vec::new(alloc);
-    for number in 0..config.tenants().len() {
-        tenants.push(Tenant::new(alloc, config, TenantId(number as u32))?)?;
+    for number in 0..gens.first().tenants().len() {
+        tenants.push(Tenant::new(alloc, gens, TenantId(number as u32))?)?;
     }
     Ok(tenants)
 }

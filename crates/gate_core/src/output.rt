@@ -122,6 +122,7 @@ fn push_connections(
         reports.split_first(),
     ) {
         push_connection(out, alloc, name.as_str(), report)?;
+        push_renewed(out, alloc, name.as_str(), report.renewals.as_slice())?;
         names = more_names;
         reports = more_reports;
     }
@@ -138,6 +139,35 @@ fn push_connection(
 {
     let line = connection_line(alloc, name, report)?;
     out.push_str(line.as_str())?;
+    Ok(())
+}
+
+ghost use Rattle.gate_core.specs.Output.{renewed_line};
+
+// A line of the renewals, where there are any.
+fn push_renewed(out: &mut String, alloc: Global, name: &str, numbers: &[u64]) -> Result<(), Memory>
+    ensures { OnOk result (string_bytes out.new ≡ string_bytes out.old ++ renewed_line name.now numbers.now) }
+{
+    if numbers.is_empty() {
+        return Ok(());
+    }
+    let name = name_text(alloc, name)?;
+    let start = format!(in alloc; "renewed {name}")?;
+    out.push_str(start.as_str())?;
+    push_each(out, alloc, numbers)?;
+    out.push_str("\n")?;
+    Ok(())
+}
+
+ghost use Rattle.std.specs.Prelude.{flat_map};
+
+// Numbers, each behind a space.
+fn push_each(out: &mut String, alloc: Global, numbers: &[u64]) -> Result<(), Memory>
+    ensures { OnOk result (string_bytes out.new ≡ string_bytes out.old ++ flat_map number_text numbers.now) }
+{
+    for number in numbers {
+        push_number(out, alloc, *number)?;
+    }
     Ok(())
 }
 
@@ -162,7 +192,7 @@ fn cause_word(cause: EndCause) -> &'static str
     }
 }
 
-/// A report as text: a line for each connection, and for each pipeline a line and one more for each connection that
+/// A report as text: a line for each connection, one more where it was renewed, and for each pipeline a line and one more for each connection that
 /// its tenant lists. `Memory` where the text finds no room.
 pub fn report_text(alloc: Global, config: &Config, report: &RunReport) -> Result<String, Memory>
     ensures { IfOk result (λ text. string_bytes text ≡ report_text config.now report.now) }

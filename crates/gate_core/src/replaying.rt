@@ -1,11 +1,12 @@
-ghost use Rattle.std.specs.Prelude.{◌≡◌, string_bytes, IfOk, IfErr};
+ghost use Rattle.std.specs.Prelude.{◌≡◌, map, string_bytes, IfOk, IfErr};
+ghost use Rattle.gate_config.specs.Generations.{bytes_of};
 ghost use Rattle.gate_core.specs.Replays.{Replays, FailsReplay};
 
 use crate::laws::every_run_delivers;
 use crate::output::push_report;
 use crate::playing::play_script;
 use crate::script::{ScriptFault, Scripted, read_script};
-use gate_config::{Config, ConfigFault, read_config};
+use gate_config::{GenerationFault, Generations, read_generations};
 use gate_record::{Memory, Queue};
 use std::alloc::Global;
 use std::error::Error;
@@ -14,8 +15,8 @@ use std::fmt;
 /// Why nothing was replayed.
 #[derive(Debug, Drop)]
 pub enum ReplayFault {
-    /// The document is no configuration: its first fault.
-    Config(ConfigFault),
+    /// The documents are no generations of a configuration: their first fault.
+    Generations(GenerationFault),
     /// The first line of the script that stands for nothing, counted from 1.
     Script(usize),
     /// Memory was refused.
@@ -25,7 +26,7 @@ pub enum ReplayFault {
 impl fmt::Display for ReplayFault {
     fn fmt<W: fmt::Write>(&self, f: &mut fmt::Formatter<W>) -> fmt::Result {
         match self {
-            ReplayFault::Config(fault) => write!(f, "{fault}"),
+            ReplayFault::Generations(fault) => write!(f, "{fault}"),
             ReplayFault::Script(line) => write!(f, "script {line}"),
             ReplayFault::Memory => f.write_str("memory"),
         }
@@ -34,36 +35,37 @@ impl fmt::Display for ReplayFault {
 
 impl Error for ReplayFault {}
 
-/// Reads a configuration and a script, takes the script's steps from the beginning, and gives what its lines print, the
-/// answers to steps and the items that are shown, and then the report. A fault of the configuration comes before one of the script.
-pub fn replay(alloc: Global, document: &[u8], script: &[u8]) -> Result<String, ReplayFault>
-    ensures text { IfOk result (λ text. Replays document.now script.now (string_bytes text)) }
-    ensures fault { IfErr result (FailsReplay document.now script.now) }
+/// Reads the generations of a configuration, a document each, and a script, takes the script's steps from the beginning, and
+/// gives what its lines print, the answers to steps and the items that are shown, and then the report. A fault of the documents
+/// comes before one of the script.
+pub fn replay(alloc: Global, documents: &[Vec<u8>], script: &[u8]) -> Result<String, ReplayFault>
+    ensures text { IfOk result (λ text. Replays (map bytes_of documents.now) script.now (string_bytes text)) }
+    ensures fault { IfErr result (FailsReplay (map bytes_of documents.now) script.now) }
 {
-    let config = match read_config(alloc, document) {
-        Ok(config) => config,
-        Err(fault) => return Err(of_config(fault)),
+    let gens = match read_generations(alloc, documents) {
+        Ok(gens) => gens,
+        Err(fault) => return Err(of_generations(fault)),
     };
     let script = match read_script(alloc, script) {
         Ok(script) => script,
         Err(fault) => return Err(of_script(fault)),
     };
-    match play_text(alloc, &config, script) {
+    match play_text(alloc, &gens, script) {
         Ok(text) => Ok(text),
         Err(Memory) => Err(ReplayFault::Memory),
     }
 }
 
 ghost use Rattle.gate_core.specs.Replays.{Plays};
-ghost use Rattle.gate_core.specs.Inner.Replays.{of_config_fault, of_script_fault};
+ghost use Rattle.gate_core.specs.Inner.Replays.{of_generation_fault, of_script_fault};
 
 // Memory is one fault, wherever it was refused.
-fn of_config(fault: ConfigFault) -> ReplayFault
-    ensures { result ≡ of_config_fault fault }
+fn of_generations(fault: GenerationFault) -> ReplayFault
+    ensures { result ≡ of_generation_fault fault }
 {
     match fault {
-        ConfigFault::Memory => ReplayFault::Memory,
-        fault => ReplayFault::Config(fault),
+        GenerationFault::Memory => ReplayFault::Memory,
+        fault => ReplayFault::Generations(fault),
     }
 }
 
@@ -77,14 +79,14 @@ fn of_script(fault: ScriptFault) -> ReplayFault
 }
 
 // What the lines of a script print, and the report of the world that they leave.
-fn play_text(alloc: Global, config: &Config, script: Queue<Scripted>) -> Result<String, Memory>
-    ensures { IfOk result (λ text. Plays config.now script (string_bytes text)) }
+fn play_text(alloc: Global, gens: &Generations, script: Queue<Scripted>) -> Result<String, Memory>
+    ensures { IfOk result (λ text. Plays gens.now script (string_bytes text)) }
 {
     // What is promised of every history is a law of the definitions.
     every_run_delivers();
     let mut text = String::new(alloc);
-    let world = play_script(alloc, config, script, &mut text)?;
+    let world = play_script(alloc, gens, script, &mut text)?;
     let report = world.report()?;
-    push_report(&mut text, alloc, config, &report)?;
+    push_report(&mut text, alloc, gens.first(), &report)?;
     Ok(text)
 }

@@ -16,10 +16,13 @@ pub enum EndCause {
 }
 
 /// What a run says of a connection.
-#[derive(Clone, Copy, Debug, PartialEq, Eq)]
+#[derive(Debug, Drop)]
 pub struct ConnectionReport {
     /// How many records were accepted.
     pub accepted: u64,
+    /// For each generation of the configuration behind the first that was put in force, how many records were accepted before
+    /// it.
+    pub renewals: Sequence<u64>,
     /// Whether it takes more records, and if not, why.
     pub cause: EndCause,
 }

@@ -1,5 +1,5 @@
 ghost use Rattle.std.specs.Prelude.{◌≡◌, IfOk, map};
-ghost use Rattle.gate_core.specs.Reports.{connection_report, pipeline_report, tenant_report};
+ghost use Rattle.gate_core.specs.Reports.{cause_of, connection_report, pipeline_report, tenant_report};
 ghost use Rattle.gate_core.specs.Views.{connection_view, tenant_view};
 
 use crate::connection::Connection;
@@ -9,7 +9,7 @@ use crate::tenant::Tenant;
 use gate_record::{Memory, Sequence};
 use std::alloc::Global;
 
-/// What each connection accepted, and whether it was closed.
+/// What each connection accepted, when it was renewed, and whether it was closed.
 pub(crate) fn report_connections(
     alloc: Global,
     connections: &[Connection<'_>],
@@ -18,21 +18,29 @@ pub(crate) fn report_connections(
 {
     let mut reports = Sequence::empty(alloc);
     for connection in connections {
-        reports.push(report_connection(connection))?;
+        reports.push(report_connection(alloc, connection)?)?;
     }
     Ok(reports)
 }
 
-fn report_connection(connection: &Connection<'_>) -> ConnectionReport
-    ensures { result ≡ connection_report (connection_view connection.now) }
+fn report_connection(alloc: Global, connection: &Connection<'_>) -> Result<ConnectionReport, Memory>
+    ensures { IfOk result (λ report. report ≡ connection_report (connection_view connection.now)) }
 {
-    ConnectionReport {
+    let renewals = connection.renewals.as_slice().to_vec(alloc)?;
+    Ok(ConnectionReport {
         accepted: connection.accepted,
-        cause: if connection.closed {
-            EndCause::Ended
-        } else {
-            EndCause::Unclosed
-        },
+        renewals: Sequence::new(renewals),
+        cause: cause_of(connection.closed),
+    })
+}
+
+fn cause_of(closed: bool) -> EndCause
+    ensures { result ≡ cause_of closed }
+{
+    if closed {
+        EndCause::Ended
+    } else {
+        EndCause::Unclosed
     }
 }
 

@@ -175,6 +175,9 @@ fn plain_step(word: &[u8], rest: &[u8]) -> Option<Step>
     if is(word, "close") {
         return Some(Step::Close(ConnId(number(rest)?)));
     }
+    if is(word, "renew") {
+        return Some(Step::Renew(ConnId(number(rest)?)));
+    }
     if is(word, "take") {
         return Some(Step::Take(ConnId(number(rest)?)));
     }

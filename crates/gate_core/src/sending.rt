@@ -1,8 +1,8 @@
 ghost use Rattle.std.specs.Prelude.{◌≡◌, map};
-ghost use Rattle.gate_config.specs.declared.config.Config.{Config as Configuration};
+ghost use Rattle.gate_config.specs.declared.generations.Generations.{Generations};
 ghost use Rattle.gate_core.specs.Inner.Sends.{Sends};
 ghost use Rattle.gate_core.specs.Views.{connection_view, tenant_view};
-ghost use Rattle.gate_core.specs.Inner.Views.{AreTenants, config_of_connection, number_of_connection};
+ghost use Rattle.gate_core.specs.Inner.Views.{AreTenants, gens_of_connection, number_of_connection};
 
 use crate::answer::Answer;
 use crate::connection::Connection;
@@ -15,9 +15,9 @@ pub(crate) fn send<'c>(
     connection: &mut Connection<'c>,
     tenants: &mut Vec<Tenant<'c>>,
 ) -> Result<Answer, Memory>
-    ensures config { config_of_connection connection.new ≡ config_of_connection connection.old }
+    ensures gens { gens_of_connection connection.new ≡ gens_of_connection connection.old }
     ensures number { number_of_connection connection.new ≡ number_of_connection connection.old }
-    ensures tenants { (config : Configuration) → AreTenants config tenants.old.items → AreTenants config tenants.new.items }
+    ensures tenants { (gens : Generations) → AreTenants gens tenants.old.items → AreTenants gens tenants.new.items }
     ensures does { Sends (connection_view connection.old) (map tenant_view tenants.old.items) (connection_view connection.new) (map tenant_view tenants.new.items) result }
 {
     let Some((tenant, item)) = connection.forward.next() else {

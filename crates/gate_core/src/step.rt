@@ -11,6 +11,8 @@ pub enum Step {
     Offer(ConnId, Record),
     /// The reader of a connection closes it: its end mark is put behind its records.
     Close(ConnId),
+    /// The reader of a connection puts the next generation of the configuration in force for what it offers from then on.
+    Renew(ConnId),
     /// The forwarder of a connection takes the next entry of its queue.
     Take(ConnId),
     /// The forwarder of a connection sends what it holds to the next tenant.
@@ -37,6 +39,7 @@ impl Step {
         match self {
             Step::Offer(conn, line) => Ok(Step::Offer(*conn, line.copy(alloc)?)),
             Step::Close(conn) => Ok(Step::Close(*conn)),
+            Step::Renew(conn) => Ok(Step::Renew(*conn)),
             Step::Take(conn) => Ok(Step::Take(*conn)),
             Step::Send(conn) => Ok(Step::Send(*conn)),
             Step::Fetch(tenant, count) => Ok(Step::Fetch(*tenant, *count)),

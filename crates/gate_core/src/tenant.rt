@@ -3,7 +3,7 @@ ghost use Rattle.gate_tenant.specs.States.{has_ended, reserved_of, room_of, stat
 
 use crate::answer::Answer;
 use crate::pipeline::Pipeline;
-use gate_config::Config;
+use gate_config::{Config, Generations};
 use gate_record::{Memory, PipelineId, TenantId, TenantItem};
 use gate_tenant::Dispatch;
 use std::alloc::{AllocFailed, Global};
@@ -41,26 +41,26 @@ impl<'c> Tenant<'c> {
     ghost use Rattle.gate_core.specs.Inner.Steps.{tenant_step};
     ghost use Rattle.gate_core.specs.States.{with_gathered};
     ghost use Rattle.gate_core.specs.Views.{tenant_view};
-    ghost use Rattle.gate_core.specs.Inner.Views.{config_of_tenant, number_of_tenant};
+    ghost use Rattle.gate_core.specs.Inner.Views.{gens_of_tenant, number_of_tenant};
 
     /// The tenant of this number before anything came. `Memory` where its pipelines, or the end marks of a tenant that
     /// lists no connection, find no room.
-    pub fn new(alloc: Global, config: &'c Config, tenant: TenantId) -> Result<Tenant<'c>, Memory>
-        ensures config { IfOk result (λ worker. config_of_tenant worker ≡ config.entry.now) }
+    pub fn new(alloc: Global, gens: &'c Generations, tenant: TenantId) -> Result<Tenant<'c>, Memory>
+        ensures gens { IfOk result (λ worker. gens_of_tenant worker ≡ gens.entry.now) }
         ensures number { IfOk result (λ worker. number_of_tenant worker ≡ tenant.0) }
-        ensures view { IfOk result (λ worker. tenant_view worker ≡ new_tenant config.entry.now tenant.0) }
+        ensures view { IfOk result (λ worker. tenant_view worker ≡ new_tenant gens.entry.now.first tenant.0) }
     {
-        let pipelines = new_pipelines(alloc, config, tenant)?;
+        let pipelines = new_pipelines(alloc, gens.first(), tenant)?;
         Ok(Tenant {
             queue: VecDeque::new(alloc),
-            dispatch: Dispatch::new(alloc, config, tenant)?,
+            dispatch: Dispatch::new(alloc, gens, tenant)?,
             pipelines,
         })
     }
 
     /// Puts an item at the back of the queue. Where memory is refused the item comes back, and all is as before.
     pub fn put(&mut self, item: TenantItem) -> Result<(), AllocFailed<TenantItem>>
-        ensures config { config_of_tenant self.new ≡ config_of_tenant self.old }
+        ensures gens { gens_of_tenant self.new ≡ gens_of_tenant self.old }
         ensures number { number_of_tenant self.new ≡ number_of_tenant self.old }
         ensures puts { OnOk result (tenant_view self.new ≡ record (tenant_view self.old) { queue = (tenant_view self.old).queue ++ item ∷ [] }) }
         ensures refused { IfErr result (λ refused. (tenant_view self.new ≡ tenant_view self.old) × (refused.value ≡ item)) }
@@ -70,10 +70,10 @@ impl<'c> Tenant<'c> {
 
     /// Takes one step.
     pub fn step(&mut self, alloc: Global, step: TenantStep) -> Result<Answer, Memory>
-        ensures config { config_of_tenant self.new ≡ config_of_tenant self.old }
+        ensures gens { gens_of_tenant self.new ≡ gens_of_tenant self.old }
         ensures number { number_of_tenant self.new ≡ number_of_tenant self.old }
-        ensures does { Does (tenant_view self.old) (tenant_step (config_of_tenant self.old) (number_of_tenant self.old) step (tenant_view self.old)) (tenant_view self.new) result }
-        ensures needs { OnErr result (TenantNeeds (config_of_tenant self.old) (number_of_tenant self.old) step (tenant_view self.old)) }
+        ensures does { Does (tenant_view self.old) (tenant_step (gens_of_tenant self.old) (number_of_tenant self.old) step (tenant_view self.old)) (tenant_view self.new) result }
+        ensures needs { OnErr result (TenantNeeds (gens_of_tenant self.old).first (number_of_tenant self.old) step (tenant_view self.old)) }
     {
         match step {
             TenantStep::Fetch(count) => self.fetch(count),
@@ -85,9 +85,9 @@ impl<'c> Tenant<'c> {
     // Gathers the next items of the queue: as many as are asked for and wait, and as the dispatch has room for, where it
     /// goes on. Where memory is refused, all is as before, as in each step.
     fn fetch(&mut self, count: u32) -> Result<Answer, Memory>
-        ensures config { config_of_tenant self.new ≡ config_of_tenant self.old }
+        ensures gens { gens_of_tenant self.new ≡ gens_of_tenant self.old }
         ensures number { number_of_tenant self.new ≡ number_of_tenant self.old }
-        ensures does { Does (tenant_view self.old) (fetch (config_of_tenant self.old) (number_of_tenant self.old) count (tenant_view self.old)) (tenant_view self.new) result }
+        ensures does { Does (tenant_view self.old) (fetch (gens_of_tenant self.old).first (number_of_tenant self.old) count (tenant_view self.old)) (tenant_view self.new) result }
     {
         if self.dispatch.ended() {
             return Ok(Answer::Idle);
@@ -109,9 +109,9 @@ impl<'c> Tenant<'c> {
     fn gather_next(&mut self)
         requires waits { 0 < length (tenant_view self.old).queue }
         requires room { 0 < room_of (tenant_view self.old).dispatch }
-        requires goes_on { has_ended (config_of_tenant self.old) (number_of_tenant self.old) (tenant_view self.old).dispatch ≡ false }
+        requires goes_on { has_ended (gens_of_tenant self.old).first (number_of_tenant self.old) (tenant_view self.old).dispatch ≡ false }
         requires reserved { 0 < reserved_of self.old.dispatch }
-        ensures config { config_of_tenant self.new ≡ config_of_tenant self.old }
+        ensures gens { gens_of_tenant self.new ≡ gens_of_tenant self.old }
         ensures number { number_of_tenant self.new ≡ number_of_tenant self.old }
         ensures gathers { tenant_view self.new ≡ with_gathered 1 (tenant_view self.old) }
         ensures uses { reserved_of self.old.dispatch ≤ reserved_of self.new.dispatch + 1 }
@@ -126,10 +126,10 @@ impl<'c> Tenant<'c> {
 
     /// Matches what is gathered against the rules of the pipelines.
     fn match_gathered(&mut self, alloc: Global) -> Result<Answer, Memory>
-        ensures config { config_of_tenant self.new ≡ config_of_tenant self.old }
+        ensures gens { gens_of_tenant self.new ≡ gens_of_tenant self.old }
         ensures number { number_of_tenant self.new ≡ number_of_tenant self.old }
-        ensures does { Does (tenant_view self.old) (match_gathered (config_of_tenant self.old) (number_of_tenant self.old) (tenant_view self.old)) (tenant_view self.new) result }
-        ensures needs { OnErr result (MatchNeeds (config_of_tenant self.old) (number_of_tenant self.old) (tenant_view self.old)) }
+        ensures does { Does (tenant_view self.old) (match_gathered (gens_of_tenant self.old) (number_of_tenant self.old) (tenant_view self.old)) (tenant_view self.new) result }
+        ensures needs { OnErr result (MatchNeeds (gens_of_tenant self.old).first (number_of_tenant self.old) (tenant_view self.old)) }
     {
         if !self.dispatch.has_gathered() {
             return Ok(Answer::Idle);
@@ -140,7 +140,7 @@ impl<'c> Tenant<'c> {
 
     /// Gives the next matched item to its pipeline.
     fn give(&mut self) -> Result<Answer, Memory>
-        ensures config { config_of_tenant self.new ≡ config_of_tenant self.old }
+        ensures gens { gens_of_tenant self.new ≡ gens_of_tenant self.old }
         ensures number { number_of_tenant self.new ≡ number_of_tenant self.old }
         ensures does { Does (tenant_view self.old) (give (tenant_view self.old)) (tenant_view self.new) result }
     {

@@ -10,22 +10,22 @@ use crate::reporting::{report_connections, report_tenants};
 use crate::sending::send;
 use crate::step::Step;
 use crate::tenant::{Tenant, TenantStep};
-use gate_config::Config;
+use gate_config::Generations;
 use gate_items::Items;
 use gate_record::{ConnId, Memory, PipelineId, TenantId};
 use std::alloc::Global;
 
-/// The core at one moment: a configuration, and its connections and tenants at work.
+/// The core at one moment: the generations of a configuration, and its connections and tenants at work.
 #[derive(Drop)]
 pub struct World<'c> {
-    config: &'c Config,
+    gens: &'c Generations,
     connections: Vec<Connection<'c>>,
     tenants: Vec<Tenant<'c>>,
     alloc: Global,
-    /// Each connection has its number and the world's configuration.
-    ghost connections_by_number: { AreConnections config.now connections.items },
-    /// Each tenant has its number and the world's configuration.
-    ghost tenants_by_number: { AreTenants config.now tenants.items },
+    /// Each connection has its number and the world's generations.
+    ghost connections_by_number: { AreConnections gens.now connections.items },
+    /// Each tenant has its number and the world's generations.
+    ghost tenants_by_number: { AreTenants gens.now tenants.items },
 }
 
 impl<'c> World<'c> {
@@ -38,18 +38,18 @@ impl<'c> World<'c> {
     ghost use Rattle.gate_core.specs.Steps.{first, on_connection, on_pipeline, on_tenant, refused_step, send, step_of};
     ghost use Rattle.gate_core.specs.Inner.Steps.{connection_step, refused_at, tenant_step};
     ghost use Rattle.gate_core.specs.Inner.Views.{HasNumberLeft};
-    ghost use Rattle.gate_core.specs.Worlds.{AcceptedAtMost, HasNumber, config_of, state_of};
+    ghost use Rattle.gate_core.specs.Worlds.{AcceptedAtMost, HasNumber, gens_of, state_of};
 
     /// The world in which nothing was offered yet. `Memory` where its connections and tenants find no room.
-    pub fn new(alloc: Global, config: &'c Config) -> Result<World<'c>, Memory>
-        ensures config { IfOk result (λ world. config_of world ≡ config.entry.now) }
-        ensures first { IfOk result (λ world. state_of world ≡ first config.entry.now) }
+    pub fn new(alloc: Global, gens: &'c Generations) -> Result<World<'c>, Memory>
+        ensures gens { IfOk result (λ world. gens_of world ≡ gens.entry.now) }
+        ensures first { IfOk result (λ world. state_of world ≡ first gens.entry.now) }
         ensures counts { IfOk result (λ world. AcceptedAtMost 0 (state_of world)) }
     {
-        let connections = new_connections(alloc, config)?;
-        let tenants = new_tenants(alloc, config)?;
+        let connections = new_connections(alloc, gens)?;
+        let tenants = new_tenants(alloc, gens)?;
         Ok(World {
-            config,
+            gens,
             connections,
             tenants,
             alloc,
@@ -66,14 +66,18 @@ impl<'c> World<'c> {
     #[tactic(auto, using(crate::proofs::Counting::one_more))]
     pub fn step(&mut self, step: Step) -> Result<Answer, Memory>
         requires { HasNumber (state_of self.old) step }
-        ensures config { config_of self.new ≡ config_of self.old }
-        ensures moves { Does (refused_step (state_of self.old) step) (step_of (config_of self.old) (state_of self.old) step) (state_of self.new) result }
-        ensures needs { OnErr result (StepNeeds (config_of self.old) (state_of self.old) step) }
+        ensures gens { gens_of self.new ≡ gens_of self.old }
+        ensures moves { Does (refused_step (state_of self.old) step) (step_of (gens_of self.old) (state_of self.old) step) (state_of self.new) result }
+        ensures needs { OnErr result (StepNeeds (gens_of self.old).first (state_of self.old) step) }
         ensures counts { (most : ℕ) → AcceptedAtMost most (state_of self.old) → AcceptedAtMost (most + 1) (state_of self.new) }
     {
         match step {
             Step::Offer(conn, line) => self.connection_step(conn, ConnectionStep::Offer(line)),
             Step::Close(conn) => self.connection_step(conn, ConnectionStep::Close),
+            Step::Renew(conn) => {
+                let count = self.gens.count();
+                self.connection_step(conn, ConnectionStep::Renew(count))
+            }
             Step::Take(conn) => self.connection_step(conn, ConnectionStep::Take),
             Step::Send(conn) => self.send(conn),
             Step::Fetch(tenant, count) => self.tenant_step(tenant, TenantStep::Fetch(count)),
@@ -113,8 +117,8 @@ impl<'c> World<'c> {
     // What a connection does by itself: `Idle` where there is none of that number.
     fn connection_step(&mut self, conn: ConnId, step: ConnectionStep) -> Result<Answer, Memory>
         requires { (connection : ConnectionState) → slice_get (state_of self.old).connections conn.0 ≡ Some connection → HasNumberLeft step connection }
-        ensures config { config_of self.new ≡ config_of self.old }
-        ensures moves { Does (state_of self.old) (on_connection (connection_step (config_of self.old) conn.0 step) conn.0 (state_of self.old)) (state_of self.new) result }
+        ensures gens { gens_of self.new ≡ gens_of self.old }
+        ensures moves { Does (state_of self.old) (on_connection (connection_step (gens_of self.old) conn.0 step) conn.0 (state_of self.old)) (state_of self.new) result }
         ensures needs { OnErr result (IsThere (ConnectionNeeds step) (slice_get (state_of self.old).connections conn.0)) }
     {
         match self.connections.get_mut(conn.0 as usize) {
@@ -124,7 +128,7 @@ impl<'c> World<'c> {
     }
 
     fn send(&mut self, conn: ConnId) -> Result<Answer, Memory>
-        ensures config { config_of self.new ≡ config_of self.old }
+        ensures gens { gens_of self.new ≡ gens_of self.old }
         ensures moves { Does (state_of self.old) (send conn.0 (state_of self.old)) (state_of self.new) result }
     {
         match self.connections.get_mut(conn.0 as usize) {
@@ -135,9 +139,9 @@ impl<'c> World<'c> {
 
     // What a tenant's worker does by itself: `Idle` where there is no tenant of that number.
     fn tenant_step(&mut self, tenant: TenantId, step: TenantStep) -> Result<Answer, Memory>
-        ensures config { config_of self.new ≡ config_of self.old }
-        ensures moves { Does (state_of self.old) (on_tenant (tenant_step (config_of self.old) tenant.0 step) tenant.0 (state_of self.old)) (state_of self.new) result }
-        ensures needs { OnErr result (IsThere (TenantNeeds (config_of self.old) tenant.0 step) (slice_get (state_of self.old).tenants tenant.0)) }
+        ensures gens { gens_of self.new ≡ gens_of self.old }
+        ensures moves { Does (state_of self.old) (on_tenant (tenant_step (gens_of self.old) tenant.0 step) tenant.0 (state_of self.old)) (state_of self.new) result }
+        ensures needs { OnErr result (IsThere (TenantNeeds (gens_of self.old).first tenant.0 step) (slice_get (state_of self.old).tenants tenant.0)) }
     {
         match self.tenants.get_mut(tenant.0 as usize) {
             Some(tenant) => tenant.step(self.alloc, step),
@@ -152,13 +156,13 @@ impl<'c> World<'c> {
         pipeline: PipelineId,
         step: PipelineStep,
     ) -> Result<Answer, Memory>
-        ensures config { config_of self.new ≡ config_of self.old }
-        ensures moves { Does (refused_at step tenant.0 pipeline.0 (state_of self.old)) (on_tenant (on_pipeline (pipeline_step (config_of self.old) step) pipeline.0) tenant.0 (state_of self.old)) (state_of self.new) result }
+        ensures gens { gens_of self.new ≡ gens_of self.old }
+        ensures moves { Does (refused_at step tenant.0 pipeline.0 (state_of self.old)) (on_tenant (on_pipeline (pipeline_step (gens_of self.old).first step) pipeline.0) tenant.0 (state_of self.old)) (state_of self.new) result }
         ensures needs { OnErr result (IsThere (PipelineNeeds step) (pipeline_at tenant.0 pipeline.0 (state_of self.old))) }
     {
         match self.tenants.get_mut(tenant.0 as usize) {
             Some(tenant) => match tenant.pipelines.get_mut(pipeline.0 as usize) {
-                Some(pipeline) => pipeline.step(self.config, step),
+                Some(pipeline) => pipeline.step(self.gens.first(), step),
                 None => Ok(Answer::Idle),
             },
             None => Ok(Answer::Idle),

@@ -1,15 +1,18 @@
 //! Batches of events: their columns, and what pipelines select of them.
-use gate_config::Config;
+use gate_config::Generations;
 use gate_intern::{Columns, Field, MAX_ROWS};
 use gate_match::Program;
 use gate_record::{Event, Memory, Shared, TenantId};
 use gate_refusing::{
-    APPROVED, DELETED, Elsewhere, Log, MADE, UPLOADED, WHOLE, config_of, event_of, made, say,
+    APPROVED, DELETED, Elsewhere, Log, MADE, UPLOADED, WHOLE, WHOLE_LATER, event_of, gens_of, made,
+    say,
 };
 use std::alloc::Global;
 
-// The events of a batch, and the connection of each.
+// The events of a batch, and the generation and the connection of each.
 const LINES: [&str; 6] = [UPLOADED, APPROVED, DELETED, UPLOADED, MADE, APPROVED];
+
+const GENS: [u32; 6] = [0, 1, 0, 1, 1, 0];
 
 const CONNS: [u32; 6] = [0, 0, 0, 1, 0, 1];
 
@@ -24,13 +27,13 @@ const FIELDS: [Field; 7] = [
 ];
 
 pub(crate) fn run(log: &mut Log, alloc: Global) -> Result<(), Elsewhere> {
-    let config = config_of(log, alloc, WHOLE)?;
-    match_lines(log, alloc, &config)
+    let gens = gens_of(log, alloc, &[WHOLE, WHOLE_LATER])?;
+    match_lines(log, alloc, &gens)
 }
 
-fn match_lines(log: &mut Log, alloc: Global, config: &Config) -> Result<(), Elsewhere> {
+fn match_lines(log: &mut Log, alloc: Global, gens: &Generations) -> Result<(), Elsewhere> {
     let events = events(alloc)?;
-    match_events(log, alloc, config, events.as_slice())
+    match_events(log, alloc, gens, events.as_slice())
 }
 
 fn events(alloc: Global) -> Result<Vec<Shared<Event>>, Elsewhere> {
@@ -44,11 +47,11 @@ fn events(alloc: Global) -> Result<Vec<Shared<Event>>, Elsewhere> {
 fn match_events(
     log: &mut Log,
     alloc: Global,
-    config: &Config,
+    gens: &Generations,
     events: &[Shared<Event>],
 ) -> Result<(), Elsewhere> {
     let call = "gate_match Program::new";
-    let program = made!(log, call, Program::new(alloc, config, TenantId(0)))?;
+    let program = made!(log, call, Program::new(alloc, gens, TenantId(0)))?;
     match_twice(log, alloc, &program, events)
 }
 
@@ -104,11 +107,11 @@ fn select(
     program: &Program<'_>,
     columns: &Columns<'_>,
 ) -> Result<Vec<Vec<u32>>, Memory> {
-    let conns = CONNS.as_slice();
-    if conns.len() != columns.rows() {
+    let (gens, conns) = (GENS.as_slice(), CONNS.as_slice());
+    if gens.len() != columns.rows() || conns.len() != columns.rows() {
         return Err(Memory);
     }
-    program.select(alloc, columns, conns)
+    program.select(alloc, columns, gens, conns)
 }
 
 fn show_columns(columns: &Columns<'_>, text: &mut String) {

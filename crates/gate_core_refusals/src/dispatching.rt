@@ -1,8 +1,9 @@
 //! A tenant's dispatch: what is gathered, matched and given.
-use gate_config::Config;
+use gate_config::Generations;
 use gate_record::{ConnId, Memory, PipelineId, PipelineItem, Stamp, Stamped, TenantId, TenantItem};
 use gate_refusing::{
-    APPROVED, Elsewhere, Log, MADE, UPLOADED, WHOLE, config_of, event_of, given, kept, made, say,
+    APPROVED, Elsewhere, Log, MADE, UPLOADED, WHOLE, WHOLE_LATER, event_of, gens_of, given, kept,
+    made, say,
 };
 use gate_tenant::Dispatch;
 use std::alloc::{AllocFailed, Global};
@@ -10,22 +11,22 @@ use std::alloc::{AllocFailed, Global};
 const NEW: &str = "gate_tenant Dispatch::new";
 
 pub(crate) fn run(log: &mut Log, alloc: Global) -> Result<(), Elsewhere> {
-    let config = config_of(log, alloc, WHOLE)?;
-    dispatch_both(log, alloc, &config)
+    let gens = gens_of(log, alloc, &[WHOLE, WHOLE_LATER])?;
+    dispatch_both(log, alloc, &gens)
 }
 
-fn dispatch_both(log: &mut Log, alloc: Global, config: &Config) -> Result<(), Elsewhere> {
-    dispatch_for(log, alloc, config, TenantId(1))?;
-    dispatch_for(log, alloc, config, TenantId(0))
+fn dispatch_both(log: &mut Log, alloc: Global, gens: &Generations) -> Result<(), Elsewhere> {
+    dispatch_for(log, alloc, gens, TenantId(1))?;
+    dispatch_for(log, alloc, gens, TenantId(0))
 }
 
 fn dispatch_for(
     log: &mut Log,
     alloc: Global,
-    config: &Config,
+    gens: &Generations,
     tenant: TenantId,
 ) -> Result<(), Elsewhere> {
-    let mut dispatch = made!(log, NEW, Dispatch::new(alloc, config, tenant))?;
+    let mut dispatch = made!(log, NEW, Dispatch::new(alloc, gens, tenant))?;
     dispatch_all(log, alloc, &mut dispatch, tenant)
 }
 
@@ -82,7 +83,16 @@ fn item_of(alloc: Global, line: &str) -> Result<TenantItem, Elsewhere> {
     let event = event_of(alloc, line)?;
     let conn = ConnId(0);
     let stamp = Stamp { conn, number: 7 };
-    Ok(TenantItem::Event(Stamped { stamp, event }))
+    Ok(TenantItem::Event(Stamped {
+        stamp,
+        generation: generation_of(line),
+        event,
+    }))
+}
+
+// Generations change within a batch.
+fn generation_of(line: &str) -> u32 {
+    if line == APPROVED { 0 } else { 1 }
 }
 
 // Where room was made, no item is refused.
@@ -191,6 +201,9 @@ fn tell_given(log: &mut Log, given: Option<(PipelineId, PipelineItem)>) {
 fn tell_item(log: &mut Log, pipeline: PipelineId, item: &PipelineItem) {
     match item {
         PipelineItem::End => say!(log.told, "{}: end\n", pipeline.0),
-        PipelineItem::Event(stamped) => say!(log.told, "{}: {:?}\n", pipeline.0, stamped.stamp),
+        PipelineItem::Event(stamped) => {
+            let (stamp, generation) = (stamped.stamp, stamped.generation);
+            say!(log.told, "{}: {stamp:?} by {generation}\n", pipeline.0);
+        }
     }
 }

@@ -1,21 +1,38 @@
 //! A forwarder's hand, loaded and sent.
-use gate_config::Config;
-use gate_forward::Forward;
+use gate_config::Generations;
+use gate_forward::{Forward, Last};
 use gate_record::{ConnId, Record, Stamped, TenantId, TenantItem};
 use gate_refusing::{
-    APPROVED, Elsewhere, Log, UPLOADED, WHOLE, config_of, given, record_of, say, show_record,
+    APPROVED, Elsewhere, Log, UPLOADED, WHOLE, WHOLE_LATER, gens_of, given, record_of, say,
+    show_record,
 };
 use std::alloc::{AllocFailed, Global};
 
 pub(crate) fn run(log: &mut Log, alloc: Global) -> Result<(), Elsewhere> {
-    let config = config_of(log, alloc, WHOLE)?;
-    forward_all(log, alloc, &config)
+    let gens = gens_of(log, alloc, &[WHOLE, WHOLE_LATER])?;
+    forward_all(log, alloc, &gens)
 }
 
-fn forward_all(log: &mut Log, alloc: Global, config: &Config) -> Result<(), Elsewhere> {
-    let mut forward = Forward::new(config, ConnId(0));
+fn forward_all(log: &mut Log, alloc: Global, gens: &Generations) -> Result<(), Elsewhere> {
+    let mut forward = Forward::new(gens, ConnId(0));
     for line in [UPLOADED, "no JSON", APPROVED] {
         forward_line(log, alloc, &mut forward, line)?;
+    }
+    renew(log, &mut forward)?;
+    for line in [UPLOADED, "no JSON", APPROVED] {
+        forward_line(log, alloc, &mut forward, line)?;
+    }
+    renew(log, &mut forward)
+}
+
+// Brings the next generation in force, once, for which no memory is asked.
+fn renew(log: &mut Log, forward: &mut Forward<'_>) -> Result<(), Elsewhere> {
+    if forward.is_out() || !forward.is_empty() {
+        return Err(log.unexpected("item in the hand"));
+    }
+    match forward.load_renew() {
+        Ok(()) => say!(log.told, "renewed\n"),
+        Err(Last) => say!(log.told, "last\n"),
     }
     Ok(())
 }
@@ -93,5 +110,9 @@ fn tell_item(log: &mut Log, tenant: TenantId, item: &TenantItem) {
 
 fn tell_event(log: &mut Log, tenant: u32, stamped: &Stamped) {
     let (stamp, change) = (stamped.stamp, stamped.event.get().change);
-    say!(log.told, "{tenant}: {stamp:?} {change:?}\n");
+    say!(
+        log.told,
+        "{tenant}: {stamp:?} {change:?} by {}\n",
+        stamped.generation
+    );
 }

@@ -129,7 +129,12 @@ fn stamped(alloc: Global, line: &str) -> Result<PipelineItem, Elsewhere> {
     let event = event_of(alloc, line)?;
     let conn = ConnId(0);
     let stamp = Stamp { conn, number: 3 };
-    Ok(PipelineItem::Event(Stamped { stamp, event }))
+    let generation = 0;
+    Ok(PipelineItem::Event(Stamped {
+        stamp,
+        generation,
+        event,
+    }))
 }
 
 // Hands in what the worker wants. Where memory is refused it holds that, and nothing else is seen to change; it wants it again then.

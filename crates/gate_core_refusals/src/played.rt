@@ -1,7 +1,7 @@
 //! A world that takes one step after another.
 ghost use Rattle.gate_core.specs.Worlds.{AcceptedAtMost, state_of};
 
-use gate_config::Config;
+use gate_config::Generations;
 use gate_core::{Answer, RunReport, Step, World, report_text, show_text};
 use gate_record::{Memory, PipelineId, TenantId};
 use gate_refusing::{Elsewhere, Log, made, say};
@@ -16,18 +16,18 @@ const MOST: u64 = 1_000_000;
 #[derive(Drop)]
 pub(crate) struct Played<'c> {
     alloc: Global,
-    config: &'c Config,
+    gens: &'c Generations,
     world: World<'c>,
     steps: u64,
     ghost counts: { AcceptedAtMost steps (state_of world) },
 }
 
 impl<'c> Played<'c> {
-    pub(crate) fn new(alloc: Global, config: &'c Config) -> Result<Played<'c>, Memory> {
+    pub(crate) fn new(alloc: Global, gens: &'c Generations) -> Result<Played<'c>, Memory> {
         Ok(Played {
             alloc,
-            config,
-            world: World::new(alloc, config)?,
+            gens,
+            world: World::new(alloc, gens)?,
             steps: 0,
         })
     }
@@ -71,7 +71,7 @@ impl<'c> Played<'c> {
 
     fn tell(&self, log: &mut Log, answer: &Answer) -> Result<(), Elsewhere> {
         say!(log.told, "{answer:?}\n");
-        tell_report(log, self.alloc, self.config, &self.world)?;
+        tell_report(log, self.alloc, self.gens, &self.world)?;
         tell_items(log, self.alloc, &self.world, PipelineId(0))?;
         tell_items(log, self.alloc, &self.world, PipelineId(1))
     }
@@ -87,21 +87,21 @@ impl<'c> Played<'c> {
 fn tell_report(
     log: &mut Log,
     alloc: Global,
-    config: &Config,
+    gens: &Generations,
     world: &World<'_>,
 ) -> Result<(), Elsewhere> {
     let report = made!(log, "gate_core World::report", world.report())?;
-    tell_text(log, alloc, config, &report)
+    tell_text(log, alloc, gens, &report)
 }
 
 fn tell_text(
     log: &mut Log,
     alloc: Global,
-    config: &Config,
+    gens: &Generations,
     report: &RunReport,
 ) -> Result<(), Elsewhere> {
     let call = "gate_core report_text";
-    let text = made!(log, call, report_text(alloc, config, report))?;
+    let text = made!(log, call, report_text(alloc, gens.first(), report))?;
     say!(log.told, "{text}");
     Ok(())
 }

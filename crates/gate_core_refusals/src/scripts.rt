@@ -1,20 +1,27 @@
 //! Scripts, read and played as a whole.
-use gate_config::Config;
+use gate_config::Generations;
 use gate_core::{
     ReplayFault, ScriptFault, Scripted, Step, Transcript, play, read_script, replay,
     run as run_steps,
 };
 use gate_record::{Memory, Queue};
-use gate_refusing::{Elsewhere, Log, PLAIN, config_of, made, say};
+use gate_refusing::{Elsewhere, Log, PLAIN, PLAIN_LATER, documents_of, gens_of, made, say};
 use std::alloc::Global;
 
 const SCRIPT: &str = r#"
-# One change comes to both pipelines.
+# One change comes to both pipelines, and by the next generation to one of them.
 offer 0 {"type":"patchset-created","change":{"project":"demo","branch":"master","number":7},"patchSet":{"number":1}}
+renew 0
+offer 0 {"type":"comment-added","change":{"project":"demo","branch":"master","number":7},"patchSet":{"number":1}}
 take 0
 send 0
-fetch 0 1
+take 0
+take 0
+send 0
+fetch 0 2
 match 0
+give 0
+give 0
 give 0
 give 0
 turn 0 0
@@ -45,25 +52,37 @@ const READ: &str = "gate_core read_script";
 const PLAY: &str = "gate_core play";
 
 pub(crate) fn run(log: &mut Log, alloc: Global) -> Result<(), Elsewhere> {
-    replay_one(log, alloc, PLAIN, SCRIPT);
+    replay_one(log, alloc, &[PLAIN], SCRIPT)?;
+    replay_one(log, alloc, &[PLAIN, PLAIN_LATER], SCRIPT)?;
+    replay_one(log, alloc, &[PLAIN, PLAIN_LATER, "{"], SCRIPT)?;
     for script in FAULTY {
-        replay_one(log, alloc, PLAIN, script);
+        replay_one(log, alloc, &[PLAIN], script)?;
         read_faulty(log, alloc, script);
     }
     for document in NO_CONFIGURATION {
-        replay_one(log, alloc, document, SCRIPT);
+        replay_one(log, alloc, &[document], SCRIPT)?;
     }
-    let config = config_of(log, alloc, PLAIN)?;
-    run_both(log, alloc, &config)
+    let gens = gens_of(log, alloc, &[PLAIN, PLAIN_LATER])?;
+    run_both(log, alloc, &gens)
 }
 
-fn replay_one(log: &mut Log, alloc: Global, document: &str, script: &str) {
-    let (config, script) = (document.as_bytes(), script.as_bytes());
+fn replay_one(
+    log: &mut Log,
+    alloc: Global,
+    documents: &[&str],
+    script: &str,
+) -> Result<(), Elsewhere> {
+    let documents = documents_of(alloc, documents)?;
+    replay_bytes(log, alloc, documents.as_slice(), script.as_bytes());
+    Ok(())
+}
+
+fn replay_bytes(log: &mut Log, alloc: Global, documents: &[Vec<u8>], script: &[u8]) {
     match made!(
         log,
         REPLAY,
         ReplayFault::Memory,
-        replay(alloc, config, script)
+        replay(alloc, documents, script)
     ) {
         Ok(text) => say!(log.told, "{text}"),
         Err(fault) => say!(log.told, "{fault}\n"),
@@ -96,20 +115,20 @@ pub(crate) fn script_of(
 }
 
 // The same steps by `run`, which is given a list, and by `play`, which takes a queue over.
-fn run_both(log: &mut Log, alloc: Global, config: &Config) -> Result<(), Elsewhere> {
+fn run_both(log: &mut Log, alloc: Global, gens: &Generations) -> Result<(), Elsewhere> {
     let lines = script_of(log, alloc, SCRIPT)?;
     let steps = steps_of(alloc, lines)?;
-    run_and_play(log, alloc, config, steps.as_slice())
+    run_and_play(log, alloc, gens, steps.as_slice())
 }
 
 fn run_and_play(
     log: &mut Log,
     alloc: Global,
-    config: &Config,
+    gens: &Generations,
     steps: &[Step],
 ) -> Result<(), Elsewhere> {
-    run_all(log, alloc, config, steps)?;
-    play_all(log, alloc, config, steps)
+    run_all(log, alloc, gens, steps)?;
+    play_all(log, alloc, gens, steps)
 }
 
 fn steps_of(alloc: Global, mut lines: Queue<Scripted>) -> Result<Vec<Step>, Elsewhere> {
@@ -127,23 +146,28 @@ fn push_step(steps: &mut Vec<Step>, line: Option<Scripted>) -> Result<(), Elsewh
     }
 }
 
-fn run_all(log: &mut Log, alloc: Global, config: &Config, steps: &[Step]) -> Result<(), Elsewhere> {
-    let transcript = made!(log, "gate_core run", run_steps(alloc, config, steps))?;
+fn run_all(
+    log: &mut Log,
+    alloc: Global,
+    gens: &Generations,
+    steps: &[Step],
+) -> Result<(), Elsewhere> {
+    let transcript = made!(log, "gate_core run", run_steps(alloc, gens, steps))?;
     tell(log, &transcript)
 }
 
 fn play_all(
     log: &mut Log,
     alloc: Global,
-    config: &Config,
+    gens: &Generations,
     steps: &[Step],
 ) -> Result<(), Elsewhere> {
     let (first, again) = (queue_of(alloc, steps)?, queue_of(alloc, steps)?);
-    match play(alloc, config, first) {
+    match play(alloc, gens, first) {
         Ok(transcript) => return tell(log, &transcript),
         Err(Memory) => log.tell_refused(PLAY),
     }
-    match play(alloc, config, again) {
+    match play(alloc, gens, again) {
         Ok(transcript) => tell(log, &transcript),
         Err(Memory) => Err(log.tell_twice(PLAY)),
     }

@@ -1,10 +1,10 @@
 //! Steps of a world, each kind of them, and what it says.
 use crate::played::Played;
 use crate::scripts::script_of;
-use gate_config::Config;
+use gate_config::Generations;
 use gate_core::Scripted;
 use gate_record::Queue;
-use gate_refusing::{Elsewhere, Log, PLAIN, config_of, made};
+use gate_refusing::{Elsewhere, Log, PLAIN, PLAIN_LATER, gens_of, made};
 use std::alloc::Global;
 
 // Each kind of step, and steps that find nothing to do.
@@ -12,9 +12,16 @@ const SCRIPT: &str = r#"
 offer 0 {"type":"patchset-created","change":{"project":"demo","branch":"master","number":7},"patchSet":{"number":1}}
 offer 0 {"type":"ref-updated","refUpdate":{"project":"demo","refName":"refs/heads/main","newRev":"2e9c"}}
 offer 1 {"type":"comment-added","change":{"project":"demo","branch":"master","number":8},"patchSet":{"number":2}}
+renew 0
+renew 0
+renew 9
+offer 0 {"type":"comment-added","change":{"project":"demo","branch":"master","number":7},"patchSet":{"number":1}}
 offer 9 nothing
 take 0
 send 0
+take 0
+send 0
+take 0
 take 0
 send 0
 take 1
@@ -50,11 +57,14 @@ turn 0 0
 turn 0 0
 turn 0 1
 turn 0 1
+renew 1
 close 0
 close 1
+renew 1
 offer 0 late
 take 0
 send 0
+take 1
 take 1
 send 1
 fetch 0 9
@@ -67,22 +77,22 @@ turn 0 0
 "#;
 
 pub(crate) fn run(log: &mut Log, alloc: Global) -> Result<(), Elsewhere> {
-    let config = config_of(log, alloc, PLAIN)?;
-    read_and_play(log, alloc, &config)
+    let gens = gens_of(log, alloc, &[PLAIN, PLAIN_LATER])?;
+    read_and_play(log, alloc, &gens)
 }
 
-fn read_and_play(log: &mut Log, alloc: Global, config: &Config) -> Result<(), Elsewhere> {
+fn read_and_play(log: &mut Log, alloc: Global, gens: &Generations) -> Result<(), Elsewhere> {
     let mut script = script_of(log, alloc, SCRIPT)?;
-    play(log, alloc, config, &mut script)
+    play(log, alloc, gens, &mut script)
 }
 
 fn play(
     log: &mut Log,
     alloc: Global,
-    config: &Config,
+    gens: &Generations,
     script: &mut Queue<Scripted>,
 ) -> Result<(), Elsewhere> {
-    let mut played = made!(log, "gate_core World::new", Played::new(alloc, config))?;
+    let mut played = made!(log, "gate_core World::new", Played::new(alloc, gens))?;
     play_all(log, &mut played, script)
 }
 

@@ -2,6 +2,8 @@
 #![tactic(auto)]
 
 #[cfg(test)]
+mod renewals;
+#[cfg(test)]
 mod scripts;
 #[cfg(test)]
 mod steps;

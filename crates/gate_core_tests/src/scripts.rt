@@ -1,5 +1,5 @@
 //! Scripts that are read, and faults in words.
-use gate_config::ConfigFault;
+use gate_config::{ConfigFault, GenerationFault};
 use gate_core::{ReplayFault, ScriptFault, read_script};
 use gate_test_lines::comes_to;
 use std::alloc::{AllocError, Global};
@@ -30,7 +30,7 @@ fn writes_what_a_script_lacks(rt: HostRuntime) -> Result<(), Fail> {
     comes_to(
         "faults",
         text.as_str(),
-        "script 7, memory; script 7, memory, not-json",
+        "script 7, memory; script 7, memory, generations, not-json, generation 1 not-json",
     )
 }
 
@@ -42,7 +42,13 @@ fn faults(alloc: Global) -> Result<String, AllocError> {
 }
 
 fn push_replay_faults(text: &mut String) -> Result<(), AllocError> {
-    let config = ReplayFault::Config(ConfigFault::NotJson);
     let (script, memory) = (ReplayFault::Script(7), ReplayFault::Memory);
-    write!(text, "{script}, {memory}, {config}")
+    write!(text, "{script}, {memory}")?;
+    push_generation_fault(text, GenerationFault::Count)?;
+    push_generation_fault(text, GenerationFault::Document(0, ConfigFault::NotJson))?;
+    push_generation_fault(text, GenerationFault::Document(1, ConfigFault::NotJson))
+}
+
+fn push_generation_fault(text: &mut String, fault: GenerationFault) -> Result<(), AllocError> {
+    write!(text, ", {}", ReplayFault::Generations(fault))
 }

@@ -1,5 +1,5 @@
 //! Steps of no script.
-use gate_config::{Config, read_config};
+use gate_config::{Config, Generations, read_config};
 use gate_core::{Answer, Step, Transcript, World, report_text, run, show_text};
 use gate_record::{ConnId, PipelineId, TenantId};
 use gate_test_lines::{comes_to, record_of};
@@ -19,20 +19,26 @@ pipeline "main" "check" running
 done "main" "check" "gerrit"
 "#;
 
-#[test]
-fn runs_steps_and_reports(rt: HostRuntime) -> Result<(), Fail> {
-    let config = read_config(rt.alloc(), BASE.as_bytes())?;
-    runs(rt.alloc(), &config)
+// The base as a configuration that stays as it is.
+fn one(alloc: Global) -> Result<Generations, Fail> {
+    let config = read_config(alloc, BASE.as_bytes())?;
+    Ok(Generations::of(alloc, config))
 }
 
-fn runs(alloc: Global, config: &Config) -> Result<(), Fail> {
+#[test]
+fn runs_steps_and_reports(rt: HostRuntime) -> Result<(), Fail> {
+    let gens = one(rt.alloc())?;
+    runs(rt.alloc(), &gens)
+}
+
+fn runs(alloc: Global, gens: &Generations) -> Result<(), Fail> {
     let steps = [
         Step::Offer(ConnId(0), record_of(alloc, "{}")?),
         Step::Take(ConnId(0)),
         Step::Turn(TenantId(0), PipelineId(0)),
     ];
-    let transcript = run(alloc, config, &steps)?;
-    is_told(alloc, config, &transcript)
+    let transcript = run(alloc, gens, &steps)?;
+    is_told(alloc, gens.first(), &transcript)
 }
 
 fn is_told(alloc: Global, config: &Config, transcript: &Transcript<'_>) -> Result<(), Fail> {
@@ -78,12 +84,12 @@ fn push_report(
 
 #[test]
 fn takes_a_step(rt: HostRuntime) -> Result<(), Fail> {
-    let config = read_config(rt.alloc(), BASE.as_bytes())?;
-    steps(rt.alloc(), &config)
+    let gens = one(rt.alloc())?;
+    steps(rt.alloc(), &gens)
 }
 
-fn steps(alloc: Global, config: &Config) -> Result<(), Fail> {
-    let mut world = World::new(alloc, config)?;
+fn steps(alloc: Global, gens: &Generations) -> Result<(), Fail> {
+    let mut world = World::new(alloc, gens)?;
     comes_to("a step", stepped(&mut world)?, "moved")
 }
 

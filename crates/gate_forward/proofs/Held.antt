@@ -5,7 +5,7 @@ use Rattle.std.proofs.Math.Seq.{set-append_seam}
 use Rattle.std.proofs.lemmas.List.FromFn.{length-map-range_with_len, map-range_with_len_more}
 use Rattle.std.proofs.lemmas.List.{append_assoc}
 use Rattle.gate_record.specs.declared.transit.TenantItem.{TenantItem}
-use Rattle.gate_config.specs.declared.config.Config.{Config}
+use Rattle.gate_config.specs.declared.generations.Generations.{Generations}
 use Rattle.gate_config.specs.Limits.{most_tenants}
 use Rattle.gate_config.specs.Lookups.{tenants_of}
 use Rattle.gate_forward.specs.Forwarding.{by_tenant, for_tenant}
@@ -47,8 +47,8 @@ module _ (gets : ℕ → Option TenantItem) where
   none_yet = by refl
 
   -- all tenants have what they get
-  pub all_filled : (config : Config) {i : ℕ} {items : List (Option TenantItem)} → i ≡ length (tenants_of config) → AreFilled i items → held 0 items ≡ by_tenant config gets
-  all_filled config {i} {items} e (by is) =
+  pub all_filled : (gens : Generations) {i : ℕ} {items : List (Option TenantItem)} → i ≡ length (tenants_of gens.first) → AreFilled i items → held 0 items ≡ by_tenant gens gets
+  all_filled gens {i} {items} e (by is) =
       ap (held 0) is ∙ all_held 0 i (most_tenants - i) ∙ ap (λ n. filter_map (λ u. option_map (for_tenant u) (gets u)) (range_with_len 0 n)) e
 
 nobody_from : (t n : ℕ) → filter_map (λ u. option_map (for_tenant u) None) (range_with_len t n) ≡ []
@@ -56,5 +56,5 @@ nobody_from t zero = refl
 nobody_from t (suc n) = nobody_from (t + 1) n
 
 -- where nobody gets anything
-pub nobody : (config : Config) → held 0 (replicate most_tenants None) ≡ by_tenant config (λ _. None)
-nobody config = none_held 0 most_tenants ∙ sym (nobody_from 0 (length (tenants_of config)))
+pub nobody : (gens : Generations) → held 0 (replicate most_tenants None) ≡ by_tenant gens (λ _. None)
+nobody gens = none_held 0 most_tenants ∙ sym (nobody_from 0 (length (tenants_of gens.first)))

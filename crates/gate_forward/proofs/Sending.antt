@@ -2,16 +2,19 @@
 use Rattle.std.proofs.Common.{◌≡◌, ◌∙◌, refl, sym, ap, ℕ, zero, suc, ◌+◌, ◌<◌, ◌==◌, List, [], ◌∷◌, ◌++◌, Bool, true, false, length, Option, Some, None, option_map, if◌then◌else◌, append-nil, append_assoc, arith, eqb-true}
 use Rattle.std.proofs.lemmas.Bool.{eq-eqb}
 use Rattle.std.proofs.lemmas.List.Elements.{filter_map-append}
+use Rattle.std.proofs.lemmas.List.Sums.{fold-append}
 use Rattle.std.specs.List.{cons_option, filter_map, range_with_len}
 use Rattle.std.specs.Option.{option_to_list}
 use Rattle.gate_record.specs.declared.ids.TenantId.{TenantId}
 use Rattle.gate_record.specs.declared.transit.ConnEntry.{ConnEntry}
 use Rattle.gate_record.specs.declared.transit.ConnEntry.TheVariants as entry
 use Rattle.gate_record.specs.declared.transit.TenantItem.{TenantItem}
-use Rattle.gate_config.specs.declared.config.Config.{Config}
+use Rattle.gate_record.specs.Entries.{behind, generation_behind, with_generations}
+use Rattle.gate_record.specs.Generations.{EntriesHaveGenerations}
+use Rattle.gate_config.specs.declared.generations.Generations.{Generations}
 use Rattle.gate_config.specs.Lookups.{tenants_of}
-use Rattle.gate_forward.specs.Forwarding.{for_tenant, forwarded, forwarded_entry, sends}
-use Rattle.gate_forward.specs.Histories.{EachTenantGetsItsOwn, Happens, History, begins, comes_back, ends, is_sent, item_to, items_to, loads, moves}
+use Rattle.gate_forward.specs.Forwarding.{for_tenant, forwarded, forwarded_at, forwarded_entry, sends}
+use Rattle.gate_forward.specs.Histories.{EachTenantGetsItsOwn, Happens, History, begins, comes_back, ends, is_sent, item_to, items_to, loads, moves, renews}
 
 differs : (a t : ℕ) → (a ≡ t → ⊥) → (a == t) ≡ false
 differs a t other = by (a == t) refl
@@ -31,25 +34,25 @@ module _ (gets : ℕ → Option TenantItem) where
   others t u None rest e = refl
   others t u (Some item) rest e = ap (λ b. cons_option (if b then Some item else None) (items_to t rest)) e
 
-  behind : (t a n : ℕ) → t < a → items_to t (filter_map (λ u. option_map (for_tenant u) (gets u)) (range_with_len a n)) ≡ []
-  behind t a zero h = refl
-  behind t a (suc n) h =
+  none_behind : (t a n : ℕ) → t < a → items_to t (filter_map (λ u. option_map (for_tenant u) (gets u)) (range_with_len a n)) ≡ []
+  none_behind t a zero h = refl
+  none_behind t a (suc n) h =
       others t a (gets a) (filter_map (λ u. option_map (for_tenant u) (gets u)) (range_with_len (a + 1) n)) (differs a t (λ e. absurd (omega (arith, e, h))))
-      ∙ behind t (a + 1) n (omega (arith, h))
+      ∙ none_behind t (a + 1) n (omega (arith, h))
 
   among : (t a k n : ℕ) → a + k ≡ t → k < n → items_to t (filter_map (λ u. option_map (for_tenant u) (gets u)) (range_with_len a n)) ≡ option_to_list (gets t)
   among t a k zero e h = absurd (omega (arith, h))
   among t a zero (suc n) e h =
       let at : a ≡ t = omega (arith, e) in
       mine t a (gets a) (filter_map (λ u. option_map (for_tenant u) (gets u)) (range_with_len (a + 1) n)) (eq-eqb a t at)
-      ∙ ap (λ xs. option_to_list (gets a) ++ xs) (behind t (a + 1) n (omega (arith, at)))
+      ∙ ap (λ xs. option_to_list (gets a) ++ xs) (none_behind t (a + 1) n (omega (arith, at)))
       ∙ append-nil (option_to_list (gets a)) ∙ ap (λ u. option_to_list (gets u)) at
   among t a (suc k) (suc n) e h =
       others t a (gets a) (filter_map (λ u. option_map (for_tenant u) (gets u)) (range_with_len (a + 1) n)) (differs a t (λ same. absurd (omega (arith, same, e))))
       ∙ among t (a + 1) k n (omega (arith, e)) (omega (arith, h))
 
-sent_to : (config : Config) (t c : ℕ) (e : ConnEntry) → t < length (tenants_of config) → items_to t (sends config c e) ≡ option_to_list (forwarded_entry config t c e)
-sent_to config t c e h = among (λ u. forwarded_entry config u c e) t 0 t (length (tenants_of config)) (omega arith) h
+sent_to : (gens : Generations) (t c g : ℕ) (e : ConnEntry) → t < length (tenants_of gens.first) → items_to t (sends gens c g e) ≡ option_to_list (forwarded_entry gens t c g e)
+sent_to gens t c g e h = among (λ u. forwarded_entry gens u c g e) t 0 t (length (tenants_of gens.first)) (omega arith) h
 
 -- ---- any history
 
@@ -57,24 +60,46 @@ one_more : (o : Option TenantItem) → option_to_list o ≡ cons_option o []
 one_more None = refl
 one_more (Some item) = refl
 
-module _ (config : Config) (t c : ℕ) (few : t < length (tenants_of config)) where
+one_behind : (entries : List ConnEntry) (e : ConnEntry) (g : ℕ) → g ≡ generation_behind 0 entries → behind g e ≡ generation_behind 0 (entries ++ e ∷ [])
+one_behind entries e g is = ap (λ n. behind n e) is ∙ sym (fold-append behind 0 entries (e ∷ []))
+
+module _ (gens : Generations) (c : ℕ) where
+  in_force : {h : History} → Happens gens c h → h.hand.generation ≡ generation_behind 0 h.loaded
+  in_force begins = refl
+  in_force (loads {h} n line before empty no_out) = one_behind h.loaded (entry.Numbered n line) h.hand.generation (in_force before)
+  in_force (ends {h} before empty no_out) = one_behind h.loaded entry.End h.hand.generation (in_force before)
+  in_force (renews {h} before empty no_out later) = one_behind h.loaded entry.Renew h.hand.generation (in_force before)
+  in_force (moves before no_out is) = in_force before
+  in_force (is_sent before out) = in_force before
+  in_force (comes_back before out) = in_force before
+
+module _ (laws : EntriesHaveGenerations) (gens : Generations) (t c : ℕ) (few : t < length (tenants_of gens.first)) where
   abbrev Shares : History → Type 0
-  Shares h = items_to t (h.sent ++ (option_to_list h.out ++ h.hand.items)) ≡ forwarded config t c h.loaded
+  Shares h = items_to t (h.sent ++ (option_to_list h.out ++ h.hand.items)) ≡ forwarded gens t c h.loaded
+
+  -- one more entry, at which the generation behind the others is in force
+  forwards_more : (entries : List ConnEntry) (e : ConnEntry) → forwarded gens t c (entries ++ e ∷ []) ≡ forwarded gens t c entries ++ cons_option (forwarded_entry gens t c (generation_behind 0 entries) e) []
+  forwards_more entries e =
+      ap (filter_map (forwarded_at gens t c)) (laws.joined 0 entries (e ∷ []))
+      ∙ filter_map-append (forwarded_at gens t c) (with_generations 0 entries) ((generation_behind 0 entries, e) ∷ [])
 
   -- one more entry is loaded into the empty hand
-  more : (h : History) (e : ConnEntry) → Shares h → h.hand.items ≡ [] → h.out ≡ None →
-      items_to t (h.sent ++ (option_to_list h.out ++ sends config c e)) ≡ forwarded config t c (h.loaded ++ e ∷ [])
-  more h e was empty no_out =
-      ap (λ o. items_to t (h.sent ++ (option_to_list o ++ sends config c e))) no_out
-      ∙ filter_map-append (item_to t) h.sent (sends config c e)
-      ∙ ap (λ xs. items_to t h.sent ++ xs) (sent_to config t c e few ∙ one_more (forwarded_entry config t c e))
-      ∙ ap (λ xs. xs ++ cons_option (forwarded_entry config t c e) []) (sym (ap (items_to t) (ap (λ o. h.sent ++ (option_to_list o ++ h.hand.items)) no_out ∙ ap (λ items. h.sent ++ items) empty ∙ append-nil h.sent)) ∙ was)
-      ∙ sym (filter_map-append (forwarded_entry config t c) h.loaded (e ∷ []))
+  more : {h : History} (e : ConnEntry) → Happens gens c h → Shares h → h.hand.items ≡ [] → h.out ≡ None →
+      items_to t (h.sent ++ (option_to_list h.out ++ sends gens c h.hand.generation e)) ≡ forwarded gens t c (h.loaded ++ e ∷ [])
+  more {h} e before was empty no_out =
+      let g = h.hand.generation in
+      ap (λ o. items_to t (h.sent ++ (option_to_list o ++ sends gens c g e))) no_out
+      ∙ filter_map-append (item_to t) h.sent (sends gens c g e)
+      ∙ ap (λ xs. items_to t h.sent ++ xs) (sent_to gens t c g e few ∙ one_more (forwarded_entry gens t c g e))
+      ∙ ap (λ xs. xs ++ cons_option (forwarded_entry gens t c g e) []) (sym (ap (items_to t) (ap (λ o. h.sent ++ (option_to_list o ++ h.hand.items)) no_out ∙ ap (λ items. h.sent ++ items) empty ∙ append-nil h.sent)) ∙ was)
+      ∙ ap (λ n. forwarded gens t c h.loaded ++ cons_option (forwarded_entry gens t c n e) []) (in_force gens c before)
+      ∙ sym (forwards_more h.loaded e)
 
-  share : {h : History} → Happens config c h → Shares h
+  share : {h : History} → Happens gens c h → Shares h
   share begins = refl
-  share (loads {h} n line before empty no_out) = more h (entry.Numbered n line) (share before) empty no_out
-  share (ends {h} before empty no_out) = more h entry.End (share before) empty no_out
+  share (loads {h} n line before empty no_out) = more (entry.Numbered n line) before (share before) empty no_out
+  share (ends {h} before empty no_out) = more entry.End before (share before) empty no_out
+  share (renews {h} before empty no_out later) = share before ∙ sym (forwards_more h.loaded entry.Renew ∙ append-nil (forwarded gens t c h.loaded))
   share (moves {h} {first} {items} before no_out is) =
       ap (λ xs. items_to t (h.sent ++ xs)) (sym (ap (λ o. option_to_list o ++ h.hand.items) no_out ∙ is)) ∙ share before
   share (is_sent {h} {item} before out) =
@@ -82,5 +107,9 @@ module _ (config : Config) (t c : ℕ) (few : t < length (tenants_of config)) wh
   share (comes_back {h} {item} before out) =
       ap (λ o. items_to t (h.sent ++ (option_to_list o ++ h.hand.items))) (sym out) ∙ share before
 
-pub each_tenant_gets_its_own : EachTenantGetsItsOwn
-each_tenant_gets_its_own config t c h few happens = share config t c few happens
+pub each_tenant_gets_its_own : EntriesHaveGenerations → EachTenantGetsItsOwn
+each_tenant_gets_its_own laws = record {
+  own = λ gens t c h few happens. share laws gens t c few happens;
+  in_force = λ gens c h happens. in_force gens c happens;
+  of_entry = sent_to;
+}

@@ -12,7 +12,9 @@ use Rattle.gate_record.specs.declared.transit.ConnEntry.TheVariants as entry
 use Rattle.gate_record.specs.declared.transit.TenantItem.{TenantItem}
 use Rattle.gate_record.specs.declared.transit.TenantItem.TheVariants as tenant
 use Rattle.gate_record.specs.Reading.{reading_of}
-use Rattle.gate_config.specs.declared.config.Config.{Config}
+use Rattle.gate_record.specs.Entries.{with_generations}
+use Rattle.gate_config.specs.declared.generations.Generations.{Generations}
+use Rattle.gate_config.specs.Generations.{config_at}
 use Rattle.gate_config.specs.Lookups.{lists, tenants_of}
 use Rattle.gate_config.specs.Selection.{is_listed}
 
@@ -22,32 +24,39 @@ conn_id c = record { 0 = c }
 abbrev pub tenant_id : ℕ → TenantId
 tenant_id t = record { 0 = t }
 
--- an event with the stamp of record n of connection c
-abbrev pub stamped : ℕ → ℕ → Event → Stamped
-stamped c n event = record { stamp = record { conn = conn_id c; number = n }; event = event }
+-- an event with the stamp of record n of connection c, at which generation g is in force
+abbrev pub stamped : ℕ → ℕ → ℕ → Event → Stamped
+stamped c g n event = record { stamp = record { conn = conn_id c; number = n }; generation = g; event = event }
 
-abbrev pub forwarded_reading : Config → ℕ → ℕ → ℕ → Reading → Option TenantItem
-forwarded_reading config t c n (reading.Event event) = if is_listed config t c event.project then Some (tenant.Event (stamped c n event)) else None
-forwarded_reading config t c n (reading.Nothing why) = None
+abbrev pub forwarded_reading : Generations → ℕ → ℕ → ℕ → ℕ → Reading → Option TenantItem
+forwarded_reading gens t c g n (reading.Event event) =
+    if is_listed (config_at gens g) t c event.project then Some (tenant.Event (stamped c g n event)) else None
+forwarded_reading gens t c g n (reading.Nothing why) = None
 
--- What tenant t gets of an entry of connection c: the event of a record whose project it lists there, and the end
--- mark of a connection that it lists.
-abbrev pub forwarded_entry : Config → ℕ → ℕ → ConnEntry → Option TenantItem
-forwarded_entry config t c (entry.Numbered n r) = forwarded_reading config t c n (reading_of r)
-forwarded_entry config t c entry.End = if lists config t c then Some (tenant.End (conn_id c)) else None
+-- What tenant t gets of an entry of connection c, at which generation g is in force: the event of a record whose project it
+-- lists there by that generation, and the end mark of a connection that it lists.
+abbrev pub forwarded_entry : Generations → ℕ → ℕ → ℕ → ConnEntry → Option TenantItem
+forwarded_entry gens t c g (entry.Numbered n r) = forwarded_reading gens t c g n (reading_of r)
+forwarded_entry gens t c g entry.Renew = None
+forwarded_entry gens t c g entry.End = if lists gens.first t c then Some (tenant.End (conn_id c)) else None
 
--- what tenant t gets of a list of entries of connection c, in order
-abbrev pub forwarded : Config → ℕ → ℕ → List ConnEntry → List TenantItem
-forwarded config t c entries = filter_map (forwarded_entry config t c) entries
+-- an entry beside the generation in force at it
+abbrev pub forwarded_at : Generations → ℕ → ℕ → ℕ × ConnEntry → Option TenantItem
+forwarded_at gens t c (g, e) = forwarded_entry gens t c g e
+
+-- what tenant t gets of a list of entries of connection c, in order, from the first generation on
+abbrev pub forwarded : Generations → ℕ → ℕ → List ConnEntry → List TenantItem
+forwarded gens t c entries = filter_map (forwarded_at gens t c) (with_generations 0 entries)
 
 -- an item for tenant t
 abbrev pub for_tenant : ℕ → TenantItem → TenantId × TenantItem
 for_tenant t item = (tenant_id t, item)
 
 -- what each tenant gets, in rising number of the tenants
-abbrev pub by_tenant : Config → (ℕ → Option TenantItem) → List (TenantId × TenantItem)
-by_tenant config gets = filter_map (λ t. option_map (for_tenant t) (gets t)) (range_with_len 0 (length (tenants_of config)))
+abbrev pub by_tenant : Generations → (ℕ → Option TenantItem) → List (TenantId × TenantItem)
+by_tenant gens gets = filter_map (λ t. option_map (for_tenant t) (gets t)) (range_with_len 0 (length (tenants_of gens.first)))
 
--- what an entry of connection c sends: what each tenant gets of it, in rising number of the tenants
-abbrev pub sends : Config → ℕ → ConnEntry → List (TenantId × TenantItem)
-sends config c entry = by_tenant config (λ t. forwarded_entry config t c entry)
+-- what an entry of connection c sends, at which generation g is in force: what each tenant gets of it, in rising number of
+-- the tenants
+abbrev pub sends : Generations → ℕ → ℕ → ConnEntry → List (TenantId × TenantItem)
+sends gens c g entry = by_tenant gens (λ t. forwarded_entry gens t c g entry)

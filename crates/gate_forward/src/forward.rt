@@ -1,8 +1,10 @@
 ghost use Rattle.std.specs.Prelude.{◌≡◌, ◌==◌, ◌&&◌, [], true, false, length, is_some, None, IfErr, IfOk, OnErr, OnOk};
+ghost use Rattle.std.specs.Prelude.{◌<◌, ◌≤◌, suc};
+ghost use Rattle.gate_config.specs.Generations.{config_at, count_of};
 ghost use Rattle.gate_config.specs.Selection.{is_listed};
 ghost use Rattle.gate_forward.specs.Forwarding.{forwarded_entry, forwarded_reading, sends};
 ghost use Rattle.gate_forward.specs.Inner.Forwarding.{sends_reading};
-ghost use Rattle.gate_forward.specs.Hands.{config_of, conn_of, empty_hand, hand_of, moved_out, put_back};
+ghost use Rattle.gate_forward.specs.Hands.{conn_of, empty_hand, gens_of, hand_of, moved_out, put_back};
 ghost use Rattle.gate_forward.specs.Inner.Places.{held};
 ghost use Rattle.gate_record.specs.Lines.{IsLine};
 ghost use Rattle.gate_record.specs.declared.reading.Reading.TheVariants as reading;
@@ -10,23 +12,30 @@ ghost use Rattle.gate_record.specs.declared.transit.ConnEntry.TheVariants as ent
 
 use crate::finding::no_items;
 use crate::places::Places;
-use gate_config::{Config, MAX_TENANTS};
+use gate_config::{Generations, MAX_TENANTS};
 use gate_record::{
     ConnId, Event, Memory, Reading, Record, RecordReader, Shared, Stamp, Stamped, TenantId,
     TenantItem,
 };
 use std::alloc::{AllocFailed, Global};
 
+/// There is no later generation.
+#[derive(Debug, Clone, Copy, PartialEq, Eq)]
+pub struct Last;
+
 /// The hand of the forwarder of one connection: one entry at a time is loaded, and what each tenant gets of it is moved
 /// out, tenant by tenant in rising number. An event goes to the tenants that list its project under the connection, the
-/// end mark to those that list the connection.
+/// end mark to those that list the connection. A record is forwarded by the generation in force at it, and its events say
+/// which: each mark of a renewal that was loaded brings the next generation in force.
 ///
 /// An item that was moved out leaves its place open: [`sent`](Forward::sent) closes the place,
 /// [`unsent`](Forward::unsent) fills it again. Until then nothing else may be asked of the hand.
 #[derive(Drop)]
 pub struct Forward<'c> {
-    pub(crate) config: &'c Config,
+    pub(crate) gens: &'c Generations,
     pub(crate) conn: ConnId,
+    // The generation in force for the next entry.
+    pub(crate) generation: u32,
     pub(crate) places: Places,
     // Whether the end mark was loaded.
     pub(crate) marked: bool,
@@ -34,15 +43,16 @@ pub struct Forward<'c> {
 }
 
 impl<'c> Forward<'c> {
-    /// The empty hand of the forwarder of a connection. It takes no memory.
-    pub fn new(config: &'c Config, conn: ConnId) -> Forward<'c>
-        ensures config { config_of result ≡ config.entry.now }
+    /// The empty hand of the forwarder of a connection, by the first generation. It takes no memory.
+    pub fn new(gens: &'c Generations, conn: ConnId) -> Forward<'c>
+        ensures gens { gens_of result ≡ gens.entry.now }
         ensures conn { conn_of result ≡ conn.0 }
         ensures hand { hand_of result ≡ empty_hand }
     {
         Forward {
-            config,
+            gens,
             conn,
+            generation: 0,
             places: Places::new(no_items()),
             marked: false,
             reader: RecordReader::new(),
@@ -59,9 +69,9 @@ impl<'c> Forward<'c> {
     ) -> Result<(), AllocFailed<Record>>
         requires empty { (hand_of self.old).items ≡ [] }
         requires in_hand { (hand_of self.old).out ≡ None }
-        ensures config { config_of self.new ≡ config_of self.old }
+        ensures gens { gens_of self.new ≡ gens_of self.old }
         ensures conn { conn_of self.new ≡ conn_of self.old }
-        ensures loads { OnOk result (hand_of self.new ≡ record (hand_of self.old) { items = sends (config_of self.old) (conn_of self.old) (entry.Numbered number line) }) }
+        ensures loads { OnOk result (hand_of self.new ≡ record (hand_of self.old) { items = sends (gens_of self.old) (conn_of self.old) (hand_of self.old).generation (entry.Numbered number line) }) }
         ensures refused { IfErr result (λ refused. (self.new ≡ self.old) × (refused.value ≡ line)) }
         ensures needs { OnErr result (IsLine line) }
     {
@@ -78,19 +88,38 @@ impl<'c> Forward<'c> {
     pub fn load_end(&mut self)
         requires empty { (hand_of self.old).items ≡ [] }
         requires in_hand { (hand_of self.old).out ≡ None }
-        ensures config { config_of self.new ≡ config_of self.old }
+        ensures gens { gens_of self.new ≡ gens_of self.old }
         ensures conn { conn_of self.new ≡ conn_of self.old }
-        ensures loads { hand_of self.new ≡ record { items = sends (config_of self.old) (conn_of self.old) entry.End; out = None; marked = true } }
+        ensures loads { hand_of self.new ≡ record (hand_of self.old) { items = sends (gens_of self.old) (conn_of self.old) (hand_of self.old).generation entry.End; out = None; marked = true } }
     {
         self.places = Places::new(self.end_marks());
         self.marked = true;
+    }
+
+    /// Loads the mark behind which the next generation is in force. It goes to no tenant, so the hand stays empty. `Last`
+    /// where there is no later generation, and all is as before. It takes no memory.
+    pub fn load_renew(&mut self) -> Result<(), Last>
+        requires empty { (hand_of self.old).items ≡ [] }
+        requires in_hand { (hand_of self.old).out ≡ None }
+        ensures gens { gens_of self.new ≡ gens_of self.old }
+        ensures conn { conn_of self.new ≡ conn_of self.old }
+        ensures renews { OnOk result (hand_of self.new ≡ record (hand_of self.old) { generation = suc (hand_of self.old).generation }) }
+        ensures later { OnOk result (suc (hand_of self.old).generation < count_of (gens_of self.old)) }
+        ensures last { OnErr result (count_of (gens_of self.old) ≤ suc (hand_of self.old).generation) }
+        ensures unchanged { OnErr result (self.new ≡ self.old) }
+    {
+        if self.generation >= self.gens.count() - 1 {
+            return Err(Last);
+        }
+        self.generation += 1;
+        Ok(())
     }
 
     /// Moves the first item out, with the tenant that is to get it, and leaves its place open. Nothing comes of an empty
     /// hand.
     pub fn next(&mut self) -> Option<(TenantId, TenantItem)>
         requires in_hand { (hand_of self.old).out ≡ None }
-        ensures config { config_of self.new ≡ config_of self.old }
+        ensures gens { gens_of self.new ≡ gens_of self.old }
         ensures conn { conn_of self.new ≡ conn_of self.old }
         ensures moves { (hand_of self.new, result) ≡ moved_out (hand_of self.old).items (hand_of self.old) }
     {
@@ -100,7 +129,7 @@ impl<'c> Forward<'c> {
     /// The item that was moved out was sent: its place is closed.
     pub fn sent(&mut self)
         requires out { is_some (hand_of self.old).out ≡ true }
-        ensures config { config_of self.new ≡ config_of self.old }
+        ensures gens { gens_of self.new ≡ gens_of self.old }
         ensures conn { conn_of self.new ≡ conn_of self.old }
         ensures closes { hand_of self.new ≡ record (hand_of self.old) { out = None } }
     {
@@ -110,7 +139,7 @@ impl<'c> Forward<'c> {
     /// The item that was moved out wasn't sent: its place gets this one, which is the first again.
     pub fn unsent(&mut self, item: TenantItem)
         requires out { is_some (hand_of self.old).out ≡ true }
-        ensures config { config_of self.new ≡ config_of self.old }
+        ensures gens { gens_of self.new ≡ gens_of self.old }
         ensures conn { conn_of self.new ≡ conn_of self.old }
         ensures fills { hand_of self.new ≡ put_back item (hand_of self.old).out (hand_of self.old) }
     {
@@ -146,7 +175,7 @@ impl<'c> Forward<'c> {
         number: u64,
         line: &Record,
     ) -> Result<[Option<TenantItem>; MAX_TENANTS], Memory>
-        ensures items { IfOk result (λ items. held 0 items ≡ sends (config_of self.old) (conn_of self.old) (entry.Numbered number line.now)) }
+        ensures items { IfOk result (λ items. held 0 items ≡ sends (gens_of self.old) (conn_of self.old) (hand_of self.old).generation (entry.Numbered number line.now)) }
         ensures needs { OnErr result (IsLine line.now) }
         ensures same { self.new ≡ self.old }
     {
@@ -163,11 +192,11 @@ impl<'c> Forward<'c> {
         number: u64,
         event: Event,
     ) -> Result<[Option<TenantItem>; MAX_TENANTS], Memory>
-        ensures { IfOk result (λ items. held 0 items ≡ sends_reading (config_of self.now) (conn_of self.now) number (reading.Event event)) }
+        ensures { IfOk result (λ items. held 0 items ≡ sends_reading (gens_of self.now) (conn_of self.now) (hand_of self.now).generation number (reading.Event event)) }
     {
         let event = Shared::new(alloc, event)?;
         let mut items = no_items();
-        for tenant in 0..self.config.tenants().len() {
+        for tenant in 0..self.gens.first().tenants().len() {
             items[tenant] = self.event_for(TenantId(tenant as u32), number, &event)?;
         }
         Ok(items)
@@ -180,7 +209,7 @@ impl<'c> Forward<'c> {
         number: u64,
         event: &Shared<Event>,
     ) -> Result<Option<TenantItem>, Memory>
-        ensures { IfOk result (λ item. item ≡ forwarded_reading (config_of self.now) tenant.0 (conn_of self.now) number (reading.Event event.now)) }
+        ensures { IfOk result (λ item. item ≡ forwarded_reading (gens_of self.now) tenant.0 (conn_of self.now) (hand_of self.now).generation number (reading.Event event.now)) }
     {
         if !self.is_listed(tenant, event.get()) {
             return Ok(None);
@@ -190,25 +219,30 @@ impl<'c> Forward<'c> {
             number,
         };
         let event = event.share()?;
-        Ok(Some(TenantItem::Event(Stamped { stamp, event })))
+        Ok(Some(TenantItem::Event(Stamped {
+            stamp,
+            generation: self.generation,
+            event,
+        })))
     }
 
-    // Whether a tenant lists the project of an event under the connection.
+    // Whether a tenant lists the project of an event under the connection, by the generation in force.
     fn is_listed(&self, tenant: TenantId, event: &Event) -> bool
-        ensures { result ≡ is_listed (config_of self.now) tenant.0 (conn_of self.now) event.now.project }
+        ensures { result ≡ is_listed (config_at (gens_of self.now) (hand_of self.now).generation) tenant.0 (conn_of self.now) event.now.project }
     {
+        let config = self.gens.generation(self.generation);
         match &event.project {
-            Some(project) => self.config.belongs(tenant, self.conn, project.as_str()),
+            Some(project) => config.belongs(tenant, self.conn, project.as_str()),
             None => false,
         }
     }
 
     // The end mark, for the tenants that list the connection.
     fn end_marks(&self) -> [Option<TenantItem>; MAX_TENANTS]
-        ensures { held 0 result ≡ sends (config_of self.now) (conn_of self.now) entry.End }
+        ensures { held 0 result ≡ sends (gens_of self.now) (conn_of self.now) (hand_of self.now).generation entry.End }
     {
         let mut items = no_items();
-        for tenant in 0..self.config.tenants().len() {
+        for tenant in 0..self.gens.first().tenants().len() {
             items[tenant] = self.end_mark_for(TenantId(tenant as u32));
         }
         items
@@ -216,9 +250,9 @@ impl<'c> Forward<'c> {
 
     // The end mark for a tenant, if it lists the connection.
     fn end_mark_for(&self, tenant: TenantId) -> Option<TenantItem>
-        ensures { result ≡ forwarded_entry (config_of self.now) tenant.0 (conn_of self.now) entry.End }
+        ensures { result ≡ forwarded_entry (gens_of self.now) tenant.0 (conn_of self.now) (hand_of self.now).generation entry.End }
     {
-        if !self.config.listed(tenant, self.conn) {
+        if !self.gens.first().listed(tenant, self.conn) {
             return None;
         }
         Some(TenantItem::End(self.conn))

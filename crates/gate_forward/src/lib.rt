@@ -6,5 +6,5 @@ mod forward;
 mod laws;
 mod places;
 
-pub use forward::Forward;
+pub use forward::{Forward, Last};
 pub use laws::each_tenant_gets_its_own;

@@ -12,7 +12,7 @@ use Rattle.std.proofs.lemmas.Slice.Eq.{bytes_eq-Decides}
 use Rattle.indexmap.specs.IndexSet.{insert_key, insert_all}
 use Rattle.gate_record.specs.declared.event.Event.{Event}
 use Rattle.gate_record.specs.EachOnce.{each_once}
-use Rattle.gate_intern.specs.Columns.{field_of, is_same_vote, number_in, texts_of}
+use Rattle.gate_intern.specs.Columns.{field_of, is_same_vote, number_among, texts_of}
 use Rattle.gate_intern.specs.GivenBack.{FieldsComeBack, TextsAreDistinct, ApprovalsAreDistinct, ZeroIsMissing, named}
 use Rattle.gate_intern.proofs.Numbered.{AreIn, IsIn, all_in}
 
@@ -56,14 +56,14 @@ found_at {A} same decides (x ∷ keys) key found = by (same key x) refl found (f
         let next : 1 + position_or_len (same key) keys ≡ suc (position_or_len (same key) keys) = omega arith in
         ap (slice_get (x ∷ keys)) next ∙ rest h
 
-pub named_number : {A : Type 0} (same : A → A → Bool) → ((x y : A) → Decides (same x y) (x ≡ y)) → (keys : List A) (o : Option A) → IsIn same keys o → named keys (number_in same keys o) ≡ o
+pub named_number : {A : Type 0} (same : A → A → Bool) → ((x y : A) → Decides (same x y) (x ≡ y)) → (keys : List A) (o : Option A) → IsIn same keys o → named keys (number_among same keys o) ≡ o
 named_number same decides keys None is = refl
 named_number same decides keys (Some key) is = ap (named keys) (add-one (position_or_len (same key) keys)) ∙ found_at same decides keys key is
 
-names_back : {A X : Type 0} (same : A → A → Bool) → ((x y : A) → Decides (same x y) (x ≡ y)) → (h : X → Option A) (keys : List A) (xs : List X) → AreIn same h keys xs → map (named keys) (map (λ x. number_in same keys (h x)) xs) ≡ map h xs
+names_back : {A X : Type 0} (same : A → A → Bool) → ((x y : A) → Decides (same x y) (x ≡ y)) → (h : X → Option A) (keys : List A) (xs : List X) → AreIn same h keys xs → map (named keys) (map (λ x. number_among same keys (h x)) xs) ≡ map h xs
 names_back same decides h keys [] are = refl
 names_back same decides h keys (x ∷ xs) are =
-    ap (λ o. o ∷ map (named keys) (map (λ y. number_in same keys (h y)) xs)) (named_number same decides keys (h x) are.0)
+    ap (λ o. o ∷ map (named keys) (map (λ y. number_among same keys (h y)) xs)) (named_number same decides keys (h x) are.0)
     ∙ ap (λ rest. h x ∷ rest) (names_back same decides h keys xs are.1)
 
 pub fields_come_back : FieldsComeBack
@@ -76,14 +76,14 @@ fields_come_back field events =
 no_zero : (n : ℕ) → (n + 1 == 0) ≡ false
 no_zero n = grind (arith, nat_tests)
 
-is_zero : {A : Type 0} (same : A → A → Bool) (keys : List A) (o : Option A) → (number_in same keys o == 0) ≡ is_none o
+is_zero : {A : Type 0} (same : A → A → Bool) (keys : List A) (o : Option A) → (number_among same keys o == 0) ≡ is_none o
 is_zero same keys None = refl
 is_zero same keys (Some key) = no_zero (position_or_len (same key) keys)
 
-zeros : {A X : Type 0} (same : A → A → Bool) (h : X → Option A) (keys : List A) (xs : List X) → map (λ n. n == 0) (map (λ x. number_in same keys (h x)) xs) ≡ map (λ x. is_none (h x)) xs
+zeros : {A X : Type 0} (same : A → A → Bool) (h : X → Option A) (keys : List A) (xs : List X) → map (λ n. n == 0) (map (λ x. number_among same keys (h x)) xs) ≡ map (λ x. is_none (h x)) xs
 zeros same h keys [] = refl
 zeros same h keys (x ∷ xs) =
-    ap (λ b. b ∷ map (λ n. n == 0) (map (λ y. number_in same keys (h y)) xs)) (is_zero same keys (h x))
+    ap (λ b. b ∷ map (λ n. n == 0) (map (λ y. number_among same keys (h y)) xs)) (is_zero same keys (h x))
     ∙ ap (λ rest. is_none (h x) ∷ rest) (zeros same h keys xs)
 
 pub zero_is_missing : ZeroIsMissing

@@ -10,7 +10,7 @@ use Rattle.std.proofs.lemmas.Bool.Decides.{Decides-eqb, nat_tests}
 use Rattle.std.proofs.lemmas.List.FromFn.{length-range_with_len}
 use Rattle.gate_record.specs.declared.event.Event.{Event}
 use Rattle.gate_lanes.specs.Masks.{is_among, is_in_row, mark_if}
-use Rattle.gate_intern.specs.Columns.{approval_cells_of, approvals_of, field_of, is_same_vote, number_in, slots_of, texts_of}
+use Rattle.gate_intern.specs.Columns.{approval_cells_of, approvals_of, field_of, is_same_vote, number_among, slots_of, texts_of}
 use Rattle.gate_intern.specs.Marks.{ApprovalsMarkTheirEvents, TextsMarkTheirEvents, numbers_from, numbers_where, passes}
 use Rattle.gate_intern.proofs.GivenBack.{alike_by, found_at, same_vote}
 use Rattle.gate_intern.proofs.Numbered.{AreIn, IsIn, all_in}
@@ -56,7 +56,7 @@ among {A} test (x ∷ keys) n (suc p) q e = by (test x) (among test keys (n + 1)
         ap (λ b. b || list_any (λ id. q == id) (numbers_from (n + 1) test keys)) (other_number_above q n above) ∙ rest
     by false rest = rest
 
-marked : {A : Type 0} (same : A → A → Bool) → ((x y : A) → Decides (same x y) (x ≡ y)) → (test : A → Bool) (keys : List A) (o : Option A) → IsIn same keys o → is_among (numbers_where test keys) (number_in same keys o) ≡ passes test o
+marked : {A : Type 0} (same : A → A → Bool) → ((x y : A) → Decides (same x y) (x ≡ y)) → (test : A → Bool) (keys : List A) (o : Option A) → IsIn same keys o → is_among (numbers_where test keys) (number_among same keys o) ≡ passes test o
 marked same decides test keys None is =
     let below : 0 < 1 = omega arith in
     not_below test keys 1 0 below
@@ -66,10 +66,10 @@ marked same decides test keys (Some key) is =
     ∙ ap (passes test) (found_at same decides keys key is)
 
 all_marked : {A X : Type 0} (same : A → A → Bool) → ((x y : A) → Decides (same x y) (x ≡ y)) → (test : A → Bool) (h : X → Option A) (keys : List A) (xs : List X) → AreIn same h keys xs
-    → map (λ word. mark_if (is_among (numbers_where test keys) word)) (map (λ x. number_in same keys (h x)) xs) ≡ map (λ x. mark_if (passes test (h x))) xs
+    → map (λ word. mark_if (is_among (numbers_where test keys) word)) (map (λ x. number_among same keys (h x)) xs) ≡ map (λ x. mark_if (passes test (h x))) xs
 all_marked same decides test h keys [] are = refl
 all_marked same decides test h keys (x ∷ xs) are =
-    ap (λ b. mark_if b ∷ map (λ word. mark_if (is_among (numbers_where test keys) word)) (map (λ y. number_in same keys (h y)) xs)) (marked same decides test keys (h x) are.0)
+    ap (λ b. mark_if b ∷ map (λ word. mark_if (is_among (numbers_where test keys) word)) (map (λ y. number_among same keys (h y)) xs)) (marked same decides test keys (h x) are.0)
     ∙ ap (λ rest. mark_if (passes test (h x)) ∷ rest) (all_marked same decides test h keys xs are.1)
 
 pub texts_mark_their_events : TextsMarkTheirEvents
@@ -110,7 +110,7 @@ no_number : (n : ℕ) → (0 == (n + 1)) ≡ false
 no_number n = grind (arith, nat_tests)
 
 is_wanted : {A : Type 0} (same : A → A → Bool) → ((x y : A) → Decides (same x y) (x ≡ y)) → (keys : List A) (o : Option A) (wanted : A) → IsIn same keys o
-    → (number_in same keys o == number_in same keys (Some wanted)) ≡ passes (same wanted) o
+    → (number_among same keys o == number_among same keys (Some wanted)) ≡ passes (same wanted) o
 is_wanted same decides keys None wanted is = no_number (position_or_len (same wanted) keys)
 is_wanted same decides keys (Some key) wanted is = same_keys same decides keys key wanted is
 
@@ -157,25 +157,25 @@ slots_are events some =
     ∙ length-range_with_len 0 (slots_of events)
 
 row_has : (events : List Event) (vote : List ℕ × ℤ) (row : ℕ) (event : Event) → slice_get events row ≡ Some event
-    → is_in_row (approval_cells_of events) (length events) (number_in is_same_vote (approvals_of events) (Some vote)) row ≡ list_any (is_same_vote vote) event.approvals
+    → is_in_row (approval_cells_of events) (length events) (number_among is_same_vote (approvals_of events) (Some vote)) row ≡ list_any (is_same_vote vote) event.approvals
 row_has events vote row event at =
     let votes = approvals_of events in
     let cells = approval_cells_of events in
     let within : row < length events = inside events row event at in
     let some : 0 < length events = omega arith in
-    let is = λ (slot : ℕ). slice_index cells (slot * length events + row) == number_in is_same_vote votes (Some vote) in
+    let is = λ (slot : ℕ). slice_index cells (slot * length events + row) == number_among is_same_vote votes (Some vote) in
     ap (λ n. list_any is (range_with_len 0 n)) (slots_are events some)
     ∙ same_any is (λ k. passes (is_same_vote vote) (slice_get event.approvals k)) 0 (slots_of events)
     (λ k l. subst (λ s. is s ≡ passes (is_same_vote vote) (slice_get event.approvals s)) (sym (zero-add k))
-    (ap (λ n. n == number_in is_same_vote votes (Some vote)) (cell_is events row event at k l)
+    (ap (λ n. n == number_among is_same_vote votes (Some vote)) (cell_is events row event at k l)
     ∙ is_wanted is_same_vote same_vote votes (slice_get event.approvals k) vote (vote_is_in events row event k at (slice_get event.approvals k) refl)))
     ∙ any_at (is_same_vote vote) event.approvals (slots_of events) (enough 0 events row event at)
 
 pub approvals_mark_their_events : ApprovalsMarkTheirEvents
 approvals_mark_their_events events vote =
     by_place
-    (λ row. mark_if (is_in_row (approval_cells_of events) (length events) (number_in is_same_vote (approvals_of events) (Some vote)) row))
+    (λ row. mark_if (is_in_row (approval_cells_of events) (length events) (number_among is_same_vote (approvals_of events) (Some vote)) row))
     (λ (event : Event). mark_if (list_any (is_same_vote vote) event.approvals))
     0 events
-    (λ i event at. subst (λ r. mark_if (is_in_row (approval_cells_of events) (length events) (number_in is_same_vote (approvals_of events) (Some vote)) r) ≡ mark_if (list_any (is_same_vote vote) event.approvals)) (sym (zero-add i))
+    (λ i event at. subst (λ r. mark_if (is_in_row (approval_cells_of events) (length events) (number_among is_same_vote (approvals_of events) (Some vote)) r) ≡ mark_if (list_any (is_same_vote vote) event.approvals)) (sym (zero-add i))
     (ap mark_if (row_has events vote i event at)))

@@ -8,7 +8,7 @@ use Rattle.std.proofs.lemmas.List.Folds.{list_any-append}
 use Rattle.std.proofs.lemmas.List.Sums.{fold-append}
 use Rattle.indexmap.specs.IndexSet.{insert_key, insert_all}
 use Rattle.gate_record.specs.EachOnce.{each_once}
-use Rattle.gate_intern.specs.Columns.{number_in}
+use Rattle.gate_intern.specs.Columns.{number_among}
 
 -- ---- one key more
 
@@ -74,7 +74,7 @@ abbrev pub AreIn : {A X : Type 0} → (A → A → Bool) → (X → Option A) �
 AreIn same h keys [] = Unit {0}
 AreIn same h keys (x ∷ xs) = IsIn same keys (h x) × AreIn same h keys xs
 
-number_kept : {A : Type 0} (same : A → A → Bool) (keys : List A) (key : A) (o : Option A) → IsIn same keys o → number_in same (insert_key same keys key) o ≡ number_in same keys o
+number_kept : {A : Type 0} (same : A → A → Bool) (keys : List A) (key : A) (o : Option A) → IsIn same keys o → number_among same (insert_key same keys key) o ≡ number_among same keys o
 number_kept same keys key None is = refl
 number_kept same keys key (Some k) is = ap (λ n. n + 1) (insert_kept same (same k) keys key is)
 
@@ -87,11 +87,11 @@ module _ {A X : Type 0} (same : A → A → Bool) (alike : (a : A) → same a a 
       by None rest = (tt, rest keys)
       by (Some key) rest = (found_stays same (same key) (insert_key same keys key) (filter_map h xs) (found_new same keys key (alike key)), rest (insert_key same keys key))
 
-  numbers_kept : (keys : List A) (key : A) (xs : List X) → AreIn same h keys xs → map (λ x. number_in same (insert_key same keys key) (h x)) xs ≡ map (λ x. number_in same keys (h x)) xs
+  numbers_kept : (keys : List A) (key : A) (xs : List X) → AreIn same h keys xs → map (λ x. number_among same (insert_key same keys key) (h x)) xs ≡ map (λ x. number_among same keys (h x)) xs
   numbers_kept keys key [] are = refl
   numbers_kept keys key (x ∷ xs) are =
-      ap (λ n. n ∷ map (λ y. number_in same (insert_key same keys key) (h y)) xs) (number_kept same keys key (h x) are.0)
-      ∙ ap (λ rest. number_in same keys (h x) ∷ rest) (numbers_kept keys key xs are.1)
+      ap (λ n. n ∷ map (λ y. number_among same (insert_key same keys key) (h y)) xs) (number_kept same keys key (h x) are.0)
+      ∙ ap (λ rest. number_among same keys (h x) ∷ rest) (numbers_kept keys key xs are.1)
 
   -- the keys of one element more
   more_keys : (xs : List X) (x : X) (o : Option A) → h x ≡ o → each_once same (filter_map h (xs ++ x ∷ [])) ≡ insert_all same (each_once same (filter_map h xs)) (cons_option o [])
@@ -103,21 +103,21 @@ module _ {A X : Type 0} (same : A → A → Bool) (alike : (a : A) → same a a 
   pub keys_none : (xs : List X) (x : X) → h x ≡ None → each_once same (filter_map h (xs ++ x ∷ [])) ≡ each_once same (filter_map h xs)
   keys_none xs x e = more_keys xs x None e
 
-  pub numbers_none : (xs : List X) (x : X) → h x ≡ None → map (λ y. number_in same (each_once same (filter_map h (xs ++ x ∷ []))) (h y)) (xs ++ x ∷ []) ≡ map (λ y. number_in same (each_once same (filter_map h xs)) (h y)) xs ++ 0 ∷ []
+  pub numbers_none : (xs : List X) (x : X) → h x ≡ None → map (λ y. number_among same (each_once same (filter_map h (xs ++ x ∷ []))) (h y)) (xs ++ x ∷ []) ≡ map (λ y. number_among same (each_once same (filter_map h xs)) (h y)) xs ++ 0 ∷ []
   numbers_none xs x e =
-      ap (λ keys. map (λ y. number_in same keys (h y)) (xs ++ x ∷ [])) (keys_none xs x e)
-      ∙ map-append (λ y. number_in same (each_once same (filter_map h xs)) (h y)) xs (x ∷ [])
-      ∙ ap (λ o. map (λ y. number_in same (each_once same (filter_map h xs)) (h y)) xs ++ number_in same (each_once same (filter_map h xs)) o ∷ []) e
+      ap (λ keys. map (λ y. number_among same keys (h y)) (xs ++ x ∷ [])) (keys_none xs x e)
+      ∙ map-append (λ y. number_among same (each_once same (filter_map h xs)) (h y)) xs (x ∷ [])
+      ∙ ap (λ o. map (λ y. number_among same (each_once same (filter_map h xs)) (h y)) xs ++ number_among same (each_once same (filter_map h xs)) o ∷ []) e
 
   -- and one with a key
   pub keys_some : (xs : List X) (x : X) (key : A) → h x ≡ Some key → each_once same (filter_map h (xs ++ x ∷ [])) ≡ insert_key same (each_once same (filter_map h xs)) key
   keys_some xs x key e = more_keys xs x (Some key) e
 
-  pub numbers_some : (xs : List X) (x : X) (key : A) → h x ≡ Some key → map (λ y. number_in same (each_once same (filter_map h (xs ++ x ∷ []))) (h y)) (xs ++ x ∷ []) ≡ map (λ y. number_in same (each_once same (filter_map h xs)) (h y)) xs ++ (position_or_len (same key) (each_once same (filter_map h xs)) + 1) ∷ []
+  pub numbers_some : (xs : List X) (x : X) (key : A) → h x ≡ Some key → map (λ y. number_among same (each_once same (filter_map h (xs ++ x ∷ []))) (h y)) (xs ++ x ∷ []) ≡ map (λ y. number_among same (each_once same (filter_map h xs)) (h y)) xs ++ (position_or_len (same key) (each_once same (filter_map h xs)) + 1) ∷ []
   numbers_some xs x key e =
       let keys : List A = each_once same (filter_map h xs) in
-      ap (λ now. map (λ y. number_in same now (h y)) (xs ++ x ∷ [])) (keys_some xs x key e)
-      ∙ map-append (λ y. number_in same (insert_key same keys key) (h y)) xs (x ∷ [])
-      ∙ ap (λ front. front ++ number_in same (insert_key same keys key) (h x) ∷ []) (numbers_kept keys key xs (all_in [] xs))
-      ∙ ap (λ o. map (λ y. number_in same keys (h y)) xs ++ number_in same (insert_key same keys key) o ∷ []) e
-      ∙ ap (λ n. map (λ y. number_in same keys (h y)) xs ++ (n + 1) ∷ []) (insert_last same (same key) keys key (alike key))
+      ap (λ now. map (λ y. number_among same now (h y)) (xs ++ x ∷ [])) (keys_some xs x key e)
+      ∙ map-append (λ y. number_among same (insert_key same keys key) (h y)) xs (x ∷ [])
+      ∙ ap (λ front. front ++ number_among same (insert_key same keys key) (h x) ∷ []) (numbers_kept keys key xs (all_in [] xs))
+      ∙ ap (λ o. map (λ y. number_among same keys (h y)) xs ++ number_among same (insert_key same keys key) o ∷ []) e
+      ∙ ap (λ n. map (λ y. number_among same keys (h y)) xs ++ (n + 1) ∷ []) (insert_last same (same key) keys key (alike key))

@@ -8,7 +8,7 @@ use Rattle.std.proofs.lemmas.List.{get_or-append-add, length-map}
 use Rattle.std.proofs.lemmas.List.Sums.{fold-append}
 use Rattle.indexmap.specs.IndexSet.{insert_key, insert_all}
 use Rattle.gate_record.specs.declared.event.Event.{Event}
-use Rattle.gate_intern.specs.Columns.{approval_cells_of, approvals_of, is_same_vote, number_in, slot_of, slots_of}
+use Rattle.gate_intern.specs.Columns.{approval_cells_of, approvals_of, is_same_vote, number_among, slot_of, slots_of}
 use Rattle.gate_intern.specs.GivenBack.{ApprovalsComeBack, named}
 use Rattle.gate_intern.proofs.GivenBack.{alike_by, named_number, same_vote}
 use Rattle.gate_intern.proofs.Numbered.{IsIn, found_new, found_stays}
@@ -43,7 +43,7 @@ pub vote_is_in : (events : List Event) (i : ℕ) (event : Event) (j : ℕ) → s
 vote_is_in events i event j at None e = tt
 vote_is_in events i event j at (Some v) e = in_events [] events i event j v at e
 
-number_names : (events : List Event) (i : ℕ) (event : Event) (j : ℕ) → slice_get events i ≡ Some event → named (approvals_of events) (number_in is_same_vote (approvals_of events) (slice_get event.approvals j)) ≡ slice_get event.approvals j
+number_names : (events : List Event) (i : ℕ) (event : Event) (j : ℕ) → slice_get events i ≡ Some event → named (approvals_of events) (number_among is_same_vote (approvals_of events) (slice_get event.approvals j)) ≡ slice_get event.approvals j
 number_names events i event j at = named_number is_same_vote same_vote (approvals_of events) (slice_get event.approvals j) (vote_is_in events i event j at (slice_get event.approvals j) refl)
 
 -- ---- where a cell stands
@@ -83,12 +83,12 @@ cell_at f m each a (suc n) (suc k) i l h =
 
 -- the cell of an event in a slot
 pub cell_is : (events : List Event) (row : ℕ) (event : Event) → slice_get events row ≡ Some event → (k : ℕ) → k < slots_of events
-    → slice_index (approval_cells_of events) (k * length events + row) ≡ number_in is_same_vote (approvals_of events) (slice_get event.approvals k)
+    → slice_index (approval_cells_of events) (k * length events + row) ≡ number_among is_same_vote (approvals_of events) (slice_get event.approvals k)
 cell_is events row event at k l =
     let votes = approvals_of events in
     cell_at (slot_of votes events) (length events) (λ s. length-map events _) 0 (slots_of events) k row l (inside events row event at)
-    ∙ map_at (λ (e : Event). number_in is_same_vote votes (slice_get e.approvals (0 + k))) events row event at
-    ∙ ap (λ s. number_in is_same_vote votes (slice_get event.approvals s)) (zero-add k)
+    ∙ map_at (λ (e : Event). number_among is_same_vote votes (slice_get e.approvals (0 + k))) events row event at
+    ∙ ap (λ s. number_among is_same_vote votes (slice_get event.approvals s)) (zero-add k)
 
 -- ---- what numbers from 0 on give
 

@@ -6,15 +6,15 @@ use Rattle.std.specs.List.{range_with_len}
 use Rattle.std.proofs.lemmas.Grind.{flat_map-append}
 use Rattle.std.proofs.lemmas.List.{length-map, map_more}
 use Rattle.gate_record.specs.declared.event.Event.{Event}
-use Rattle.gate_intern.specs.Columns.{cells_of, is_same_vote, number_in, slot_of, slots_of}
+use Rattle.gate_intern.specs.Columns.{cells_of, is_same_vote, number_among, slot_of, slots_of}
 
 pub slot_more : (votes : List (List ℕ × ℤ)) (events : List Event) (place i : ℕ) (event : Event) (start before after : List ℕ) (number : ℕ) (given : Option (List ℕ × ℤ))
     → i < length events → event ≡ get_or events i event → before ≡ start ++ slot_of votes (take i events) place
-    → given ≡ slice_get event.approvals place → number ≡ number_in is_same_vote votes given → after ≡ before ++ number ∷ []
+    → given ≡ slice_get event.approvals place → number ≡ number_among is_same_vote votes given → after ≡ before ++ number ∷ []
     → after ≡ start ++ slot_of votes (take (i + 1) events) place
 slot_more votes events place i event start before after number given within at so_far looked counted added =
-    let cell : Event → ℕ = λ e. number_in is_same_vote votes (slice_get e.approvals place) in
-    let here : number ≡ cell (get_or events i event) = counted ∙ ap (number_in is_same_vote votes) looked ∙ ap cell at in
+    let cell : Event → ℕ = λ e. number_among is_same_vote votes (slice_get e.approvals place) in
+    let here : number ≡ cell (get_or events i event) = counted ∙ ap (number_among is_same_vote votes) looked ∙ ap cell at in
     added ∙ ap (λ front. front ++ number ∷ []) so_far
     ∙ append_assoc start (slot_of votes (take i events) place) (number ∷ [])
     ∙ ap (λ n. start ++ (slot_of votes (take i events) place ++ n ∷ [])) here

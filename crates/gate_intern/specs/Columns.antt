@@ -11,9 +11,9 @@ use Rattle.gate_intern.specs.declared.field.Field.{Field}
 use Rattle.gate_intern.specs.declared.field.Field.TheVariants.{Kind, Project, Branch, Refname, Username, Email, Comment}
 
 -- the number of a key: one more than its place among the keys, and 0 where there is none
-abbrev pub number_in : {A : Type 0} → (A → A → Bool) → List A → Option A → ℕ
-number_in same keys None = 0
-number_in same keys (Some key) = position_or_len (same key) keys + 1
+abbrev pub number_among : {A : Type 0} → (A → A → Bool) → List A → Option A → ℕ
+number_among same keys None = 0
+number_among same keys (Some key) = position_or_len (same key) keys + 1
 
 -- a field's text, if it is there
 abbrev pub field_of : Field → Event → Option (List ℕ)
@@ -31,7 +31,7 @@ texts_of field events = each_once bytes_eq (filter_map (field_of field) events)
 
 -- the number of each event's text
 abbrev pub column_of : Field → List Event → List ℕ
-column_of field events = map (λ event. number_in bytes_eq (texts_of field events) (field_of field event)) events
+column_of field events = map (λ event. number_among bytes_eq (texts_of field events) (field_of field event)) events
 
 -- the texts of a field, and the number of each event's text
 abbrev pub column_at : Field → List Event → List (List ℕ) × List ℕ
@@ -55,7 +55,7 @@ slots_of events = fold (λ most event. max most (length event.approvals)) 0 even
 
 -- a slot: the number of each event's approval at this place
 abbrev pub slot_of : List (List ℕ × ℤ) → List Event → ℕ → List ℕ
-slot_of votes events place = map (λ event. number_in is_same_vote votes (slice_get event.approvals place)) events
+slot_of votes events place = map (λ event. number_among is_same_vote votes (slice_get event.approvals place)) events
 
 -- slot after slot
 abbrev pub cells_of : List (List ℕ × ℤ) → List Event → List ℕ

@@ -3,7 +3,7 @@ use Rattle.std.specs.Prelude.{◌≡◌, ℕ, ℤ, List, map, filter, length, Bo
 use Rattle.std.specs.List.{enumerate_from, list_any}
 use Rattle.gate_record.specs.declared.event.Event.{Event}
 use Rattle.gate_lanes.specs.Masks.{mark_if, marked_any, marked_slots}
-use Rattle.gate_intern.specs.Columns.{approval_cells_of, approvals_of, column_of, field_of, is_same_vote, number_in, texts_of}
+use Rattle.gate_intern.specs.Columns.{approval_cells_of, approvals_of, column_of, field_of, is_same_vote, number_among, texts_of}
 use Rattle.gate_intern.specs.declared.field.Field.{Field}
 
 -- the numbers of the keys that pass a test, where the first key has this number
@@ -25,4 +25,4 @@ TextsMarkTheirEvents = (field : Field) (events : List Event) (test : List ℕ �
 
 -- an approval's number marks the events that have it, and none where no event has it
 abbrev pub ApprovalsMarkTheirEvents : Type 0
-ApprovalsMarkTheirEvents = (events : List Event) (vote : List ℕ × ℤ) → marked_slots (approval_cells_of events) (length events) (number_in is_same_vote (approvals_of events) (Some vote)) ≡ map (λ event. mark_if (list_any (is_same_vote vote) event.approvals)) events
+ApprovalsMarkTheirEvents = (events : List Event) (vote : List ℕ × ℤ) → marked_slots (approval_cells_of events) (length events) (number_among is_same_vote (approvals_of events) (Some vote)) ≡ map (λ event. mark_if (list_any (is_same_vote vote) event.approvals)) events

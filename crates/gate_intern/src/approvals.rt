@@ -2,7 +2,7 @@ ghost use Rattle.std.specs.Prelude.{◌≡◌, ◌++◌, List, [], ◌∷◌, ma
 ghost use Rattle.std.specs.Option.{option_copied};
 ghost use Rattle.indexmap.specs.IndexSet.{insert_key};
 ghost use Rattle.gate_record.specs.declared.event.Event.{Event};
-ghost use Rattle.gate_intern.specs.Columns.{approvals_of, cells_of, is_same_vote, number_in, slot_of, slots_of};
+ghost use Rattle.gate_intern.specs.Columns.{approvals_of, cells_of, is_same_vote, number_among, slot_of, slots_of};
 
 use crate::numbers::number_of;
 use gate_record::{Event, Memory, Sequence, Shared, Text};
@@ -88,7 +88,7 @@ impl<'e> Approvals<'e> {
 
     // The number of an approval, and 0 of none.
     pub(crate) fn number(&self, approval: Option<&(Text, i64)>) -> Result<u32, Memory>
-        ensures { IfOk result (λ n. n ≡ number_in is_same_vote self.now (option_copied approval.entry)) }
+        ensures { IfOk result (λ n. n ≡ number_among is_same_vote self.now (option_copied approval.entry)) }
     {
         let Some(approval) = approval else {
             return Ok(0);

@@ -1,5 +1,5 @@
 ghost use Rattle.std.specs.Prelude.{◌≡◌, ◌≤◌, ◌%◌, length, map, IfOk, Some};
-ghost use Rattle.gate_intern.specs.Columns.{approval_cells_of, approvals_of, column_at, column_of, columns_of, deletes_of, is_same_vote, number_in, texts_of};
+ghost use Rattle.gate_intern.specs.Columns.{approval_cells_of, approvals_of, column_at, column_of, columns_of, deletes_of, is_same_vote, number_among, texts_of};
 ghost use Rattle.gate_intern.specs.Limits.{most_rows};
 
 use crate::approvals::Approvals;
@@ -114,7 +114,7 @@ impl<'e> Columns<'e> {
     /// The number that an approval has in the cells: one more than its place in `approvals`, and one that stands in no cell where
     /// no event has it. `Memory` where there are too many approvals to be counted.
     pub fn approval_number(&self, approval: &(Text, i64)) -> Result<u32, Memory>
-        ensures { IfOk result (λ number. number ≡ number_in is_same_vote (approvals_of self.now) (Some approval.now)) }
+        ensures { IfOk result (λ number. number ≡ number_among is_same_vote (approvals_of self.now) (Some approval.now)) }
     {
         self.approvals.number(Some(approval))
     }

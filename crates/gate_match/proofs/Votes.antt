@@ -8,7 +8,7 @@ use Rattle.std.proofs.lemmas.Slice.Eq.{bytes_eq-Decides}
 use Rattle.gate_record.specs.declared.event.Event.{Event}
 use Rattle.gate_rule.specs.Rule.{is_given}
 use Rattle.gate_lanes.specs.Masks.{is_in_row}
-use Rattle.gate_intern.specs.Columns.{approval_cells_of, approvals_of, is_same_vote, number_in}
+use Rattle.gate_intern.specs.Columns.{approval_cells_of, approvals_of, is_same_vote, number_among}
 use Rattle.gate_intern.specs.Marks.{ApprovalsMarkTheirEvents}
 use Rattle.gate_match.specs.Inner.Narrowing.{given_to}
 use Rattle.gate_match.proofs.Masks.{marked_alike}
@@ -26,9 +26,9 @@ given_alike wanted (vote ∷ votes) = ap₂ ◌||◌ (ap₂ ◌&&◌ (same_bytes
 
 -- the rows that have the number of an approval in a cell are the events to which it is given
 pub given_is : ApprovalsMarkTheirEvents → (events : List Event) (wanted : List ℕ × ℤ) →
-    map (is_in_row (approval_cells_of events) (length events) (number_in is_same_vote (approvals_of events) (Some wanted))) (range_with_len 0 (length events)) ≡ given_to wanted events
+    map (is_in_row (approval_cells_of events) (length events) (number_among is_same_vote (approvals_of events) (Some wanted))) (range_with_len 0 (length events)) ≡ given_to wanted events
 given_is law events wanted =
-    let number = number_in is_same_vote (approvals_of events) (Some wanted) in
+    let number = number_among is_same_vote (approvals_of events) (Some wanted) in
     let has = λ (event : Event). list_any (is_same_vote wanted) event.approvals in
     marked_alike (is_in_row (approval_cells_of events) (length events) number) has (range_with_len 0 (length events)) events (law events wanted)
     ∙ map_alike has (λ event. is_given wanted event.approvals) events (λ event. given_alike wanted event.approvals)

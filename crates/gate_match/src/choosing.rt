@@ -1,11 +1,12 @@
 ghost use Rattle.std.specs.Prelude.{◌≡◌, ℕ, IfOk, IfSome, OnOk, length, map, replicate, false, true};
 ghost use Rattle.std.specs.List.{All, zip};
+ghost use Rattle.gate_config.specs.Generations.{config_at};
 ghost use Rattle.gate_config.specs.Lookups.{rules_of};
-ghost use Rattle.gate_match.specs.Inner.Choosing.{AreActive, active_in, chosen, chosen_of, has_all, is_conn_of};
+ghost use Rattle.gate_match.specs.Inner.Choosing.{AreActive, active_in, chosen, chosen_of, has_all, is_key_of, key_of};
 ghost use Rattle.gate_match.specs.Inner.Compiling.{rules_in};
 ghost use Rattle.gate_match.specs.Inner.Knowing.{AreRight};
 ghost use Rattle.gate_match.specs.Inner.Marks.{either};
-ghost use Rattle.gate_match.specs.Selecting.{config_of, mask_of, masks_of, tenant_of};
+ghost use Rattle.gate_match.specs.Selecting.{gens_of, mask_of, masks_of, tenant_of};
 ghost use Rattle.gate_match.specs.Inner.Tables.{AskAlike};
 ghost use Rattle.gate_match.specs.declared.active.Active.{Active};
 
@@ -18,22 +19,26 @@ use crate::listed::listed_rows;
 use crate::mask::Mask;
 use crate::program::Program;
 use crate::table::{matchers, pipelines, place_of, table};
-use gate_config::Config;
+use gate_config::Generations;
 use gate_intern::Columns;
 use gate_record::{ConnId, Memory, PipelineId, TenantId};
 use std::alloc::Global;
 
 impl<'c> Program<'c> {
     /// The program of a tenant. `Memory` where its rules and the matchers of their patterns find no room. Takes time in the
-    /// patterns of the rules, and a matcher's making for each distinct text of them.
-    pub fn new(alloc: Global, config: &'c Config, tenant: TenantId) -> Result<Program<'c>, Memory>
-        ensures config { IfOk result (λ program. config_of program ≡ config.entry.now) }
+    /// patterns of the rules of all generations, and a matcher's making for each distinct text of them.
+    pub fn new(
+        alloc: Global,
+        gens: &'c Generations,
+        tenant: TenantId,
+    ) -> Result<Program<'c>, Memory>
+        ensures gens { IfOk result (λ program. gens_of program ≡ gens.entry.now) }
         ensures tenant { IfOk result (λ program. tenant_of program ≡ tenant.0) }
     {
-        let shelf = matchers(alloc, config, tenant)?;
-        let table = table(alloc, config, tenant, &shelf)?;
+        let shelf = matchers(alloc, gens, tenant)?;
+        let table = table(alloc, gens, tenant, &shelf)?;
         Ok(Program {
-            config,
+            gens,
             tenant,
             shelf,
             table,
@@ -41,27 +46,30 @@ impl<'c> Program<'c> {
     }
 
     /// A mask for each pipeline of the tenant, by number, with a word for each event of the batch: all ones where the pipeline
-    /// selects the event, an event of the connection that `conns` has at its place, and 0 where it doesn't. `Memory` where
-    /// the masks, or what the searches need, find no room.
+    /// selects the event, an event of the connection that `conns` has at its place, by the generation that `gens` has there,
+    /// and 0 where it doesn't. `Memory` where the masks, or what the searches need, find no room.
     ///
-    /// Each entry is tried once on each distinct text of the batch, and only where a rule of a connection that is in
-    /// the batch asks for it.
+    /// Each entry is tried once on each distinct text of the batch, and only where a rule of a connection and a generation that
+    /// are in the batch asks for it.
     pub fn select(
         &self,
         alloc: Global,
         columns: &Columns<'_>,
+        gens: &[u32],
         conns: &[u32],
     ) -> Result<Vec<Vec<u32>>, Memory>
-        requires { length conns.now ≡ length columns.now }
-        ensures { IfOk result (λ masks. map (λ mask. mask.items) masks.items ≡ masks_of (config_of self.now) (tenant_of self.now) (zip conns.now columns.now)) }
+        requires gens { length gens.now ≡ length columns.now }
+        requires conns { length conns.now ≡ length columns.now }
+        ensures { IfOk result (λ masks. map (λ mask. mask.items) masks.items ≡ masks_of (gens_of self.now) (tenant_of self.now) (zip (zip gens.now conns.now) columns.now)) }
     {
-        let actives = self.actives(alloc, columns, conns)?;
+        let actives = self.actives(alloc, columns, gens, conns)?;
         let mut answers = Answers::none(alloc);
         let mut masks = Vec::new(alloc);
-        for pipeline in 0..pipelines(self.config, self.tenant) {
+        for pipeline in 0..pipelines(self.gens.first(), self.tenant) {
             let mask = self.mask(
                 alloc,
                 columns,
+                gens,
                 conns,
                 pipeline,
                 actives.as_slice(),
@@ -77,23 +85,25 @@ impl<'c> Program<'c> {
         &self,
         alloc: Global,
         columns: &Columns<'_>,
+        gens: &[u32],
         conns: &[u32],
         pipeline: u32,
         actives: &[Active],
         answers: &mut Answers<'c>,
     ) -> Result<Vec<u32>, Memory>
         requires right { AreRight columns.now answers.old }
+        requires gens { length gens.now ≡ length columns.now }
         requires len { length conns.now ≡ length columns.now }
-        requires actives { AreActive (config_of self.now) (tenant_of self.now) (zip conns.now columns.now) actives.now }
-        requires all { has_all actives.now conns.now ≡ true }
+        requires actives { AreActive (gens_of self.now) (tenant_of self.now) (zip (zip gens.now conns.now) columns.now) actives.now }
+        requires all { has_all actives.now (zip gens.now conns.now) ≡ true }
         ensures right { AreRight columns.now answers.new }
-        ensures mask { IfOk result (λ mask. mask.items ≡ mask_of (config_of self.now) (tenant_of self.now) pipeline (zip conns.now columns.now)) }
+        ensures mask { IfOk result (λ mask. mask.items ≡ mask_of (gens_of self.now) (tenant_of self.now) pipeline (zip (zip gens.now conns.now) columns.now)) }
     {
         let rows = self.chosen(alloc, columns, pipeline, actives, answers)?;
         Ok(rows.into_words())
     }
 
-    // The rows that a pipeline selects of these connections.
+    // The rows that a pipeline selects of these connections in their generations.
     fn chosen(
         &self,
         alloc: Global,
@@ -105,7 +115,7 @@ impl<'c> Program<'c> {
         requires right { AreRight columns.now answers.old }
         requires lens { All (λ (active : Active). length active.rows ≡ length columns.now) actives.now }
         ensures right { AreRight columns.now answers.new }
-        ensures chosen { IfOk result (λ rows. rows ≡ chosen (config_of self.now) (tenant_of self.now) pipeline columns.now (replicate (length columns.now) false) actives.now) }
+        ensures chosen { IfOk result (λ rows. rows ≡ chosen (gens_of self.now) (tenant_of self.now) pipeline columns.now (replicate (length columns.now) false) actives.now) }
     {
         let mut out = Mask::none(alloc, columns.rows())?;
         for active in actives {
@@ -114,7 +124,7 @@ impl<'c> Program<'c> {
         Ok(out)
     }
 
-    // Adds the rows that a pipeline selects of a connection.
+    // Adds the rows that a pipeline selects of a connection in a generation.
     fn add_chosen(
         &self,
         alloc: Global,
@@ -129,9 +139,9 @@ impl<'c> Program<'c> {
         requires len { length out.old ≡ length columns.now }
         ensures right { AreRight columns.now answers.new }
         ensures len { length out.new ≡ length columns.now }
-        ensures adds { OnOk result (out.new ≡ either out.old (chosen_of (config_of self.now) (tenant_of self.now) pipeline columns.now active.now)) }
+        ensures adds { OnOk result (out.new ≡ either out.old (chosen_of (gens_of self.now) (tenant_of self.now) pipeline columns.now active.now)) }
     {
-        match self.find(pipeline, active.conn) {
+        match self.find(active.generation, pipeline, active.conn) {
             Some(rules) => add_meeting(
                 alloc,
                 &self.shelf,
@@ -142,8 +152,9 @@ impl<'c> Program<'c> {
                 out,
             ),
             None => {
+                let config = self.gens.generation(active.generation);
                 let conn = ConnId(active.conn);
-                let rules = self.config.rules(self.tenant, PipelineId(pipeline), conn);
+                let rules = config.rules(self.tenant, PipelineId(pipeline), conn);
                 let rules = compile(alloc, &self.shelf, rules)?;
                 add_meeting(
                     alloc,
@@ -158,83 +169,102 @@ impl<'c> Program<'c> {
         }
     }
 
-    // The rules of a pipeline for a connection. Every connection of the configuration has them.
-    fn find(&self, pipeline: u32, conn: u32) -> Option<&[Compiled<'c>]>
-        ensures { IfSome result (λ rules. AskAlike (rules_in rules.now) (rules_of (config_of self.now) (tenant_of self.now) pipeline conn)) }
+    // The rules of a pipeline for a connection in a generation. Every connection of the configuration has them.
+    fn find(&self, generation: u32, pipeline: u32, conn: u32) -> Option<&[Compiled<'c>]>
+        ensures { IfSome result (λ rules. AskAlike (rules_in rules.now) (rules_of (config_at (gens_of self.now) generation) (tenant_of self.now) pipeline conn)) }
     {
-        match self
-            .table
-            .as_slice()
-            .get(place_of(self.config, pipeline, conn))
-        {
-            Some(entry) if entry.pipeline == pipeline && entry.conn == conn => {
-                Some(entry.rules.as_slice())
-            }
+        let place = place_of(self.gens, self.tenant, generation, pipeline, conn);
+        match self.table.as_slice().get(place) {
+            Some(entry)
+                if entry.generation == generation
+                    && entry.pipeline == pipeline
+                    && entry.conn == conn => { Some(entry.rules.as_slice()) }
             _ => None,
         }
     }
 
-    // The connections of a batch, each once, with the rows whose project is listed under it.
+    // The connections of a batch in their generations, each once, with the rows whose project is listed under it.
     fn actives(
         &self,
         alloc: Global,
         columns: &Columns<'_>,
+        gens: &[u32],
         conns: &[u32],
     ) -> Result<Vec<Active>, Memory>
-        requires { length conns.now ≡ length columns.now }
-        ensures active { IfOk result (λ actives. AreActive (config_of self.now) (tenant_of self.now) (zip conns.now columns.now) actives.items) }
-        ensures all { IfOk result (λ actives. has_all actives.items conns.now ≡ true) }
+        requires gens { length gens.now ≡ length columns.now }
+        requires conns { length conns.now ≡ length columns.now }
+        ensures active { IfOk result (λ actives. AreActive (gens_of self.now) (tenant_of self.now) (zip (zip gens.now conns.now) columns.now) actives.items) }
+        ensures all { IfOk result (λ actives. has_all actives.items (zip gens.now conns.now) ≡ true) }
     {
         let mut actives = Vec::new(alloc);
-        for conn in conns {
-            self.add_active(alloc, columns, conns, *conn, &mut actives)?;
+        for row in 0..conns.len() {
+            self.add_active(
+                alloc,
+                columns,
+                gens,
+                conns,
+                gens[row],
+                conns[row],
+                &mut actives,
+            )?;
         }
         Ok(actives)
     }
 
-    // Adds a connection, if it isn't there.
+    // Adds a connection in a generation, if it isn't there.
     fn add_active(
         &self,
         alloc: Global,
         columns: &Columns<'_>,
+        gens: &[u32],
         conns: &[u32],
+        generation: u32,
         conn: u32,
         actives: &mut Vec<Active>,
     ) -> Result<(), Memory>
+        requires gens { length gens.now ≡ length columns.now }
         requires len { length conns.now ≡ length columns.now }
-        requires active { AreActive (config_of self.now) (tenant_of self.now) (zip conns.now columns.now) actives.old.items }
-        ensures active { OnOk result (AreActive (config_of self.now) (tenant_of self.now) (zip conns.now columns.now) actives.new.items) }
-        ensures has { OnOk result (is_conn_of actives.new.items conn ≡ true) }
-        ensures keeps { OnOk result ((c : ℕ) → is_conn_of actives.old.items c ≡ true → is_conn_of actives.new.items c ≡ true) }
+        requires active { AreActive (gens_of self.now) (tenant_of self.now) (zip (zip gens.now conns.now) columns.now) actives.old.items }
+        ensures active { OnOk result (AreActive (gens_of self.now) (tenant_of self.now) (zip (zip gens.now conns.now) columns.now) actives.new.items) }
+        ensures has { OnOk result (is_key_of actives.new.items (generation, conn) ≡ true) }
+        ensures keeps { OnOk result ((key : ℕ × ℕ) → is_key_of actives.old.items key ≡ true → is_key_of actives.new.items key ≡ true) }
     {
-        if !has_conn(actives.as_slice(), conn) {
-            actives.push(self.active(alloc, columns, conns, conn)?)?;
+        if !has_key(actives.as_slice(), generation, conn) {
+            actives.push(self.active(alloc, columns, gens, conns, generation, conn)?)?;
         }
         Ok(())
     }
 
-    // The rows of a connection whose project is listed under it.
+    // The rows of a connection in a generation whose project is listed under it.
     fn active(
         &self,
         alloc: Global,
         columns: &Columns<'_>,
+        gens: &[u32],
         conns: &[u32],
+        generation: u32,
         conn: u32,
     ) -> Result<Active, Memory>
-        requires { length conns.now ≡ length columns.now }
-        ensures conn { IfOk result (λ active. active.conn ≡ conn) }
-        ensures rows { IfOk result (λ active. active.rows ≡ active_in (config_of self.now) (tenant_of self.now) conn (zip conns.now columns.now)) }
+        requires gens { length gens.now ≡ length columns.now }
+        requires conns { length conns.now ≡ length columns.now }
+        ensures key { IfOk result (λ active. key_of active ≡ (generation, conn)) }
+        ensures rows { IfOk result (λ active. active.rows ≡ active_in (gens_of self.now) (tenant_of self.now) (generation, conn) (zip (zip gens.now conns.now) columns.now)) }
     {
-        let ids = [conn];
-        let mut rows = Mask::of_ids(alloc, conns, &ids)?;
-        let listed = listed_rows(alloc, self.config, self.tenant, ConnId(conn), columns)?;
+        let mut rows = Mask::of_ids(alloc, gens, &[generation])?;
+        rows.and(&Mask::of_ids(alloc, conns, &[conn])?);
+        let config = self.gens.generation(generation);
+        let listed = listed_rows(alloc, config, self.tenant, ConnId(conn), columns)?;
         rows.and(&listed);
-        Ok(Active { conn, rows })
+        Ok(Active {
+            generation,
+            conn,
+            rows,
+        })
     }
 }
 
-fn has_conn(actives: &[Active], conn: u32) -> bool
-    ensures { result ≡ is_conn_of actives.now conn }
+fn has_key(actives: &[Active], generation: u32, conn: u32) -> bool
+    ensures { result ≡ is_key_of actives.now (generation, conn) }
 {
-    actives.iter().any(|active| conn == active.conn)
+    actives.iter().any(|active| generation == active.generation && conn == active.conn)
 }

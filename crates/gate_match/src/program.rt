@@ -1,17 +1,17 @@
-ghost use Rattle.gate_match.specs.Inner.Tables.{AreOfConfig};
+ghost use Rattle.gate_match.specs.Inner.Tables.{AreOfGenerations};
 
 use crate::rules_of_conn::RulesOfConn;
 use crate::shelf::Shelf;
-use gate_config::Config;
+use gate_config::Generations;
 use gate_record::TenantId;
 
-/// The rules of all pipelines of a tenant, ready for one batch of events after another: each distinct text of their patterns
-/// has a matcher, which is kept between batches. Nothing else is kept of a batch.
+/// The rules of all pipelines of a tenant in all generations, ready for one batch of events after another: each distinct text
+/// of their patterns has a matcher, which is kept between batches. Nothing else is kept of a batch.
 #[derive(Drop)]
 pub struct Program<'c> {
-    pub(crate) config: &'c Config,
+    pub(crate) gens: &'c Generations,
     pub(crate) tenant: TenantId,
     pub(crate) shelf: Shelf<'c>,
     pub(crate) table: Vec<RulesOfConn<'c>>,
-    ghost compiled: { AreOfConfig config.now tenant.0 table.items },
+    ghost compiled: { AreOfGenerations gens.now tenant.0 table.items },
 }

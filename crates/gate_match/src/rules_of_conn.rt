@@ -1,8 +1,9 @@
 use crate::compiled::Compiled;
 
-// The rules of a pipeline for the events of a connection.
+// The rules of a pipeline for the events of a connection, in a generation.
 #[derive(Drop)]
 pub(crate) struct RulesOfConn<'c> {
+    pub(crate) generation: u32,
     pub(crate) pipeline: u32,
     pub(crate) conn: u32,
     pub(crate) rules: Vec<Compiled<'c>>,

@@ -1,28 +1,40 @@
 ghost use Rattle.std.specs.Prelude.{IfOk, OnOk};
-ghost use Rattle.gate_match.specs.Inner.Tables.{AreOfConfig};
+ghost use Rattle.gate_match.specs.Inner.Tables.{AreOfGenerations};
 
 use crate::compiling::{compile, keep_rule};
 use crate::rules_of_conn::RulesOfConn;
 use crate::shelf::Shelf;
-use gate_config::Config;
+use gate_config::{Config, Generations};
 use gate_record::{ConnId, Memory, PipelineId, TenantId};
 use gate_rule::Rule;
 use std::alloc::Global;
 
-// A matcher for each distinct text of the patterns of a tenant's rules.
+// A matcher for each distinct text of the patterns of a tenant's rules, over all generations.
 pub(crate) fn matchers<'c>(
     alloc: Global,
-    config: &'c Config,
+    gens: &'c Generations,
     tenant: TenantId,
 ) -> Result<Shelf<'c>, Memory> {
     let mut shelf = Shelf::new(alloc);
+    for generation in 0..gens.count() {
+        keep_generation(alloc, &mut shelf, gens.generation(generation), tenant)?;
+    }
+    Ok(shelf)
+}
+
+fn keep_generation<'c>(
+    alloc: Global,
+    shelf: &mut Shelf<'c>,
+    config: &'c Config,
+    tenant: TenantId,
+) -> Result<(), Memory> {
     for pipeline in 0..pipelines(config, tenant) {
         for conn in 0..connections(config) {
             let rules = config.rules(tenant, PipelineId(pipeline), ConnId(conn));
-            keep_rules(alloc, &mut shelf, rules)?;
+            keep_rules(alloc, shelf, rules)?;
         }
     }
-    Ok(shelf)
+    Ok(())
 }
 
 fn keep_rules<'c>(alloc: Global, shelf: &mut Shelf<'c>, rules: &'c [Rule]) -> Result<(), Memory> {
@@ -32,64 +44,94 @@ fn keep_rules<'c>(alloc: Global, shelf: &mut Shelf<'c>, rules: &'c [Rule]) -> Re
     Ok(())
 }
 
-// The rules of all pipelines: by pipeline, and in each by connection.
+// The rules of all pipelines: by generation, in each by pipeline, and in each of these by connection.
 pub(crate) fn table<'c>(
     alloc: Global,
-    config: &'c Config,
+    gens: &'c Generations,
     tenant: TenantId,
     shelf: &Shelf<'c>,
 ) -> Result<Vec<RulesOfConn<'c>>, Memory>
-    ensures { IfOk result (λ table. AreOfConfig config.entry.now tenant.0 table.items) }
+    ensures { IfOk result (λ table. AreOfGenerations gens.entry.now tenant.0 table.items) }
 {
     let mut table = Vec::new(alloc);
-    for pipeline in 0..pipelines(config, tenant) {
-        push_pipeline(alloc, config, tenant, pipeline, shelf, &mut table)?;
+    for generation in 0..gens.count() {
+        push_generation(alloc, gens, tenant, generation, shelf, &mut table)?;
     }
     Ok(table)
 }
 
-fn push_pipeline<'c>(
+fn push_generation<'c>(
     alloc: Global,
-    config: &'c Config,
+    gens: &'c Generations,
     tenant: TenantId,
-    pipeline: u32,
+    generation: u32,
     shelf: &Shelf<'c>,
     table: &mut Vec<RulesOfConn<'c>>,
 ) -> Result<(), Memory>
-    requires { AreOfConfig config.now tenant.0 table.old.items }
-    ensures { OnOk result (AreOfConfig config.entry.now tenant.0 table.new.items) }
+    requires { AreOfGenerations gens.now tenant.0 table.old.items }
+    ensures { OnOk result (AreOfGenerations gens.entry.now tenant.0 table.new.items) }
 {
-    for conn in 0..connections(config) {
-        push_rules(alloc, config, tenant, pipeline, conn, shelf, table)?;
+    for pipeline in 0..pipelines(gens.first(), tenant) {
+        push_pipeline(alloc, gens, tenant, generation, pipeline, shelf, table)?;
     }
     Ok(())
 }
 
-fn push_rules<'c>(
+fn push_pipeline<'c>(
     alloc: Global,
-    config: &'c Config,
+    gens: &'c Generations,
     tenant: TenantId,
+    generation: u32,
     pipeline: u32,
-    conn: u32,
     shelf: &Shelf<'c>,
     table: &mut Vec<RulesOfConn<'c>>,
 ) -> Result<(), Memory>
-    requires { AreOfConfig config.now tenant.0 table.old.items }
-    ensures { OnOk result (AreOfConfig config.entry.now tenant.0 table.new.items) }
+    requires { AreOfGenerations gens.now tenant.0 table.old.items }
+    ensures { OnOk result (AreOfGenerations gens.entry.now tenant.0 table.new.items) }
 {
-    let rules = config.rules(tenant, PipelineId(pipeline), ConnId(conn));
-    let rules = compile(alloc, shelf, rules)?;
-    table.push(RulesOfConn {
-        pipeline,
-        conn,
-        rules,
-    })?;
+    for conn in 0..connections(gens.first()) {
+        table.push(rules_of_conn(alloc, gens, tenant, generation, pipeline, conn, shelf)?)?;
+    }
     Ok(())
 }
 
+ghost use Rattle.gate_match.specs.Inner.Tables.{IsOfGenerations};
+
+// The rules of a pipeline for a connection, in a generation.
+fn rules_of_conn<'c>(
+    alloc: Global,
+    gens: &'c Generations,
+    tenant: TenantId,
+    generation: u32,
+    pipeline: u32,
+    conn: u32,
+    shelf: &Shelf<'c>,
+) -> Result<RulesOfConn<'c>, Memory>
+    ensures { IfOk result (λ entry. IsOfGenerations gens.entry.now tenant.0 entry) }
+{
+    let config = gens.generation(generation);
+    let rules = config.rules(tenant, PipelineId(pipeline), ConnId(conn));
+    let rules = compile(alloc, shelf, rules)?;
+    Ok(RulesOfConn {
+        generation,
+        pipeline,
+        conn,
+        rules,
+    })
+}
+
 // The place in the table at which a connection's rules are, if there are any.
-pub(crate) fn place_of(config: &Config, pipeline: u32, conn: u32) -> usize {
-    (pipeline as usize)
+pub(crate) fn place_of(
+    gens: &Generations,
+    tenant: TenantId,
+    generation: u32,
+    pipeline: u32,
+    conn: u32,
+) -> usize {
+    let config = gens.first();
+    (generation as usize)
+        .wrapping_mul(config.pipelines(tenant).len())
+        .wrapping_add(pipeline as usize)
         .wrapping_mul(config.connections().len())
         .wrapping_add(conn as usize)
 }

@@ -91,10 +91,16 @@ fn votes_of(alloc: Global, numbers: &mut Numbers) -> Result<Sequence<(Text, i64)
     Ok(votes)
 }
 
-pub(crate) fn conns_of(alloc: Global, numbers: &mut Numbers, rows: u32) -> Result<Vec<u32>, Fail> {
-    let mut conns = Vec::new(alloc);
+/// So many numbers below the limit: the connections of events, or the generations that forwarded them.
+pub(crate) fn numbers_of(
+    alloc: Global,
+    numbers: &mut Numbers,
+    rows: u32,
+    limit: u32,
+) -> Result<Vec<u32>, Fail> {
+    let mut made = Vec::new(alloc);
     for _ in 0..rows {
-        conns.push(numbers.below(3))?;
+        made.push(numbers.below(limit))?;
     }
-    Ok(conns)
+    Ok(made)
 }

@@ -1,6 +1,6 @@
-use crate::batches::{Numbers, conns_of, events_of};
-use crate::plain::{TENANT, plain, shown};
-use gate_config::{Config, read_config};
+use crate::batches::{Numbers, events_of, numbers_of};
+use crate::plain::{Batch, TENANT, plain, shown};
+use gate_config::{Generations, read_generations};
 use gate_match::Program;
 use std::alloc::Global;
 use std::process::Abort;
@@ -25,15 +25,37 @@ const CONFIG: &str = r#"{"tenants":[{"name":"main","source":{
         "other":[{"event":".*","ref":{"regex":"refs/heads/","negate":true},"email":["@x",{"regex":"@x","negate":true}]},
             {"event":["ref",{"regex":"ref","negate":true}],"branch":[{"regex":"^stable$","negate":true},{"regex":"st","negate":true}]}]}}}]}}"#;
 
-fn config(alloc: Global) -> Result<Config, Fail> {
-    match read_config(alloc, CONFIG.as_bytes()) {
-        Ok(config) => Ok(config),
+// A later generation: other projects are listed, and of the rules some are of another connection or pipeline, some have another
+// pattern, and some are as they were.
+const LATER: &str = r#"{"tenants":[{"name":"main","source":{
+    "gerrit":{"untrusted-projects":["docs"]},"other":{"untrusted-projects":["elsewhere","tools"]}}}],
+"config":{"main":[
+    {"pipeline":{"name":"check","manager":"independent","trigger":{
+        "gerrit":[{"event":["comment-added","patchset-created"],"branch":"^stable$"}],
+        "other":[{"event":"patchset-created"},{"event":"comment-added","comment":"please","branch":["main","st"]}]}}},
+    {"pipeline":{"name":"gate","manager":"dependent","trigger":{
+        "gerrit":[{"event":"comment-added","approval":[{"Code-Review":1}]}],
+        "other":[{"event":".*","approval":{"Verified":2}},{"event":"ref-updated","ref":"refs/tags/"}]}}},
+    {"pipeline":{"name":"post","manager":"independent","trigger":{
+        "other":[{"event":"ref-updated","ref":"refs/heads/"},{"event":"ref-updated","ignore-deletes":false,"email":"@y"}]}}},
+    {"pipeline":{"name":"others","manager":"independent","trigger":{
+        "gerrit":[{"event":{"regex":"comment-added","negate":true},"branch":{"regex":"main","negate":true}}],
+        "other":[{"event":".*","username":{"regex":"ot$","negate":true}}]}}}]}}"#;
+
+// The generations, of which the third is the first again.
+fn gens(alloc: Global) -> Result<Generations, Fail> {
+    let mut documents = Vec::new(alloc);
+    for document in [CONFIG, LATER, CONFIG] {
+        documents.push(document.as_bytes().to_vec(alloc)?)?;
+    }
+    match read_generations(alloc, documents.as_slice()) {
+        Ok(gens) => Ok(gens),
         Err(_) => Err(Fail::from("the configuration is refused")),
     }
 }
 
 // How many programs there are, and how many batches each of them matches, one after another.
-const PROGRAMS: u32 = 20;
+const PROGRAMS: u32 = 10;
 
 const BATCHES: u32 = 50;
 
@@ -45,45 +67,59 @@ fn rows_of(batch: u32) -> u32 {
     batch % 41
 }
 
-// A batch whose events and connections are made of its number.
+// A batch whose events, generations and connections are made of its number.
+fn batch_of(alloc: Global, number: u32) -> Result<Batch, Fail> {
+    let rows = rows_of(number);
+    let mut numbers = Numbers { state: number };
+    Ok(Batch {
+        events: events_of(alloc, &mut numbers, rows)?,
+        conns: numbers_of(alloc, &mut numbers, rows, 3)?,
+        gens: numbers_of(alloc, &mut numbers, rows, 3)?,
+    })
+}
+
 fn is_alike(
     rt: &impl Abort,
     alloc: Global,
-    config: &Config,
+    gens: &Generations,
     program: &Program<'_>,
-    batch: u32,
+    number: u32,
 ) -> Result<(), Fail> {
-    let rows = rows_of(batch);
-    let mut numbers = Numbers { state: batch };
-    let events = events_of(alloc, &mut numbers, rows)?;
-    let conns = conns_of(alloc, &mut numbers, rows)?;
-    let found = shown(alloc, program, events.as_slice(), conns.as_slice())?;
-    let wanted = plain(alloc, config, events.as_slice(), conns.as_slice())?;
-    assert!(rt;
-        found.as_str() == wanted.as_str(),
-        "batch {batch}: {found} {wanted}"
-    );
+    let batch = batch_of(alloc, number)?;
+    compare(rt, alloc, gens, program, &batch)
+}
+
+fn compare(
+    rt: &impl Abort,
+    alloc: Global,
+    gens: &Generations,
+    program: &Program<'_>,
+    batch: &Batch,
+) -> Result<(), Fail> {
+    let found = shown(alloc, program, batch)?;
+    let wanted = plain(alloc, gens, batch)?;
+    assert!(rt; found.as_str() == wanted.as_str(), "{found} {wanted}");
     Ok(())
 }
 
 fn are_alike(
     rt: &impl Abort,
     alloc: Global,
-    config: &Config,
+    gens: &Generations,
     program: &Program<'_>,
     number: u32,
 ) -> Result<(), Fail> {
     let first = number.saturating_mul(BATCHES);
     for batch in 0..BATCHES {
-        is_alike(rt, alloc, config, program, first.saturating_add(batch))?;
+        is_alike(rt, alloc, gens, program, first.saturating_add(batch))?;
     }
     Ok(())
 }
 
-fn all_are_alike(rt: &impl Abort, alloc: Global, config: &Config) -> Result<(), Fail> {
+fn all_are_alike(rt: &impl Abort, alloc: Global, gens: &Generations) -> Result<(), Fail> {
     for number in 0..PROGRAMS {
-        let program = Program::new(alloc, config, TENANT)?;
-        are_alike(rt, alloc, config, &program, number)?;
+        let program = Program::new(alloc, gens, TENANT)?;
+        are_alike(rt, alloc, gens, &program, number)?;
     }
     Ok(())
 }
@@ -91,6 +127,6 @@ fn all_are_alike(rt: &impl Abort, alloc: Global, config: &Config) -> Result<(), 
 #[test]
 fn masks_are_those_of_each_rule_by_itself(rt: HostRuntime) -> Result<(), Fail> {
     let alloc = rt.alloc();
-    let config = config(alloc)?;
-    all_are_alike(&rt, alloc, &config)
+    let gens = gens(alloc)?;
+    all_are_alike(&rt, alloc, &gens)
 }

@@ -1,5 +1,5 @@
 //! Masks as texts, a line for each pipeline: those of a program, and those of each rule by itself.
-use gate_config::Config;
+use gate_config::{Config, Generations};
 use gate_intern::{Columns, MAX_ROWS};
 use gate_match::Program;
 use gate_record::{ConnId, Event, PipelineId, Shared, TenantId};
@@ -9,19 +9,29 @@ use std::test::Fail;
 
 pub(crate) const TENANT: TenantId = TenantId(0);
 
+/// Events, and of each the generation that forwarded it and its connection.
+#[derive(Drop)]
+pub(crate) struct Batch {
+    pub(crate) events: Vec<Shared<Event>>,
+    pub(crate) gens: Vec<u32>,
+    pub(crate) conns: Vec<u32>,
+}
+
 // The masks of the program.
-pub(crate) fn shown(
-    alloc: Global,
-    program: &Program<'_>,
-    events: &[Shared<Event>],
-    conns: &[u32],
-) -> Result<String, Fail> {
+pub(crate) fn shown(alloc: Global, program: &Program<'_>, batch: &Batch) -> Result<String, Fail> {
     let mut text = String::new(alloc);
-    if events.len() > MAX_ROWS {
+    if batch.events.len() > MAX_ROWS {
         return Err(Fail::from("too many events"));
     }
-    let columns = Columns::build(alloc, events)?;
-    push_masks(alloc, &mut text, program, &columns, conns)?;
+    let columns = Columns::build(alloc, batch.events.as_slice())?;
+    push_masks(
+        alloc,
+        &mut text,
+        program,
+        &columns,
+        batch.gens.as_slice(),
+        batch.conns.as_slice(),
+    )?;
     Ok(text)
 }
 
@@ -30,12 +40,13 @@ fn push_masks(
     text: &mut String,
     program: &Program<'_>,
     columns: &Columns<'_>,
+    gens: &[u32],
     conns: &[u32],
 ) -> Result<(), Fail> {
-    if conns.len() != columns.rows() {
-        return Err(Fail::from("a connection for each event"));
+    if gens.len() != columns.rows() || conns.len() != columns.rows() {
+        return Err(Fail::from("a generation and a connection for each event"));
     }
-    for mask in &program.select(alloc, columns, conns)? {
+    for mask in &program.select(alloc, columns, gens, conns)? {
         push_mask(text, mask.as_slice())?;
     }
     Ok(())
@@ -56,22 +67,10 @@ fn word_text(word: u32) -> &'static str {
     }
 }
 
-pub(crate) fn plain(
-    alloc: Global,
-    config: &Config,
-    events: &[Shared<Event>],
-    conns: &[u32],
-) -> Result<String, Fail> {
+pub(crate) fn plain(alloc: Global, gens: &Generations, batch: &Batch) -> Result<String, Fail> {
     let mut text = String::new(alloc);
-    for pipeline in 0..config.pipelines(TENANT).len() {
-        push_pipeline(
-            alloc,
-            &mut text,
-            config,
-            PipelineId(pipeline as u32),
-            events,
-            conns,
-        )?;
+    for pipeline in 0..gens.first().pipelines(TENANT).len() {
+        push_pipeline(alloc, &mut text, gens, PipelineId(pipeline as u32), batch)?;
     }
     Ok(text)
 }
@@ -79,12 +78,12 @@ pub(crate) fn plain(
 fn push_pipeline(
     alloc: Global,
     text: &mut String,
-    config: &Config,
+    gens: &Generations,
     pipeline: PipelineId,
-    events: &[Shared<Event>],
-    conns: &[u32],
+    batch: &Batch,
 ) -> Result<(), Fail> {
-    for (event, conn) in events.iter().zip(conns) {
+    for ((event, number), conn) in batch.events.iter().zip(&batch.gens).zip(&batch.conns) {
+        let config = gens.generation(*number);
         let is_marked = selects(alloc, config, pipeline, ConnId(*conn), event.get())?;
         text.push_str(if is_marked { "x" } else { "-" })?;
     }

@@ -16,7 +16,7 @@ use Rattle.gate_pipeline.specs.declared.which.Held.{Held}
 use Rattle.gate_pipeline.specs.declared.which.Held.TheVariants as held
 use Rattle.gate_pipeline.specs.declared.which.Taken.{Taken}
 use Rattle.gate_pipeline.specs.declared.which.Taken.TheVariants as taken
-use Rattle.gate_pipeline.specs.Histories.{AppliedOnce, Call, FoundEmpty, PhasesFollow, Refused, Took, action_of, after_call, after_calls, processed_in, stamp_of, taking_of, takings, takings_of}
+use Rattle.gate_pipeline.specs.Histories.{AppliedOnce, Call, FoundEmpty, PhasesFollow, Refused, Took, action_of, after_call, after_calls, processed_from, stamp_of, taking_of, takings, takings_of}
 use Rattle.gate_pipeline.specs.Passes.{after_taking, pass_after}
 use Rattle.gate_pipeline.specs.States.{State, first_state, found_empty, held_as, taken_in, takes, to_process, with_processed}
 
@@ -81,18 +81,18 @@ items_of_took config state given =
     items_of_processed config (to_process state.held given) (taken_in given state)
     ∙ ap (λ (s : items.State). after s (map action_of (option_to_list (takes config state given).1))) (items_of_taken given state)
 
-items_of_calls : (state : State) (calls : List Call) → (after_calls state calls).items ≡ after state.items (map action_of (processed_in state calls))
+items_of_calls : (state : State) (calls : List Call) → (after_calls state calls).items ≡ after state.items (map action_of (processed_from state calls))
 items_of_calls state [] = refl
 items_of_calls state (Took config given ∷ calls) =
     let next = takes config state given in
     items_of_calls next.0 calls
-    ∙ ap (λ (s : items.State). after s (map action_of (processed_in next.0 calls))) (items_of_took config state given)
-    ∙ sym (after-append state.items (map action_of (option_to_list next.1)) (map action_of (processed_in next.0 calls)))
-    ∙ ap (after state.items) (sym (map-option action_of next.1 (processed_in next.0 calls)))
+    ∙ ap (λ (s : items.State). after s (map action_of (processed_from next.0 calls))) (items_of_took config state given)
+    ∙ sym (after-append state.items (map action_of (option_to_list next.1)) (map action_of (processed_from next.0 calls)))
+    ∙ ap (after state.items) (sym (map-option action_of next.1 (processed_from next.0 calls)))
 items_of_calls state (Refused given ∷ calls) =
     let next = held_as (to_process state.held given) (taken_in given state) in
     items_of_calls next calls
-    ∙ ap (λ (s : items.State). after s (map action_of (processed_in next calls))) (items_of_taken given state)
+    ∙ ap (λ (s : items.State). after s (map action_of (processed_from next calls))) (items_of_taken given state)
 items_of_calls state (FoundEmpty ∷ calls) = items_of_calls (found_empty state) calls
 
 -- ---- what is done
@@ -115,20 +115,20 @@ done_of_took config state given =
     done_of_processed config (to_process state.held given) (taken_in given state)
     ∙ ap (λ (stamps : List Stamp). stamps ++ filter_map stamp_of (option_to_list (takes config state given).1)) (done_of_taken given state)
 
-done_of_calls : (state : State) (calls : List Call) → (after_calls state calls).done ≡ state.done ++ filter_map stamp_of (processed_in state calls)
+done_of_calls : (state : State) (calls : List Call) → (after_calls state calls).done ≡ state.done ++ filter_map stamp_of (processed_from state calls)
 done_of_calls state [] = sym (append-nil state.done)
 done_of_calls state (Took config given ∷ calls) =
     let next = takes config state given in
     let first = filter_map stamp_of (option_to_list next.1) in
-    let others = filter_map stamp_of (processed_in next.0 calls) in
+    let others = filter_map stamp_of (processed_from next.0 calls) in
     done_of_calls next.0 calls
     ∙ ap (λ (stamps : List Stamp). stamps ++ others) (done_of_took config state given)
     ∙ append_assoc state.done first others
-    ∙ ap (λ (stamps : List Stamp). state.done ++ stamps) (sym (filter_map-append stamp_of (option_to_list next.1) (processed_in next.0 calls)))
+    ∙ ap (λ (stamps : List Stamp). state.done ++ stamps) (sym (filter_map-append stamp_of (option_to_list next.1) (processed_from next.0 calls)))
 done_of_calls state (Refused given ∷ calls) =
     let next = held_as (to_process state.held given) (taken_in given state) in
     done_of_calls next calls
-    ∙ ap (λ (stamps : List Stamp). stamps ++ filter_map stamp_of (processed_in next calls)) (done_of_taken given state)
+    ∙ ap (λ (stamps : List Stamp). stamps ++ filter_map stamp_of (processed_from next calls)) (done_of_taken given state)
 done_of_calls state (FoundEmpty ∷ calls) = done_of_calls (found_empty state) calls
 
 pub applied_once : AppliedOnce

@@ -161,7 +161,7 @@ module _ (config : Config) (t p : ℕ) where
   frees_event : (h : History) (e : Stamped) → Holds config t p h → h.state.held ≡ Some (held.Event e) → Holds config t p (freed (held.Event e) h)
   frees_event h e holds waits =
       let was = holds.are in
-      let a = trigger_of config h.state.tenant h.state.pipeline e in
+      let a = trigger_of config h.state.tenant h.state.pipeline e.stamp e.event in
       let x = one h was (Some e.stamp) a in
       let done = h.processed in
       record {
@@ -170,7 +170,7 @@ module _ (config : Config) (t p : ℕ) where
           triggers = was.triggers ∙ ap (λ (o : Option Held). was.front ++ held_items o) waits ∙ sym (append-nil (was.front ++ item.Event e ∷ []));
           stamps = picked stamp_in was.front (item.Event e) ∙ ap (λ (xs : List Stamp). xs ++ e.stamp ∷ []) was.stamps;
           asked_for = picked triggering done x ∙ ap (λ (xs : List (Option Stamp × Action)). xs ++ (Some e.stamp, a) ∷ []) was.asked_for
-              ∙ (λ i. filter_map (asking config t p) was.front ++ (Some e.stamp, trigger_of config (holds.tenant i) (holds.number i) e) ∷ [])
+              ∙ (λ i. filter_map (asking config t p) was.front ++ (Some e.stamp, trigger_of config (holds.tenant i) (holds.number i) e.stamp e.event) ∷ [])
               ∙ sym (picked (asking config t p) was.front (item.Event e));
           ends = list_any-append is_end was.front (item.Event e ∷ []) ∙ or_false (list_any is_end was.front) ∙ was.ends;
           management = was.management ∙ ap (λ (o : Option Held). filter_map managing (map action_of done) ++ held_managed o) waits

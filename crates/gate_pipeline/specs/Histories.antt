@@ -55,11 +55,11 @@ abbrev pub takings : List Call → List Taking
 takings calls = flat_map takings_of calls
 
 -- the actions that were processed, in order, each with its stamp and outcome
-abbrev pub processed_in : State → List Call → List Processed
-processed_in state [] = []
-processed_in state (Took config given ∷ calls) = option_to_list (takes config state given).1 ++ processed_in (takes config state given).0 calls
-processed_in state (Refused given ∷ calls) = processed_in (after_call state (Refused given)) calls
-processed_in state (FoundEmpty ∷ calls) = processed_in (found_empty state) calls
+abbrev pub processed_from : State → List Call → List Processed
+processed_from state [] = []
+processed_from state (Took config given ∷ calls) = option_to_list (takes config state given).1 ++ processed_from (takes config state given).0 calls
+processed_from state (Refused given ∷ calls) = processed_from (after_call state (Refused given)) calls
+processed_from state (FoundEmpty ∷ calls) = processed_from (found_empty state) calls
 
 abbrev pub action_of : Processed → Action
 action_of done = done.1
@@ -75,9 +75,9 @@ PhasesFollow = (config : Config) (t p : ℕ) (calls : List Call) → (after_call
 -- one.
 pub record AppliedOnce : Type 0 where
   pub items : (config : Config) (t p : ℕ) (calls : List Call) →
-      (after_calls (first_state config t p) calls).items ≡ after (start (manager_of config t p) 0) (map action_of (processed_in (first_state config t p) calls))
+      (after_calls (first_state config t p) calls).items ≡ after (start (manager_of config t p) 0) (map action_of (processed_from (first_state config t p) calls))
   pub done : (config : Config) (t p : ℕ) (calls : List Call) →
-      (after_calls (first_state config t p) calls).done ≡ filter_map stamp_of (processed_in (first_state config t p) calls)
+      (after_calls (first_state config t p) calls).done ≡ filter_map stamp_of (processed_from (first_state config t p) calls)
 
 -- ---- what was taken from the queues
 
@@ -137,7 +137,7 @@ is_end item.End = true
 
 -- what a trigger event asks for, with its stamp
 abbrev pub asking : Config → ℕ → ℕ → PipelineItem → Option (Option Stamp × Action)
-asking config t p (item.Event s) = Some (Some s.stamp, trigger_of config t p s)
+asking config t p (item.Event s) = Some (Some s.stamp, trigger_of config t p s.stamp s.event)
 asking config t p item.End = None
 
 -- what was processed, by its kind: a trigger with its stamp, a management event, a result

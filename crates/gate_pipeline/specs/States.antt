@@ -92,7 +92,7 @@ applied stamp action state = (record state { items = (apply state.items action).
 abbrev pub processed : Config → Held → State → State × Processed
 processed config (held.Action action) state = applied None action state
 processed config (held.Event stamped) state =
-    applied (Some stamped.stamp) (trigger_of config state.tenant state.pipeline stamped) (record state { done = state.done ++ stamped.stamp ∷ [] })
+    applied (Some stamped.stamp) (trigger_of config state.tenant state.pipeline stamped.stamp stamped.event) (record state { done = state.done ++ stamped.stamp ∷ [] })
 
 -- what is to be processed of what was handed in; of the end mark nothing is
 abbrev pub to_process : Option Held → Taken → Option Held

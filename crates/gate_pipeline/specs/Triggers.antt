@@ -2,7 +2,7 @@
 use Rattle.std.specs.Prelude.{ℕ, ℤ, pos, List, [], Option, Some, None, unwrap_or}
 use Rattle.gate_record.specs.declared.event.Event.{Event}
 use Rattle.gate_record.specs.declared.ids.ConnId.{ConnId}
-use Rattle.gate_record.specs.declared.transit.Stamped.{Stamped}
+use Rattle.gate_record.specs.declared.ids.Stamp.{Stamp}
 use Rattle.gate_config.specs.declared.config.Config.{Config}
 use Rattle.gate_config.specs.Lookups.{jobs_of}
 use Rattle.gate_items.specs.declared.action.Action.{Action}
@@ -32,8 +32,6 @@ patchset_of event (Some (key.Change conn number)) = unwrap_or event.patchset (po
 patchset_of event None = unwrap_or event.patchset (pos 0)
 
 -- for pipeline p of tenant t: the key and the patch set of the event, and the jobs of its project
-abbrev pub trigger_of : Config → ℕ → ℕ → Stamped → Action
-trigger_of config t p stamped =
-    action.Trigger (key_of stamped.stamp.conn stamped.event stamped.event.change)
-    (patchset_of stamped.event (key_of stamped.stamp.conn stamped.event stamped.event.change))
-    (jobs_of config t p (project_of stamped.event))
+abbrev pub trigger_of : Config → ℕ → ℕ → Stamp → Event → Action
+trigger_of config t p stamp event =
+    action.Trigger (key_of stamp.conn event event.change) (patchset_of event (key_of stamp.conn event event.change)) (jobs_of config t p (project_of event))

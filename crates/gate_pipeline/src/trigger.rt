@@ -27,7 +27,7 @@ pub(crate) fn trigger_of(
     pipeline: PipelineId,
     stamped: &Stamped,
 ) -> Result<Action, Memory>
-    ensures { IfOk result (λ action. action ≡ trigger_of config.now tenant.0 pipeline.0 stamped.now) }
+    ensures { IfOk result (λ action. action ≡ trigger_of config.now tenant.0 pipeline.0 stamped.now.stamp stamped.now.event) }
 {
     let event = stamped.event.get();
     let key = key_of(alloc, stamped.stamp.conn, event)?;

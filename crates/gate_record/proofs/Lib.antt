@@ -3,6 +3,7 @@ pub mod Categories
 pub mod EventBytes
 pub mod Fitting
 pub mod Found
+pub mod Generations
 pub mod JsonBytes
 pub mod JsonOf
 pub mod Kept

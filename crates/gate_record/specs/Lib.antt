@@ -4,6 +4,7 @@ pub mod Characters
 pub mod EachOnce
 pub mod Entries
 pub mod Events
+pub mod Generations
 pub mod Inner
 pub mod Json
 pub mod Limits

@@ -28,7 +28,10 @@ mod transit;
 pub use approvals::{MAX_APPROVALS, category};
 pub use event::Event;
 pub use ids::{ConnId, ManagerKind, PipelineId, Stamp, TenantId};
-pub use laws::{events_have_bytes, the_limits_are_as_defined};
+pub use laws::{
+    entries_have_generations, events_have_bytes, records_have_generations,
+    the_limits_are_as_defined,
+};
 pub use memory::Memory;
 pub use names::name_text;
 pub use number::{number_of_text, read_number};

@@ -7,6 +7,8 @@ use crate::shared::Shared;
 #[derive(Debug, Drop)]
 pub struct Stamped {
     pub stamp: Stamp,
+    /// The generation of the configuration that is in force at the record, from 0.
+    pub generation: u32,
     pub event: Shared<Event>,
 }
 
@@ -15,6 +17,8 @@ pub struct Stamped {
 pub enum ConnEntry {
     /// A record with its number among those that the connection accepted, from 0.
     Numbered(u64, Record),
+    /// From here on the next generation of the configuration is in force.
+    Renew,
     /// The end mark: the connection was closed, and nothing follows.
     End,
 }

@@ -10,7 +10,10 @@ mod program;
 mod records;
 mod shown;
 
-pub use configurations::{PLAIN, WHOLE, config_of, read_twice};
+pub use configurations::{
+    PLAIN, PLAIN_LATER, WHOLE, WHOLE_LATER, config_of, documents_of, gens_of, read_all_twice,
+    read_twice,
+};
 pub use elsewhere::Elsewhere;
 pub use gate_record::Memory;
 pub use log::Log;

@@ -8,7 +8,7 @@ use Rattle.gate_record.specs.declared.ids.PipelineId.{PipelineId}
 use Rattle.gate_record.specs.declared.transit.TenantItem.{TenantItem}
 use Rattle.gate_record.specs.declared.transit.PipelineItem.{PipelineItem}
 use Rattle.gate_record.specs.declared.transit.PipelineItem.TheVariants as pipeline
-use Rattle.gate_config.specs.declared.config.Config.{Config}
+use Rattle.gate_config.specs.declared.generations.Generations.{Generations}
 use Rattle.gate_config.specs.Lookups.{pipelines_of}
 use Rattle.gate_tenant.specs.Dispatching.{by_pipeline, chosen_item, end_marks, for_pipeline}
 use Rattle.gate_tenant.specs.Histories.{item_for, items_for}
@@ -51,25 +51,25 @@ module _ (gets : ℕ → Option PipelineItem) where
       ∙ among p (a + 1) k n (omega (arith, e)) (omega (arith, h))
 
 -- of one item
-of_item : (config : Config) (t p : ℕ) (item : TenantItem) → p < length (pipelines_of config t) → items_for p (by_pipeline config t item) ≡ option_to_list (chosen_item config t p item)
-of_item config t p item h = among (λ q. chosen_item config t q item) p 0 p (length (pipelines_of config t)) (omega arith) h
+of_item : (gens : Generations) (t p : ℕ) (item : TenantItem) → p < length (pipelines_of gens.first t) → items_for p (by_pipeline gens t item) ≡ option_to_list (chosen_item gens t p item)
+of_item gens t p item h = among (λ q. chosen_item gens t q item) p 0 p (length (pipelines_of gens.first t)) (omega arith) h
 
 -- of a list of items
-pub of_items : (config : Config) (t p : ℕ) (items : List TenantItem) → p < length (pipelines_of config t) → items_for p (flat_map (by_pipeline config t) items) ≡ filter_map (chosen_item config t p) items
-of_items config t p [] h = refl
-of_items config t p (item ∷ items) h =
-    filter_map-append (item_for p) (by_pipeline config t item) (flat_map (by_pipeline config t) items)
-    ∙ ap (λ xs. xs ++ items_for p (flat_map (by_pipeline config t) items)) (of_item config t p item h)
-    ∙ ap (λ xs. option_to_list (chosen_item config t p item) ++ xs) (of_items config t p items h)
-    ∙ sym (cons_option_is (chosen_item config t p item) (filter_map (chosen_item config t p) items))
+pub of_items : (gens : Generations) (t p : ℕ) (items : List TenantItem) → p < length (pipelines_of gens.first t) → items_for p (flat_map (by_pipeline gens t) items) ≡ filter_map (chosen_item gens t p) items
+of_items gens t p [] h = refl
+of_items gens t p (item ∷ items) h =
+    filter_map-append (item_for p) (by_pipeline gens t item) (flat_map (by_pipeline gens t) items)
+    ∙ ap (λ xs. xs ++ items_for p (flat_map (by_pipeline gens t) items)) (of_item gens t p item h)
+    ∙ ap (λ xs. option_to_list (chosen_item gens t p item) ++ xs) (of_items gens t p items h)
+    ∙ sym (cons_option_is (chosen_item gens t p item) (filter_map (chosen_item gens t p) items))
 
 each_has : (a n : ℕ) → map (λ p. for_pipeline p pipeline.End) (range_with_len a n) ≡ filter_map (λ q. option_map (for_pipeline q) (Some pipeline.End)) (range_with_len a n)
 each_has a zero = refl
 each_has a (suc n) = ap (λ xs. for_pipeline a pipeline.End ∷ xs) (each_has (a + 1) n)
 
 -- of the end marks, if they are there
-pub of_marks : (config : Config) (t p : ℕ) (there : Bool) → p < length (pipelines_of config t) → items_for p (if there then end_marks config t else []) ≡ (if there then pipeline.End ∷ [] else [])
-of_marks config t p false h = refl
-of_marks config t p true h =
-    ap (items_for p) (each_has 0 (length (pipelines_of config t)))
-    ∙ among (λ q. Some pipeline.End) p 0 p (length (pipelines_of config t)) (omega arith) h
+pub of_marks : (gens : Generations) (t p : ℕ) (there : Bool) → p < length (pipelines_of gens.first t) → items_for p (if there then end_marks gens.first t else []) ≡ (if there then pipeline.End ∷ [] else [])
+of_marks gens t p false h = refl
+of_marks gens t p true h =
+    ap (items_for p) (each_has 0 (length (pipelines_of gens.first t)))
+    ∙ among (λ q. Some pipeline.End) p 0 p (length (pipelines_of gens.first t)) (omega arith) h

@@ -7,6 +7,8 @@ use Rattle.gate_record.specs.declared.transit.TenantItem.TheVariants as tenant
 use Rattle.gate_record.specs.declared.transit.PipelineItem.{PipelineItem}
 use Rattle.gate_record.specs.declared.transit.PipelineItem.TheVariants as pipeline
 use Rattle.gate_config.specs.declared.config.Config.{Config}
+use Rattle.gate_config.specs.declared.generations.Generations.{Generations}
+use Rattle.gate_config.specs.Generations.{config_at}
 use Rattle.gate_config.specs.Limits.{most_connections}
 use Rattle.gate_config.specs.Lookups.{connections_of, lists, pipelines_of}
 use Rattle.gate_config.specs.Selection.{selects_event}
@@ -14,10 +16,10 @@ use Rattle.gate_config.specs.Selection.{selects_event}
 abbrev pub pipeline_id : ℕ → PipelineId
 pipeline_id p = record { 0 = p }
 
--- what pipeline p of tenant t gets of an item: an event that it selects
-abbrev pub chosen_item : Config → ℕ → ℕ → TenantItem → Option PipelineItem
-chosen_item config t p (tenant.Event s) = if selects_event config t p s.stamp.conn.0 s.event then Some (pipeline.Event s) else None
-chosen_item config t p (tenant.End conn) = None
+-- what pipeline p of tenant t gets of an item: an event that it selects by the event's generation
+abbrev pub chosen_item : Generations → ℕ → ℕ → TenantItem → Option PipelineItem
+chosen_item gens t p (tenant.Event s) = if selects_event (config_at gens s.generation) t p s.stamp.conn.0 s.event then Some (pipeline.Event s) else None
+chosen_item gens t p (tenant.End conn) = None
 
 -- the item is an event
 abbrev pub is_event : TenantItem → Bool
@@ -35,8 +37,8 @@ all_marked_in config t items = list_all (λ c. not (lists config t c) || list_an
 
 -- What pipeline p of tenant t gets of a list of items: the events that it selects, in order, followed by the end mark if
 -- the list holds the end mark of each connection that the tenant lists.
-abbrev pub chosen : Config → ℕ → ℕ → List TenantItem → List PipelineItem
-chosen config t p items = filter_map (chosen_item config t p) items ++ (if all_marked_in config t items then pipeline.End ∷ [] else [])
+abbrev pub chosen : Generations → ℕ → ℕ → List TenantItem → List PipelineItem
+chosen gens t p items = filter_map (chosen_item gens t p) items ++ (if all_marked_in gens.first t items then pipeline.End ∷ [] else [])
 
 -- an item for pipeline p
 abbrev pub for_pipeline : ℕ → PipelineItem → PipelineId × PipelineItem
@@ -47,8 +49,8 @@ abbrev pub numbers_of : Config → ℕ → List ℕ
 numbers_of config t = range_with_len 0 (length (pipelines_of config t))
 
 -- what the pipelines of tenant t get of an item, in rising number of the pipelines
-abbrev pub by_pipeline : Config → ℕ → TenantItem → List (PipelineId × PipelineItem)
-by_pipeline config t item = filter_map (λ p. option_map (for_pipeline p) (chosen_item config t p item)) (numbers_of config t)
+abbrev pub by_pipeline : Generations → ℕ → TenantItem → List (PipelineId × PipelineItem)
+by_pipeline gens t item = filter_map (λ p. option_map (for_pipeline p) (chosen_item gens t p item)) (numbers_of gens.first t)
 
 -- the end marks of all pipelines of tenant t, in rising number of the pipelines
 abbrev pub end_marks : Config → ℕ → List (PipelineId × PipelineItem)
@@ -91,5 +93,5 @@ is_event_of c pipeline.End = false
 
 -- Of what a pipeline gets, the events of a connection are what it gets of that connection's items alone, end marks aside.
 abbrev pub OneConnectionAlone : Type 0
-OneConnectionAlone = (config : Config) (t p c : ℕ) (items : List TenantItem) →
-    filter (is_event_of c) (chosen config t p items) ≡ filter_map (chosen_item config t p) (filter (is_from c) items)
+OneConnectionAlone = (gens : Generations) (t p c : ℕ) (items : List TenantItem) →
+    filter (is_event_of c) (chosen gens t p items) ≡ filter_map (chosen_item gens t p) (filter (is_from c) items)

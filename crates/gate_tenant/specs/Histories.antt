@@ -6,6 +6,7 @@ use Rattle.gate_record.specs.declared.ids.PipelineId.{PipelineId}
 use Rattle.gate_record.specs.declared.transit.TenantItem.{TenantItem}
 use Rattle.gate_record.specs.declared.transit.PipelineItem.{PipelineItem}
 use Rattle.gate_config.specs.declared.config.Config.{Config}
+use Rattle.gate_config.specs.declared.generations.Generations.{Generations}
 use Rattle.gate_config.specs.Lookups.{pipelines_of}
 use Rattle.gate_tenant.specs.Dispatching.{chosen}
 use Rattle.gate_tenant.specs.States.{State, first_state, has_ended, matched, put_back, room_of}
@@ -22,18 +23,18 @@ abbrev pub beginning : Config → ℕ → History
 beginning config t = record { state = first_state config t; taken = []; done = []; given = []; out = None }
 
 -- Histories of calls that went well. What isn't given comes back as it was moved out.
-pub data Happens (config : Config) (t : ℕ) : History → Type 0 where
-  begins : Happens config t (beginning config t)
-  gathers : {h : History} (item : TenantItem) → Happens config t h → h.out ≡ None → 0 < room_of h.state → has_ended config t h.state ≡ false →
-      Happens config t (record h { state = record h.state { gathered = h.state.gathered ++ item ∷ [] }; taken = h.taken ++ item ∷ [] })
-  matches : {h : History} → Happens config t h → (length h.state.gathered == 0) ≡ false →
-      Happens config t (record h { state = matched config t h.state; done = h.done ++ h.state.gathered })
-  moves : {h : History} {first : PipelineId × PipelineItem} {items : List (PipelineId × PipelineItem)} → Happens config t h → h.out ≡ None → h.state.items ≡ first ∷ items →
-      Happens config t (record h { state = record h.state { items = items; out = Some first.0 }; out = Some first })
-  gives : {h : History} {item : PipelineId × PipelineItem} → Happens config t h → h.out ≡ Some item →
-      Happens config t (record h { state = record h.state { out = None }; given = h.given ++ item ∷ []; out = None })
-  comes_back : {h : History} {item : PipelineId × PipelineItem} → Happens config t h → h.out ≡ Some item →
-      Happens config t (record h { state = put_back item.1 (Some item.0) h.state; out = None })
+pub data Happens (gens : Generations) (t : ℕ) : History → Type 0 where
+  begins : Happens gens t (beginning gens.first t)
+  gathers : {h : History} (item : TenantItem) → Happens gens t h → h.out ≡ None → 0 < room_of h.state → has_ended gens.first t h.state ≡ false →
+      Happens gens t (record h { state = record h.state { gathered = h.state.gathered ++ item ∷ [] }; taken = h.taken ++ item ∷ [] })
+  matches : {h : History} → Happens gens t h → (length h.state.gathered == 0) ≡ false →
+      Happens gens t (record h { state = matched gens t h.state; done = h.done ++ h.state.gathered })
+  moves : {h : History} {first : PipelineId × PipelineItem} {items : List (PipelineId × PipelineItem)} → Happens gens t h → h.out ≡ None → h.state.items ≡ first ∷ items →
+      Happens gens t (record h { state = record h.state { items = items; out = Some first.0 }; out = Some first })
+  gives : {h : History} {item : PipelineId × PipelineItem} → Happens gens t h → h.out ≡ Some item →
+      Happens gens t (record h { state = record h.state { out = None }; given = h.given ++ item ∷ []; out = None })
+  comes_back : {h : History} {item : PipelineId × PipelineItem} → Happens gens t h → h.out ≡ Some item →
+      Happens gens t (record h { state = put_back item.1 (Some item.0) h.state; out = None })
 
 abbrev pub item_for : ℕ → PipelineId × PipelineItem → Option PipelineItem
 item_for p item = if item.0.0 == p then Some item.1 else None
@@ -45,14 +46,14 @@ items_for p items = filter_map (item_for p) items
 -- What was given to a pipeline, followed by its item that is out and by what the hand holds for it, is what it gets of all
 -- that was matched.
 abbrev pub EachGetsItsOwn : Type 0
-EachGetsItsOwn = (config : Config) (t p : ℕ) (h : History) → p < length (pipelines_of config t) → Happens config t h →
-    items_for p (h.given ++ (option_to_list h.out ++ h.state.items)) ≡ chosen config t p h.done
+EachGetsItsOwn = (gens : Generations) (t p : ℕ) (h : History) → p < length (pipelines_of gens.first t) → Happens gens t h →
+    items_for p (h.given ++ (option_to_list h.out ++ h.state.items)) ≡ chosen gens t p h.done
 
 -- What was matched, followed by what is gathered, is all that was taken in.
 abbrev pub NothingIsLost : Type 0
-NothingIsLost = (config : Config) (t : ℕ) (h : History) → Happens config t h → h.done ++ h.state.gathered ≡ h.taken
+NothingIsLost = (gens : Generations) (t : ℕ) (h : History) → Happens gens t h → h.done ++ h.state.gathered ≡ h.taken
 
 -- Once it has ended, each pipeline was given what it gets of all that was taken in.
 abbrev pub AllWasGiven : Type 0
-AllWasGiven = (config : Config) (t p : ℕ) (h : History) → p < length (pipelines_of config t) → Happens config t h → h.out ≡ None → has_ended config t h.state ≡ true →
-    items_for p h.given ≡ chosen config t p h.taken
+AllWasGiven = (gens : Generations) (t p : ℕ) (h : History) → p < length (pipelines_of gens.first t) → Happens gens t h → h.out ≡ None → has_ended gens.first t h.state ≡ true →
+    items_for p h.given ≡ chosen gens t p h.taken

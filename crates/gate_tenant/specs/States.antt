@@ -6,6 +6,7 @@ use Rattle.gate_record.specs.declared.ids.PipelineId.{PipelineId}
 use Rattle.gate_record.specs.declared.transit.TenantItem.{TenantItem}
 use Rattle.gate_record.specs.declared.transit.PipelineItem.{PipelineItem}
 use Rattle.gate_config.specs.declared.config.Config.{Config}
+use Rattle.gate_config.specs.declared.generations.Generations.{Generations}
 use Rattle.gate_tenant.specs.Limits.{most_gathered}
 use Rattle.gate_tenant.specs.declared.dispatch.Dispatch.{Dispatch}
 use Rattle.gate_tenant.specs.Dispatching.{all_marked, by_pipeline, end_marks, is_event, marks_after, no_marks}
@@ -21,9 +22,9 @@ pub record State : Type 0 where
 abbrev pub state_of : Dispatch → State
 state_of dispatch = record { gathered = dispatch.gathered.items; items = dispatch.hand.items.items; out = dispatch.hand.out; marks = dispatch.marks.seen }
 
--- the configuration that it matches by
-abbrev pub config_of : Dispatch → Config
-config_of dispatch = dispatch.config.now
+-- the generations of the configuration that it matches by
+abbrev pub gens_of : Dispatch → Generations
+gens_of dispatch = dispatch.gens.now
 
 -- the number of its tenant
 abbrev pub tenant_of : Dispatch → ℕ
@@ -58,10 +59,10 @@ abbrev pub needs_memory : Config → ℕ → State → Bool
 needs_memory config t state = list_any is_event state.gathered || are_last config t state.gathered state.marks
 
 -- what is gathered is matched: its events one after another, then the end marks of the pipelines
-abbrev pub matched : Config → ℕ → State → State
-matched config t state = record {
+abbrev pub matched : Generations → ℕ → State → State
+matched gens t state = record {
   gathered = [];
-  items = flat_map (by_pipeline config t) state.gathered ++ last_marks config t state.gathered state.marks;
+  items = flat_map (by_pipeline gens t) state.gathered ++ last_marks gens.first t state.gathered state.marks;
   out = None;
   marks = marks_after state.gathered state.marks;
 }

@@ -1,4 +1,4 @@
-ghost use Rattle.gate_match.specs.Selecting.{config_of as program_config, tenant_of as program_tenant};
+ghost use Rattle.gate_match.specs.Selecting.{gens_of as program_gens, tenant_of as program_tenant};
 ghost use Rattle.gate_tenant.specs.Limits.{most_gathered};
 ghost use Rattle.std.specs.Prelude.{◌≡◌, ◌≤◌, ◌==◌, ◌∷◌, ◌++◌, ◌<◌, [], true, false, length, is_some, None, not, ◌+◌, IfErr, IfOk, IsOk, OnErr, OnOk};
 
@@ -6,7 +6,7 @@ use crate::MAX_GATHERED;
 use crate::hand::Hand;
 use crate::marks::Marks;
 use crate::matching::{all_marked, match_items, push_end_marks};
-use gate_config::Config;
+use gate_config::Generations;
 use gate_match::Program;
 use gate_record::{Memory, PipelineId, PipelineItem, TenantId, TenantItem};
 use std::alloc::{AllocFailed, Global};
@@ -21,7 +21,7 @@ use std::collections::VecDeque;
 /// [`ungiven`](Dispatch::ungiven) fills it again. Until then nothing else may be asked.
 #[derive(Drop)]
 pub struct Dispatch<'c> {
-    pub(crate) config: &'c Config,
+    pub(crate) gens: &'c Generations,
     pub(crate) tenant: TenantId,
     pub(crate) program: Program<'c>,
     pub(crate) gathered: Vec<TenantItem>,
@@ -29,30 +29,34 @@ pub struct Dispatch<'c> {
     pub(crate) marks: Marks,
     /// Items are gathered while the hand is empty.
     pub ghost few: { length gathered.items ≤ most_gathered },
-    pub ghost of_config: { program_config program ≡ config.now },
+    pub ghost of_gens: { program_gens program ≡ gens.now },
     pub ghost of_tenant: { program_tenant program ≡ tenant.0 },
     pub ghost in_turn: { (length gathered.items == 0) ≡ false → (hand.items.items ≡ []) × (hand.out ≡ None) },
 }
 
 impl<'c> Dispatch<'c> {
-    ghost use Rattle.gate_tenant.specs.States.{config_of, first_state, has_ended, matched, moved_out, needs_memory, put_back, reserved_of, room_of, state_of, tenant_of};
+    ghost use Rattle.gate_tenant.specs.States.{first_state, gens_of, has_ended, matched, moved_out, needs_memory, put_back, reserved_of, room_of, state_of, tenant_of};
 
     /// The dispatch of a tenant, with nothing gathered. `Memory` where the end marks of a tenant that lists no connection
     /// find no room.
-    pub fn new(alloc: Global, config: &'c Config, tenant: TenantId) -> Result<Dispatch<'c>, Memory>
-        ensures config { IfOk result (λ dispatch. config_of dispatch ≡ config.entry.now) }
+    pub fn new(
+        alloc: Global,
+        gens: &'c Generations,
+        tenant: TenantId,
+    ) -> Result<Dispatch<'c>, Memory>
+        ensures gens { IfOk result (λ dispatch. gens_of dispatch ≡ gens.entry.now) }
         ensures tenant { IfOk result (λ dispatch. tenant_of dispatch ≡ tenant.0) }
-        ensures state { IfOk result (λ dispatch. state_of dispatch ≡ first_state config.entry.now tenant.0) }
+        ensures state { IfOk result (λ dispatch. state_of dispatch ≡ first_state gens.entry.now.first tenant.0) }
     {
         let marks = Marks::none();
         let mut items = VecDeque::new(alloc);
-        if all_marked(config, tenant, &marks.seen) {
-            push_end_marks(config, tenant, &mut items)?;
+        if all_marked(gens.first(), tenant, &marks.seen) {
+            push_end_marks(gens.first(), tenant, &mut items)?;
         }
         Ok(Dispatch {
-            config,
+            gens,
             tenant,
-            program: Program::new(alloc, config, tenant)?,
+            program: Program::new(alloc, gens, tenant)?,
             gathered: Vec::new(alloc),
             hand: Hand::new(items),
             marks,
@@ -64,8 +68,8 @@ impl<'c> Dispatch<'c> {
     pub fn gather(&mut self, item: TenantItem) -> Result<(), AllocFailed<TenantItem>>
         requires in_hand { (state_of self.old).out ≡ None }
         requires room { 0 < room_of (state_of self.old) }
-        requires goes_on { has_ended (config_of self.old) (tenant_of self.old) (state_of self.old) ≡ false }
-        ensures config { config_of self.new ≡ config_of self.old }
+        requires goes_on { has_ended (gens_of self.old).first (tenant_of self.old) (state_of self.old) ≡ false }
+        ensures gens { gens_of self.new ≡ gens_of self.old }
         ensures tenant { tenant_of self.new ≡ tenant_of self.old }
         ensures gathers { OnOk result (state_of self.new ≡ record (state_of self.old) { gathered = (state_of self.old).gathered ++ item ∷ [] }) }
         ensures refused { IfErr result (λ refused. (state_of self.new ≡ state_of self.old) × (refused.value ≡ item)) }
@@ -81,7 +85,7 @@ impl<'c> Dispatch<'c> {
     pub fn make_room(&mut self, count: usize) -> Result<(), Memory>
         requires in_hand { (state_of self.old).out ≡ None }
         requires room { count ≤ room_of (state_of self.old) }
-        ensures config { config_of self.new ≡ config_of self.old }
+        ensures gens { gens_of self.new ≡ gens_of self.old }
         ensures tenant { tenant_of self.new ≡ tenant_of self.old }
         ensures state { state_of self.new ≡ state_of self.old }
         ensures makes { OnOk result (count ≤ reserved_of self.new) }
@@ -114,25 +118,25 @@ impl<'c> Dispatch<'c> {
     /// are due, and what that takes finds no room: then all stays gathered, and is as before.
     pub fn match_batch(&mut self, alloc: Global) -> Result<(), Memory>
         requires gathered { (length (state_of self.old).gathered == 0) ≡ false }
-        ensures config { config_of self.new ≡ config_of self.old }
+        ensures gens { gens_of self.new ≡ gens_of self.old }
         ensures tenant { tenant_of self.new ≡ tenant_of self.old }
-        ensures matches { OnOk result (state_of self.new ≡ matched (config_of self.old) (tenant_of self.old) (state_of self.old)) }
+        ensures matches { OnOk result (state_of self.new ≡ matched (gens_of self.old) (tenant_of self.old) (state_of self.old)) }
         ensures refused { OnErr result (state_of self.new ≡ state_of self.old) }
-        ensures needs { OnErr result (needs_memory (config_of self.old) (tenant_of self.old) (state_of self.old) ≡ true) }
+        ensures needs { OnErr result (needs_memory (gens_of self.old).first (tenant_of self.old) (state_of self.old) ≡ true) }
         ensures keeps_room { reserved_of self.old ≤ reserved_of self.new }
     {
         let mut items = match_items(
             alloc,
-            self.config,
+            self.gens,
             self.tenant,
             &self.program,
             self.gathered.as_slice(),
         )?;
         let marks = self.marks.after(self.gathered.as_slice());
-        if all_marked(self.config, self.tenant, &marks.seen)
-            && !all_marked(self.config, self.tenant, &self.marks.seen)
+        if all_marked(self.gens.first(), self.tenant, &marks.seen)
+            && !all_marked(self.gens.first(), self.tenant, &self.marks.seen)
         {
-            push_end_marks(self.config, self.tenant, &mut items)?;
+            push_end_marks(self.gens.first(), self.tenant, &mut items)?;
         }
         self.hand = Hand::new(items);
         self.marks = marks;
@@ -144,7 +148,7 @@ impl<'c> Dispatch<'c> {
     /// of an empty hand.
     pub fn next(&mut self) -> Option<(PipelineId, PipelineItem)>
         requires in_hand { (state_of self.old).out ≡ None }
-        ensures config { config_of self.new ≡ config_of self.old }
+        ensures gens { gens_of self.new ≡ gens_of self.old }
         ensures tenant { tenant_of self.new ≡ tenant_of self.old }
         ensures moves { (state_of self.new, result) ≡ moved_out (state_of self.old).items (state_of self.old) }
         ensures keeps_room { reserved_of self.old ≤ reserved_of self.new }
@@ -155,7 +159,7 @@ impl<'c> Dispatch<'c> {
     /// The item that was moved out was given: its place is closed.
     pub fn given(&mut self)
         requires out { is_some (state_of self.old).out ≡ true }
-        ensures config { config_of self.new ≡ config_of self.old }
+        ensures gens { gens_of self.new ≡ gens_of self.old }
         ensures tenant { tenant_of self.new ≡ tenant_of self.old }
         ensures closes { state_of self.new ≡ record (state_of self.old) { out = None } }
         ensures keeps_room { reserved_of self.old ≤ reserved_of self.new }
@@ -166,7 +170,7 @@ impl<'c> Dispatch<'c> {
     /// The item that was moved out wasn't given: its place gets this one, which is the first again.
     pub fn ungiven(&mut self, item: PipelineItem)
         requires out { is_some (state_of self.old).out ≡ true }
-        ensures config { config_of self.new ≡ config_of self.old }
+        ensures gens { gens_of self.new ≡ gens_of self.old }
         ensures tenant { tenant_of self.new ≡ tenant_of self.old }
         ensures fills { state_of self.new ≡ put_back item (state_of self.old).out (state_of self.old) }
         ensures keeps_room { reserved_of self.old ≤ reserved_of self.new }
@@ -191,8 +195,8 @@ impl<'c> Dispatch<'c> {
     /// Whether each end mark was matched and the hand is empty.
     pub fn ended(&self) -> bool
         requires in_hand { (state_of self.now).out ≡ None }
-        ensures { result ≡ has_ended (config_of self.now) (tenant_of self.now) (state_of self.now) }
+        ensures { result ≡ has_ended (gens_of self.now).first (tenant_of self.now) (state_of self.now) }
     {
-        all_marked(self.config, self.tenant, &self.marks.seen) && self.hand.is_empty()
+        all_marked(self.gens.first(), self.tenant, &self.marks.seen) && self.hand.is_empty()
     }
 }

@@ -5,13 +5,13 @@ ghost use Rattle.gate_config.specs.Limits.{most_connections};
 ghost use Rattle.gate_config.specs.Lookups.{pipelines_of};
 ghost use Rattle.gate_intern.specs.Limits.{most_rows};
 ghost use Rattle.gate_lanes.specs.declared.TheConstants.{MARKED};
-ghost use Rattle.gate_match.specs.Selecting.{config_of, masks_of, tenant_of};
+ghost use Rattle.gate_match.specs.Selecting.{gens_of, masks_of, tenant_of};
 ghost use Rattle.gate_tenant.specs.Limits.{most_gathered};
 ghost use Rattle.gate_tenant.specs.Inner.Batches.{by_masks, given_by, marked_item, row_in, rows_of, word_of};
 ghost use Rattle.gate_tenant.specs.Dispatching.{all_marked, by_pipeline, end_marks, is_event};
 
 use crate::batch::Batch;
-use gate_config::Config;
+use gate_config::{Config, Generations};
 use gate_intern::Columns;
 use gate_lanes::MARKED;
 use gate_match::Program;
@@ -23,22 +23,22 @@ use std::collections::VecDeque;
 #[tactic(auto, using(crate::proofs::Eventless::nothing))]
 pub(crate) fn match_items(
     alloc: Global,
-    config: &Config,
+    gens: &Generations,
     tenant: TenantId,
     program: &Program<'_>,
     gathered: &[TenantItem],
 ) -> Result<VecDeque<(PipelineId, PipelineItem)>, Memory>
     requires few { length gathered.now ≤ most_gathered }
-    requires of_config { config_of program.now ≡ config.now }
+    requires of_gens { gens_of program.now ≡ gens.now }
     requires of_tenant { tenant_of program.now ≡ tenant.0 }
-    ensures matches { IfOk result (λ items. items.items ≡ flat_map (by_pipeline config.now tenant.0) gathered.now) }
+    ensures matches { IfOk result (λ items. items.items ≡ flat_map (by_pipeline gens.now tenant.0) gathered.now) }
     ensures needs { OnErr result (list_any is_event gathered.now ≡ true) }
 {
     if !has_event(gathered) {
         return Ok(VecDeque::new(alloc));
     }
     let masks = masks(alloc, program, gathered)?;
-    push_all(alloc, config, tenant, masks.as_slice(), gathered)
+    push_all(alloc, gens, tenant, masks.as_slice(), gathered)
 }
 
 // A mask for each pipeline, over the gathered events.
@@ -49,7 +49,7 @@ fn masks(
 ) -> Result<Vec<Vec<u32>>, Memory>
     requires { length gathered.now ≤ most_gathered }
     ensures { IfOk result (λ masks. map (λ mask. mask.items) masks.items
-        ≡ masks_of (config_of program.now) (tenant_of program.now) (rows_of gathered.now)) }
+        ≡ masks_of (gens_of program.now) (tenant_of program.now) (rows_of gathered.now)) }
 {
     let batch = Batch::of(alloc, gathered)?;
     select(alloc, program, &batch)
@@ -57,12 +57,18 @@ fn masks(
 
 fn select(alloc: Global, program: &Program<'_>, batch: &Batch) -> Result<Vec<Vec<u32>>, Memory>
     requires few { length batch.now.events.items ≤ most_rows }
-    requires pairs { length batch.now.conns.items ≡ length batch.now.events.items }
+    requires gens { length batch.now.gens.items ≡ length batch.now.events.items }
+    requires conns { length batch.now.conns.items ≡ length batch.now.events.items }
     ensures { IfOk result (λ masks. map (λ mask. mask.items) masks.items
-        ≡ masks_of (config_of program.now) (tenant_of program.now) (zip batch.now.conns.items batch.now.events.items)) }
+        ≡ masks_of (gens_of program.now) (tenant_of program.now) (zip (zip batch.now.gens.items batch.now.conns.items) batch.now.events.items)) }
 {
     let columns = Columns::build(alloc, batch.events.as_slice())?;
-    program.select(alloc, &columns, batch.conns.as_slice())
+    program.select(
+        alloc,
+        &columns,
+        batch.gens.as_slice(),
+        batch.conns.as_slice(),
+    )
 }
 
 fn has_event(items: &[TenantItem]) -> bool
@@ -76,14 +82,15 @@ fn has_event(items: &[TenantItem]) -> bool
 // The gathered events, each for the pipelines whose masks mark its row.
 fn push_all(
     alloc: Global,
-    config: &Config,
+    gens: &Generations,
     tenant: TenantId,
     masks: &[Vec<u32>],
     gathered: &[TenantItem],
 ) -> Result<VecDeque<(PipelineId, PipelineItem)>, Memory>
-    requires { map (λ mask. mask.items) masks.now ≡ masks_of config.now tenant.0 (rows_of gathered.now) }
-    ensures { IfOk result (λ items. items.items ≡ flat_map (by_pipeline config.now tenant.0) gathered.now) }
+    requires { map (λ mask. mask.items) masks.now ≡ masks_of gens.now tenant.0 (rows_of gathered.now) }
+    ensures { IfOk result (λ items. items.items ≡ flat_map (by_pipeline gens.now tenant.0) gathered.now) }
 {
+    let config = gens.first();
     let mut items = VecDeque::new(alloc);
     let mut row = 0;
     for item in gathered {
@@ -142,9 +149,12 @@ fn push_marked(
     ensures { OnOk result (items.new.items ≡ items.old.items ++ option_to_list (marked_item (map (λ mask. mask.items) masks.now) row stamped.now pipeline.0)) }
 {
     if is_marked(masks, pipeline, row) {
-        let event = stamped.event.share()?;
-        let stamp = stamped.stamp;
-        items.push_back((pipeline, PipelineItem::Event(Stamped { stamp, event })))?;
+        let stamped = Stamped {
+            stamp: stamped.stamp,
+            generation: stamped.generation,
+            event: stamped.event.share()?,
+        };
+        items.push_back((pipeline, PipelineItem::Event(stamped)))?;
     }
     Ok(())
 }

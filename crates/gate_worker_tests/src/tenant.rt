@@ -1,7 +1,7 @@
 //! Scripts over a tenant with two connections and two pipelines, and over one that lists no connection.
 mod steps;
 
-use gate_config::{Config, read_config};
+use gate_config::{Generations, read_generations};
 use gate_record::TenantId;
 use gate_tenant::Dispatch;
 use gate_test_lines::{comes_to, halves};
@@ -17,14 +17,32 @@ const IDLE: TenantId = TenantId(1);
 const CONFIG: &str =
     r#"{"tenants":[{"name":"main","source":{"gerrit":{"untrusted-projects":["demo"]},"review":{"untrusted-projects":["demo"]}}},{"name":"idle","source":{}}],"config":{"main":[{"pipeline":{"name":"check","manager":"independent","trigger":{"gerrit":[{"event":"patchset-created"}],"review":[{"event":"patchset-created"}]}}},{"pipeline":{"name":"gate","manager":"dependent","trigger":{"gerrit":[{"event":"comment-added"},{"event":"patchset-created"}]}}}],"idle":[{"pipeline":{"name":"check","manager":"independent"}},{"pipeline":{"name":"gate","manager":"dependent"}}]}}"#;
 
+// A later generation: the rules of `check` and of `gate` are others.
+const LATER: &str =
+    r#"{"tenants":[{"name":"main","source":{"gerrit":{"untrusted-projects":["demo"]},"review":{"untrusted-projects":["demo"]}}},{"name":"idle","source":{}}],"config":{"main":[{"pipeline":{"name":"check","manager":"independent","trigger":{"gerrit":[{"event":"comment-added"}],"review":[{"event":"change-merged"}]}}},{"pipeline":{"name":"gate","manager":"dependent","trigger":{"gerrit":[{"event":"change-merged"}],"review":[{"event":"patchset-created"}]}}}],"idle":[{"pipeline":{"name":"check","manager":"independent"}},{"pipeline":{"name":"gate","manager":"dependent"}}]}}"#;
+
 // Plays a script from the start of a tenant.
 fn play(alloc: Global, tenant: TenantId, script: &str) -> Result<(), Fail> {
-    let config = read_config(alloc, CONFIG.as_bytes())?;
-    play_with(alloc, &config, tenant, script)
+    let documents = documents_of(alloc)?;
+    let gens = read_generations(alloc, documents.as_slice())?;
+    play_with(alloc, &gens, tenant, script)
 }
 
-fn play_with(alloc: Global, config: &Config, tenant: TenantId, script: &str) -> Result<(), Fail> {
-    let mut dispatch = Dispatch::new(alloc, config, tenant)?;
+fn documents_of(alloc: Global) -> Result<Vec<Vec<u8>>, Fail> {
+    let mut documents = Vec::new(alloc);
+    for document in [CONFIG, LATER] {
+        documents.push(document.as_bytes().to_vec(alloc)?)?;
+    }
+    Ok(documents)
+}
+
+fn play_with(
+    alloc: Global,
+    gens: &Generations,
+    tenant: TenantId,
+    script: &str,
+) -> Result<(), Fail> {
+    let mut dispatch = Dispatch::new(alloc, gens, tenant)?;
     play_over(alloc, &mut dispatch, script)
 }
 
@@ -45,12 +63,33 @@ fn play_line(alloc: Global, dispatch: &mut Dispatch<'_>, line: &str) -> Result<(
 #[test]
 fn events_go_to_each_pipeline_that_selects_them(rt: HostRuntime) -> Result<(), Fail> {
     let script = "
-        event 0 0 patchset-created
-        event 1 0 comment-added
-        event 0 1 comment-added
-        event 1 1 patchset-created
+        event 0 0 0 patchset-created
+        event 0 1 0 comment-added
+        event 0 0 1 comment-added
+        event 0 1 1 patchset-created
         match
-        give -> 0:0/0 1:0/0 1:0/1 0:1/1
+        give -> 0:0/0@0 1:0/0@0 1:0/1@0 0:1/1@0
+    ";
+    play(rt.alloc(), MAIN, script)
+}
+
+#[test]
+fn an_event_is_matched_by_its_generation(rt: HostRuntime) -> Result<(), Fail> {
+    let script = "
+        event 0 0 0 patchset-created
+        event 1 0 1 patchset-created
+        event 0 0 2 comment-added
+        event 1 0 3 comment-added
+        event 0 0 4 change-merged
+        event 1 0 5 change-merged
+        event 0 1 0 patchset-created
+        event 1 1 1 patchset-created
+        event 0 1 2 change-merged
+        event 1 1 3 change-merged
+        event 0 1 4 comment-added
+        event 1 1 5 comment-added
+        match
+        give -> 0:0/0@0 1:0/0@0 1:0/2@0 0:0/3@1 1:0/5@1 0:1/0@0 1:1/1@1 0:1/3@1
     ";
     play(rt.alloc(), MAIN, script)
 }
@@ -59,13 +98,13 @@ fn events_go_to_each_pipeline_that_selects_them(rt: HostRuntime) -> Result<(), F
 fn end_marks_follow_the_last_connection(rt: HostRuntime) -> Result<(), Fail> {
     let script = "
         end 1
-        event 0 4 comment-added
+        event 0 0 4 comment-added
         match
-        give -> 1:0/4
-        event 0 5 patchset-created
+        give -> 1:0/4@0
+        event 0 0 5 patchset-created
         end 0
         match
-        give -> 0:0/5 1:0/5 0:end 1:end
+        give -> 0:0/5@0 1:0/5@0 0:end 1:end
         ended -> true
     ";
     play(rt.alloc(), MAIN, script)
@@ -84,10 +123,10 @@ fn a_tenant_without_connections_begins_with_its_end_marks(rt: HostRuntime) -> Re
 #[test]
 fn an_item_that_was_not_given_is_the_first_again(rt: HostRuntime) -> Result<(), Fail> {
     let script = "
-        event 0 7 patchset-created
+        event 0 0 7 patchset-created
         match
         back
-        give -> 0:0/7 1:0/7
+        give -> 0:0/7@0 1:0/7@0
     ";
     play(rt.alloc(), MAIN, script)
 }
@@ -96,13 +135,13 @@ fn an_item_that_was_not_given_is_the_first_again(rt: HostRuntime) -> Result<(), 
 fn room_is_left_for_256_items(rt: HostRuntime) -> Result<(), Fail> {
     let script = "
         room -> 256
-        event 0 0 patchset-created
+        event 0 0 0 patchset-created
         room -> 255
         end 1 255
         room -> 0
         match
         room -> 0
-        give -> 0:0/0 1:0/0
+        give -> 0:0/0@0 1:0/0@0
         room -> 256
     ";
     play(rt.alloc(), MAIN, script)

@@ -1,26 +1,27 @@
 -- Beside `Steps`: what private contracts and proofs cite.
 use Rattle.std.specs.Prelude.{ℕ, Option, slice_get, slice_set}
-use Rattle.gate_config.specs.declared.config.Config.{Config}
+use Rattle.gate_config.specs.declared.generations.Generations.{Generations}
 use Rattle.gate_core.specs.declared.answer.Answer.{Answer}
 use Rattle.gate_core.specs.declared.connection.ConnectionStep.{ConnectionStep}
-use Rattle.gate_core.specs.declared.connection.ConnectionStep.TheVariants.{Offer, Close, Take}
+use Rattle.gate_core.specs.declared.connection.ConnectionStep.TheVariants.{Offer, Close, Renew, Take}
 use Rattle.gate_core.specs.declared.pipeline.Pipeline.{Pipeline}
 use Rattle.gate_core.specs.declared.pipeline.PipelineStep.{PipelineStep}
 use Rattle.gate_core.specs.declared.pipeline.PipelineStep.TheVariants.{Turn}
 use Rattle.gate_core.specs.declared.tenant.TenantStep.{TenantStep}
 use Rattle.gate_core.specs.declared.tenant.TenantStep.TheVariants.{Fetch, Match, Give}
 use Rattle.gate_core.specs.States.{ConnectionState, TenantState, State}
-use Rattle.gate_core.specs.Steps.{close, fetch, give, match_gathered, move_at, offer, refused_in, take}
+use Rattle.gate_core.specs.Steps.{close, fetch, give, match_gathered, move_at, offer, refused_in, renew, take}
 
-abbrev pub connection_step : Config → ℕ → ConnectionStep → ConnectionState → ConnectionState × Answer
-connection_step config c (Offer line) = offer line
-connection_step config c Close = close
-connection_step config c Take = take config c
+abbrev pub connection_step : Generations → ℕ → ConnectionStep → ConnectionState → ConnectionState × Answer
+connection_step gens c (Offer line) = offer line
+connection_step gens c Close = close
+connection_step gens c (Renew count) = renew count
+connection_step gens c Take = take gens c
 
-abbrev pub tenant_step : Config → ℕ → TenantStep → TenantState → TenantState × Answer
-tenant_step config t (Fetch count) = fetch config t count
-tenant_step config t Match = match_gathered config t
-tenant_step config t Give = give
+abbrev pub tenant_step : Generations → ℕ → TenantStep → TenantState → TenantState × Answer
+tenant_step gens t (Fetch count) = fetch gens.first t count
+tenant_step gens t Match = match_gathered gens t
+tenant_step gens t Give = give
 
 abbrev pub refused_at : PipelineStep → ℕ → ℕ → State → State
 refused_at Turn t p state = refused_in t p (slice_get state.tenants t) state

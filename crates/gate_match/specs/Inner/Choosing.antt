@@ -1,8 +1,10 @@
--- The events of a batch by their connections.
+-- The events of a batch by their generations and connections.
 use Rattle.std.specs.Prelude.{◌≡◌, ◌==◌, ◌&&◌, ℕ, List, Bool, fold, map}
 use Rattle.std.specs.List.{All, list_all, list_any}
 use Rattle.gate_record.specs.declared.event.Event.{Event}
 use Rattle.gate_config.specs.declared.config.Config.{Config}
+use Rattle.gate_config.specs.declared.generations.Generations.{Generations}
+use Rattle.gate_config.specs.Generations.{config_at}
 use Rattle.gate_config.specs.Lookups.{rules_of}
 use Rattle.gate_config.specs.Selection.{is_listed}
 use Rattle.gate_match.specs.declared.active.Active.{Active}
@@ -13,24 +15,31 @@ use Rattle.gate_match.specs.Inner.Narrowing.{meeting_any}
 abbrev pub listed_in : Config → ℕ → ℕ → List Event → List Bool
 listed_in config t c events = map (λ (event : Event). is_listed config t c event.project) events
 
--- the events of connection c whose project is listed under it
-abbrev pub active_in : Config → ℕ → ℕ → List (ℕ × Event) → List Bool
-active_in config t c batch = map (λ row. row.0 == c && is_listed config t c row.1.project) batch
+-- two keys are the same: a key is the generation in force at an event, beside its connection
+abbrev pub same_key : ℕ × ℕ → ℕ × ℕ → Bool
+same_key key other = key.0 == other.0 && key.1 == other.1
 
--- each has the rows of its connection
-abbrev pub AreActive : Config → ℕ → List (ℕ × Event) → List Active → Type 0
-AreActive config t batch actives = All (λ (active : Active). active.rows ≡ active_in config t active.conn batch) actives
+abbrev pub key_of : Active → ℕ × ℕ
+key_of active = (active.generation, active.conn)
 
-abbrev pub is_conn_of : List Active → ℕ → Bool
-is_conn_of actives c = list_any (λ (active : Active). c == active.conn) actives
+-- the events of a key whose project is listed by it
+abbrev pub active_in : Generations → ℕ → ℕ × ℕ → List ((ℕ × ℕ) × Event) → List Bool
+active_in gens t key batch = map (λ row. same_key row.0 key && is_listed (config_at gens key.0) t key.1 row.1.project) batch
 
--- each connection of the batch is there
-abbrev pub has_all : List Active → List ℕ → Bool
-has_all actives conns = list_all (is_conn_of actives) conns
+-- each has the rows of its key
+abbrev pub AreActive : Generations → ℕ → List ((ℕ × ℕ) × Event) → List Active → Type 0
+AreActive gens t batch actives = All (λ (active : Active). active.rows ≡ active_in gens t (key_of active) batch) actives
 
--- the rows that pipeline p selects, joined over these connections
-abbrev pub chosen_of : Config → ℕ → ℕ → List Event → Active → List Bool
-chosen_of config t p events active = both active.rows (meeting_any (rules_of config t p active.conn) events)
+abbrev pub is_key_of : List Active → ℕ × ℕ → Bool
+is_key_of actives key = list_any (λ (active : Active). same_key key (key_of active)) actives
 
-abbrev pub chosen : Config → ℕ → ℕ → List Event → List Bool → List Active → List Bool
-chosen config t p events rows actives = fold (λ so_far active. either so_far (chosen_of config t p events active)) rows actives
+-- each key of the batch is there
+abbrev pub has_all : List Active → List (ℕ × ℕ) → Bool
+has_all actives keys = list_all (is_key_of actives) keys
+
+-- the rows that pipeline p selects, joined over these keys
+abbrev pub chosen_of : Generations → ℕ → ℕ → List Event → Active → List Bool
+chosen_of gens t p events active = both active.rows (meeting_any (rules_of (config_at gens active.generation) t p active.conn) events)
+
+abbrev pub chosen : Generations → ℕ → ℕ → List Event → List Bool → List Active → List Bool
+chosen gens t p events rows actives = fold (λ so_far active. either so_far (chosen_of gens t p events active)) rows actives

@@ -12,7 +12,7 @@ use Rattle.gate_lanes.specs.declared.TheConstants.{MARKED}
 use Rattle.gate_config.specs.declared.config.Config.{Config}
 use Rattle.gate_tenant.specs.Dispatching.{for_pipeline, numbers_of}
 
--- an item's event, and the connection of that
+-- an item's event, and the generation and the connection of that
 abbrev pub events_in : TenantItem → List Event
 events_in (tenant.Event s) = s.event ∷ []
 events_in (tenant.End conn) = []
@@ -21,12 +21,16 @@ abbrev pub conns_in : TenantItem → List ℕ
 conns_in (tenant.Event s) = s.stamp.conn.0 ∷ []
 conns_in (tenant.End conn) = []
 
--- the events of items, each beside its connection
-abbrev pub row_in : TenantItem → List (ℕ × Event)
-row_in (tenant.Event s) = (s.stamp.conn.0, s.event) ∷ []
+abbrev pub gens_in : TenantItem → List ℕ
+gens_in (tenant.Event s) = s.generation ∷ []
+gens_in (tenant.End conn) = []
+
+-- the events of items, each beside its generation and its connection
+abbrev pub row_in : TenantItem → List ((ℕ × ℕ) × Event)
+row_in (tenant.Event s) = ((s.generation, s.stamp.conn.0), s.event) ∷ []
 row_in (tenant.End conn) = []
 
-abbrev pub rows_of : List TenantItem → List (ℕ × Event)
+abbrev pub rows_of : List TenantItem → List ((ℕ × ℕ) × Event)
 rows_of items = flat_map row_in items
 
 -- the word of a row in the mask of pipeline p

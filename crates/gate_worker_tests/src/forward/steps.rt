@@ -1,11 +1,12 @@
 //! The steps of a script, and what each comes to; where that isn't said, it is the empty text:
 //!
 //! - `load NUMBER LINE` loads the record of this line, and `end` the end mark
-//! - `send` sends the next item, and comes to it: `0: event 9 of 1 on Some(7)` for the event of record 9 of connection 1,
-//!   on change 7, to tenant 0, and `0: end of 1` for the end mark
+//! - `renew` loads the mark of a renewal, and comes to `last` where there is no later generation
+//! - `send` sends the next item, and comes to it: `0: event 9 of 1 on Some(7) by 0` for the event of record 9 of connection 1,
+//!   on change 7, by generation 0, to tenant 0, and `0: end of 1` for the end mark
 //! - `back` takes the next item, and comes to it too, but puts it back
 //! - `empty` and `ended` come to what they ask
-use gate_forward::Forward;
+use gate_forward::{Forward, Last};
 use gate_record::{Record, TenantId, TenantItem};
 use gate_test_lines::{record_of, word_and_rest};
 use std::alloc::{AllocError, Global};
@@ -27,6 +28,7 @@ fn push_step(
     match verb {
         "load" => load(alloc, forward, rest),
         "end" => load_end(forward),
+        "renew" => load_renew(text, forward),
         "send" => send(text, forward),
         "back" => put_back(text, forward),
         _ => push_asked(text, forward, verb),
@@ -75,6 +77,16 @@ fn load_end(forward: &mut Forward<'_>) -> Result<(), Fail> {
     Ok(())
 }
 
+fn load_renew(text: &mut String, forward: &mut Forward<'_>) -> Result<(), Fail> {
+    if forward.is_out() || !forward.is_empty() {
+        return Err(Fail::from("an item is in the hand"));
+    }
+    match forward.load_renew() {
+        Ok(()) => Ok(()),
+        Err(Last) => Ok(text.push_str("last")?),
+    }
+}
+
 // The next item, which is out then.
 fn next(forward: &mut Forward<'_>) -> Result<(TenantId, TenantItem), Fail> {
     if forward.is_out() {
@@ -114,11 +126,11 @@ fn push_item(text: &mut String, tenant: TenantId, item: &TenantItem) -> Result<(
     match item {
         TenantItem::End(conn) => write!(text, "end of {}", conn.0),
         TenantItem::Event(stamped) => {
-            let stamp = stamped.stamp;
+            let (stamp, generation) = (stamped.stamp, stamped.generation);
             let change = stamped.event.get().change;
             write!(
                 text,
-                "event {} of {} on {change:?}",
+                "event {} of {} on {change:?} by {generation}",
                 stamp.number, stamp.conn.0
             )
         }

@@ -140,7 +140,12 @@ fn item_of(alloc: Global, line: &str) -> Result<PipelineItem, Fail> {
         number: 3,
     };
     let event = Shared::new(alloc, event_of(alloc, line)?)?;
-    Ok(PipelineItem::Event(Stamped { stamp, event }))
+    let generation = 0;
+    Ok(PipelineItem::Event(Stamped {
+        stamp,
+        generation,
+        event,
+    }))
 }
 
 fn dequeue(number: &str) -> Result<Manage, Fail> {

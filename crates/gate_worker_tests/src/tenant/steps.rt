@@ -1,9 +1,10 @@
 //! The steps of a script, and what each comes to; where that isn't said, it is the empty text:
 //!
-//! - `event CONN NUMBER TYPE` gathers the event of such a record of the project `demo`
+//! - `event GENERATION CONN NUMBER TYPE` gathers the event of such a record of the project `demo`, forwarded by this generation
 //! - `end CONN` gathers an end mark, `end CONN TIMES` that many
 //! - `match` matches what is gathered
-//! - `give` gives all that is in the hand: `0:1/7` for record 7 of connection 1 to pipeline 0, `0:end` for its end mark
+//! - `give` gives all that is in the hand: `0:1/7@0` for record 7 of connection 1, forwarded by generation 0, to pipeline 0, and
+//!   `0:end` for its end mark
 //! - `back` takes the next item and puts it back
 //! - `room`, `ended` and `empty` come to what they ask
 use gate_record::{ConnId, PipelineId, PipelineItem, Shared, Stamp, Stamped, TenantItem};
@@ -68,11 +69,12 @@ fn gather_event(alloc: Global, dispatch: &mut Dispatch<'_>, words: &str) -> Resu
 }
 
 fn stamped(alloc: Global, words: &str) -> Result<Stamped, Fail> {
-    let (conn, rest) = word_and_rest(words);
+    let (generation, rest) = word_and_rest(words);
+    let (conn, rest) = word_and_rest(rest);
     let (number, kind) = word_and_rest(rest);
-    let stamp = stamp_of(conn, number)?;
+    let (stamp, generation) = (stamp_of(conn, number)?, generation.parse::<u32>()?);
     let line = format!(in alloc; r#"{{"type":"{kind}","change":{{"project":"demo"}}}}"#)?;
-    stamped_event(alloc, stamp, line.as_str())
+    stamped_event(alloc, stamp, generation, line.as_str())
 }
 
 fn stamp_of(conn: &str, number: &str) -> Result<Stamp, Fail> {
@@ -82,9 +84,18 @@ fn stamp_of(conn: &str, number: &str) -> Result<Stamp, Fail> {
     })
 }
 
-fn stamped_event(alloc: Global, stamp: Stamp, line: &str) -> Result<Stamped, Fail> {
+fn stamped_event(
+    alloc: Global,
+    stamp: Stamp,
+    generation: u32,
+    line: &str,
+) -> Result<Stamped, Fail> {
     let event = Shared::new(alloc, event_of(alloc, line)?)?;
-    Ok(Stamped { stamp, event })
+    Ok(Stamped {
+        stamp,
+        generation,
+        event,
+    })
 }
 
 fn match_batch(alloc: Global, dispatch: &mut Dispatch<'_>) -> Result<(), Fail> {
@@ -147,8 +158,12 @@ fn push_item(
     match item {
         PipelineItem::End => write!(text, "{}:end", pipeline.0),
         PipelineItem::Event(stamped) => {
-            let stamp = stamped.stamp;
-            write!(text, "{}:{}/{}", pipeline.0, stamp.conn.0, stamp.number)
+            let (stamp, generation) = (stamped.stamp, stamped.generation);
+            write!(
+                text,
+                "{}:{}/{}@{generation}",
+                pipeline.0, stamp.conn.0, stamp.number
+            )
         }
     }
 }

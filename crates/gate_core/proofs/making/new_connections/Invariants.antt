@@ -5,4 +5,4 @@ use Rattle.gate_core.proofs.Makings.{AreMade}
 use Rattle.gate_core.proofs.making.new_connections.Given as goal
 
 abbrev pub invariant-loop-number : goal.invariant-loop-number
-invariant-loop-number l = AreMade connection_view (λ _. new_connection) (IsConnection l.config) l.number l.connections.items
+invariant-loop-number l = AreMade connection_view (λ _. new_connection) (IsConnection l.gens) l.number l.connections.items

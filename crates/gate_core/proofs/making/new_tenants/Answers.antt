@@ -6,4 +6,4 @@ use Rattle.gate_core.proofs.making.new_tenants.Goals as goal
 
 pub loop-number-preserved : goal.loop-number-preserved
 loop-number-preserved c =
-    one_made tenant_view (new_tenant c.args.config.now) (IsTenant c.args.config.now) c.in_ok-new.field-0 c.in_ok-push.ensures.items c.loop-number.invariant (c.in_ok-new.ensures.config, c.in_ok-new.ensures.number) c.in_ok-new.ensures.view
+    one_made tenant_view (new_tenant c.args.gens.now.first) (IsTenant c.args.gens.now) c.in_ok-new.field-0 c.in_ok-push.ensures.items c.loop-number.invariant (c.in_ok-new.ensures.gens, c.in_ok-new.ensures.number) c.in_ok-new.ensures.view

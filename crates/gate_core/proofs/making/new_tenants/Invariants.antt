@@ -5,4 +5,4 @@ use Rattle.gate_core.proofs.Makings.{AreMade}
 use Rattle.gate_core.proofs.making.new_tenants.Given as goal
 
 abbrev pub invariant-loop-number : goal.invariant-loop-number
-invariant-loop-number l = AreMade tenant_view (new_tenant l.config) (IsTenant l.config) l.number l.tenants.items
+invariant-loop-number l = AreMade tenant_view (new_tenant l.gens.first) (IsTenant l.gens) l.number l.tenants.items

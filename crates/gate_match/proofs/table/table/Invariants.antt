@@ -1,5 +1,5 @@
-use Rattle.gate_match.specs.Inner.Tables.{AreOfConfig}
+use Rattle.gate_match.specs.Inner.Tables.{AreOfGenerations}
 use Rattle.gate_match.proofs.table.table.Given as goal
 
-abbrev pub invariant-loop-pipeline : goal.invariant-loop-pipeline
-invariant-loop-pipeline l = AreOfConfig l.config l.tenant.0 l.table.items
+abbrev pub invariant-loop-generation : goal.invariant-loop-generation
+invariant-loop-generation l = AreOfGenerations l.gens l.tenant.0 l.table.items

@@ -10,7 +10,7 @@ use Rattle.gate_tenant.proofs.matching.push_all.Goals as goal
 
 pub loop-item-preserved : goal.loop-item-preserved
 loop-item-preserved c =
-    let config = c.args.config.now in
+    let gens = c.args.gens.now in
     let t = c.args.tenant.0 in
     let all = c.args.gathered.now in
     let i = c.loop-item.item-index in
@@ -21,14 +21,16 @@ loop-item-preserved c =
     let low : i < length all = search rules in
     let more : take (i + 1) all ≡ front ++ item ∷ [] = take_more all i item low ∙ ap (λ x. front ++ x ∷ []) (sym c.item-item.is) in
     let whole : front ++ item ∷ back ≡ all = sym (append_assoc front (item ∷ []) back) ∙ ap (λ xs. xs ++ back) (sym more) ∙ take-append-drop (i + 1) all in
-    let gets = by_pipeline config t in
-    let step : given_by config t (map (λ mask. mask.items) c.args.masks.now) c.loop-item.row item ≡ gets item =
-    (λ j. given_by config t (c.requires j) (row j) item)
-    ∙ (λ j. given_by config t (masks_of config t (rows_of (sym whole j))) (length (rows_of front)) item)
-    ∙ given_is config t front back item in
+    let gets = by_pipeline gens t in
+    let step : given_by gens.first t (map (λ mask. mask.items) c.args.masks.now) c.loop-item.row item ≡ gets item =
+    (λ j. given_by gens.first t (c.requires j) (row j) item)
+    ∙ (λ j. given_by gens.first t (masks_of gens t (rows_of (sym whole j))) (length (rows_of front)) item)
+    ∙ given_is gens t front back item in
     let one = one_row item in
     let next = c.in_ok-row.ensures.row in (
-      c.in_ok-row.ensures.items ∙ (λ j. given j ++ step j)
+      c.in_ok-row.ensures.items
+          ∙ ap (λ config. c.loop-item.items.items ++ given_by config t (map (λ mask. mask.items) c.args.masks.now) c.loop-item.row item) c.first-config.ensures
+          ∙ (λ j. given j ++ step j)
           ∙ sym (ap (flat_map gets) more ∙ flat_map-append gets front (item ∷ []) ∙ ap (λ ys. flat_map gets front ++ ys) (append-nil (gets item))),
       next ∙ ap (λ n. n + length (row_in item)) row
           ∙ sym (ap (λ xs. length (rows_of xs)) more ∙ ap length (flat_map-append row_in front (item ∷ [])) ∙ length-append (rows_of front) (flat_map row_in (item ∷ [])) ∙ ap (λ ys. length (rows_of front) + length ys) (append-nil (row_in item))),

@@ -9,7 +9,7 @@ loop-fetched-preserved c =
     let so_far = c.loop-fetched.invariant in
     let room = so_far.3 in
     let used = c.gather_next.ensures.uses in (
-      c.gather_next.ensures.config ∙ so_far.0,
+      c.gather_next.ensures.gens ∙ so_far.0,
       c.gather_next.ensures.number ∙ so_far.1,
       c.gather_next.ensures.gathers ∙ ap (with_gathered 1) so_far.2 ∙ one_more c.loop-fetched._fetched (tenant_view c.args.self.now),
       omega (arith, room, used),

@@ -1,6 +1,6 @@
 use Rattle.std.proofs.Common.{map, subst, sym, OnErr, ℕ, Option}
 use Rattle.std.proofs.lemmas.Option.{slice_get_past}
-use Rattle.gate_config.specs.declared.config.Config.{Config}
+use Rattle.gate_config.specs.declared.generations.Generations.{Generations}
 use Rattle.gate_core.specs.Answers.{Does}
 use Rattle.gate_core.specs.Needs.{IsThere}
 use Rattle.gate_core.specs.Inner.Needs.{ConnectionNeeds}
@@ -25,7 +25,7 @@ invariant_of-self-clause-connections_by_number c =
     let old = c.in-Some.connection.now in
     let item = c.in-Some.ensures.item in
     let at = lent conns c.args.conn.0 old item.3.0 item.1 in
-    still_connections c.args.self.now.config.now conns c.args.conn.0 old c.step.new.self at c.args.self.now.connections_by_number c.step.ensures.config c.step.ensures.number
+    still_connections c.args.self.now.gens.now conns c.args.conn.0 old c.step.new.self at c.args.self.now.connections_by_number c.step.ensures.gens c.step.ensures.number
 
 pub returns-in-Some-clause-moves : goal.returns-in-Some-clause-moves
 returns-in-Some-clause-moves c =
@@ -33,8 +33,8 @@ returns-in-Some-clause-moves c =
     let old = c.in-Some.connection.now in
     let item = c.in-Some.ensures.item in
     let at = lent conns c.args.conn.0 old item.3.0 item.1 in
-    connection_does (connection_step c.args.self.now.config.now c.args.conn.0 c.args.step) c.args.conn.0 conns (map tenant_view c.args.self.now.tenants.items) old c.step.new.self c.step.result at
-    (known (λ (config : Config) (n : ℕ). Does (connection_view old) (connection_step config n c.args.step (connection_view old)) (connection_view c.step.new.self) c.step.result) _ _ _ _ (c.args.self.now.connections_by_number c.args.conn.0 old at) c.step.ensures.does)
+    connection_does (connection_step c.args.self.now.gens.now c.args.conn.0 c.args.step) c.args.conn.0 conns (map tenant_view c.args.self.now.tenants.items) old c.step.new.self c.step.result at
+    (known (λ (gens : Generations) (n : ℕ). Does (connection_view old) (connection_step gens n c.args.step (connection_view old)) (connection_view c.step.new.self) c.step.result) _ _ _ _ (c.args.self.now.connections_by_number c.args.conn.0 old at) c.step.ensures.does)
 
 pub returns-in-Some-clause-needs : goal.returns-in-Some-clause-needs
 returns-in-Some-clause-needs c =
@@ -47,4 +47,4 @@ returns-in-Some-clause-needs c =
 pub returns-in-None-clause-moves : goal.returns-in-None-clause-moves
 returns-in-None-clause-moves c =
     let conns = c.args.self.now.connections.items in
-    connection_idles (connection_step c.args.self.now.config.now c.args.conn.0 c.args.step) c.args.conn.0 conns (map tenant_view c.args.self.now.tenants.items) (slice_get_past conns c.args.conn.0 c.in-None.ensures.item.3)
+    connection_idles (connection_step c.args.self.now.gens.now c.args.conn.0 c.args.step) c.args.conn.0 conns (map tenant_view c.args.self.now.tenants.items) (slice_get_past conns c.args.conn.0 c.in-None.ensures.item.3)

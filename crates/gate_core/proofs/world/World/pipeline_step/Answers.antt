@@ -18,7 +18,7 @@ invariant_of-self-clause-tenants_by_number c =
     let old = c.in-Some.tenant.now in
     let item = c.in-Some.ensures.item in
     let at = lent tenants c.args.tenant.0 old item.3.0 item.1 in
-    still_tenants c.args.self.now.config.now tenants c.args.tenant.0 old _ at c.args.self.now.tenants_by_number refl refl
+    still_tenants c.args.self.now.gens.now tenants c.args.tenant.0 old _ at c.args.self.now.tenants_by_number refl refl
 
 pub invariant_of-self-in-None-get_mut-clause-tenants_by_number : goal.invariant_of-self-in-None-get_mut-clause-tenants_by_number
 invariant_of-self-in-None-get_mut-clause-tenants_by_number c =
@@ -26,7 +26,7 @@ invariant_of-self-in-None-get_mut-clause-tenants_by_number c =
     let old = c.in-Some.tenant.now in
     let item = c.in-Some.ensures.item in
     let at = lent tenants c.args.tenant.0 old item.3.0 item.1 in
-    still_tenants c.args.self.now.config.now tenants c.args.tenant.0 old _ at c.args.self.now.tenants_by_number refl refl
+    still_tenants c.args.self.now.gens.now tenants c.args.tenant.0 old _ at c.args.self.now.tenants_by_number refl refl
 
 pub returns-in-Some-get_mut-clause-moves : goal.returns-in-Some-get_mut-clause-moves
 returns-in-Some-get_mut-clause-moves c =
@@ -36,8 +36,8 @@ returns-in-Some-get_mut-clause-moves c =
     let at = lent tenants c.args.tenant.0 old item.3.0 item.1 in
     let found = c.in-Some-get_mut.ensures.item in
     let whose = lent old.pipelines.items c.args.pipeline.0 c.in-Some-get_mut.pipeline.now found.3.0 found.1 in
-    pipeline_does c.args.self.now.config.now c.args.tenant.0 c.args.pipeline.0 (map connection_view c.args.self.now.connections.items) tenants c.args.step old _ c.in-Some-get_mut.pipeline.now c.step.new.self c.step.result
-    at whose refl c.step.ensures.does
+    pipeline_does c.args.self.now.gens.now c.args.tenant.0 c.args.pipeline.0 (map connection_view c.args.self.now.connections.items) tenants c.args.step old _ c.in-Some-get_mut.pipeline.now c.step.new.self c.step.result
+    at whose refl (rw c.first.ensures at c.step.ensures.does)
 
 pub returns-in-Some-get_mut-clause-needs : goal.returns-in-Some-get_mut-clause-needs
 returns-in-Some-get_mut-clause-needs c =
@@ -48,7 +48,7 @@ returns-in-Some-get_mut-clause-needs c =
     let found = c.in-Some-get_mut.ensures.item in
     let whose = lent old.pipelines.items c.args.pipeline.0 c.in-Some-get_mut.pipeline.now found.3.0 found.1 in
     subst (λ (o : Option Pipeline). OnErr c.step.result (IsThere (PipelineNeeds c.args.step) o))
-    (sym (pipeline_is c.args.self.now.config.now c.args.tenant.0 c.args.pipeline.0 (map connection_view c.args.self.now.connections.items) tenants old at ∙ whose)) c.step.ensures.needs
+    (sym (pipeline_is c.args.self.now.gens.now c.args.tenant.0 c.args.pipeline.0 (map connection_view c.args.self.now.connections.items) tenants old at ∙ whose)) c.step.ensures.needs
 
 pub returns-in-None-get_mut-clause-moves : goal.returns-in-None-get_mut-clause-moves
 returns-in-None-get_mut-clause-moves c =
@@ -56,7 +56,7 @@ returns-in-None-get_mut-clause-moves c =
     let old = c.in-Some.tenant.now in
     let item = c.in-Some.ensures.item in
     let at = lent tenants c.args.tenant.0 old item.3.0 item.1 in
-    let move = pipeline_step c.args.self.now.config.now c.args.step in
+    let move = pipeline_step c.args.self.now.gens.now.first c.args.step in
     let none = slice_get_past old.pipelines.items c.args.pipeline.0 c.in-None-get_mut.ensures.item.3 in
     tenant_does (on_pipeline move c.args.pipeline.0) c.args.tenant.0 (map connection_view c.args.self.now.connections.items) tenants old _ (Ok Idle) at
     (sym (ap (λ (o : Option Pipeline). with_pipeline move c.args.pipeline.0 o (tenant_view old)) none))
@@ -64,4 +64,4 @@ returns-in-None-get_mut-clause-moves c =
 pub returns-in-None-clause-moves : goal.returns-in-None-clause-moves
 returns-in-None-clause-moves c =
     let tenants = c.args.self.now.tenants.items in
-    tenant_idles (on_pipeline (pipeline_step c.args.self.now.config.now c.args.step) c.args.pipeline.0) c.args.tenant.0 (map connection_view c.args.self.now.connections.items) tenants (slice_get_past tenants c.args.tenant.0 c.in-None.ensures.item.3)
+    tenant_idles (on_pipeline (pipeline_step c.args.self.now.gens.now.first c.args.step) c.args.pipeline.0) c.args.tenant.0 (map connection_view c.args.self.now.connections.items) tenants (slice_get_past tenants c.args.tenant.0 c.in-None.ensures.item.3)

@@ -11,10 +11,10 @@ invariant_of-self-clause-connections_by_number c =
     let old = c.in-Some.connection.now in
     let item = c.in-Some.ensures.item in
     let at = lent conns c.args.conn.0 old item.3.0 item.1 in
-    still_connections c.args.self.now.config.now conns c.args.conn.0 old c.send.new.connection at c.args.self.now.connections_by_number c.send.ensures.config c.send.ensures.number
+    still_connections c.args.self.now.gens.now conns c.args.conn.0 old c.send.new.connection at c.args.self.now.connections_by_number c.send.ensures.gens c.send.ensures.number
 
 pub invariant_of-self-clause-tenants_by_number : goal.invariant_of-self-clause-tenants_by_number
-invariant_of-self-clause-tenants_by_number c = c.send.ensures.tenants c.args.self.now.config.now c.args.self.now.tenants_by_number
+invariant_of-self-clause-tenants_by_number c = c.send.ensures.tenants c.args.self.now.gens.now c.args.self.now.tenants_by_number
 
 pub returns-in-Some-clause-moves : goal.returns-in-Some-clause-moves
 returns-in-Some-clause-moves c =

@@ -1,7 +1,7 @@
 use Rattle.std.proofs.Common.{◌∙◌, ap, Bool, Some, None, if◌then◌else◌}
 use Rattle.gate_core.specs.declared.step.Step.TheVariants as step
 use Rattle.gate_core.specs.History.{offered_to}
-use Rattle.gate_core.specs.Worlds.{config_of, state_of}
+use Rattle.gate_core.specs.Worlds.{gens_of, state_of}
 use Rattle.gate_core.proofs.Arrivals.{same_as_itself}
 use Rattle.gate_core.proofs.Counting.{one_more}
 use Rattle.gate_core.proofs.world.World.step.Goals as goal
@@ -13,16 +13,16 @@ connection_step-requires c connection at =
 
 pub returns-in-Offer-clause-counts : goal.returns-in-Offer-clause-counts
 returns-in-Offer-clause-counts c =
-    one_more (config_of c.args.self.now) (state_of c.args.self.now) (step.Offer c.in-Offer.conn c.in-Offer.line) (state_of c.connection_step.new.self) c.connection_step.result c.connection_step.ensures.moves
+    one_more (gens_of c.args.self.now) (state_of c.args.self.now) (step.Offer c.in-Offer.conn c.in-Offer.line) (state_of c.connection_step.new.self) c.connection_step.result c.connection_step.ensures.moves
 
 pub returns-in-Close-clause-counts : goal.returns-in-Close-clause-counts
 returns-in-Close-clause-counts c =
-    one_more (config_of c.args.self.now) (state_of c.args.self.now) (step.Close c.in-Close.conn) (state_of c.connection_step-in-Close.new.self) c.connection_step-in-Close.result c.connection_step-in-Close.ensures.moves
+    one_more (gens_of c.args.self.now) (state_of c.args.self.now) (step.Close c.in-Close.conn) (state_of c.connection_step-in-Close.new.self) c.connection_step-in-Close.result c.connection_step-in-Close.ensures.moves
 
 pub returns-in-Take-clause-counts : goal.returns-in-Take-clause-counts
 returns-in-Take-clause-counts c =
-    one_more (config_of c.args.self.now) (state_of c.args.self.now) (step.Take c.in-Take.conn) (state_of c.connection_step-in-Take.new.self) c.connection_step-in-Take.result c.connection_step-in-Take.ensures.moves
+    one_more (gens_of c.args.self.now) (state_of c.args.self.now) (step.Take c.in-Take.conn) (state_of c.connection_step-in-Take.new.self) c.connection_step-in-Take.result c.connection_step-in-Take.ensures.moves
 
 pub returns-in-Send-clause-counts : goal.returns-in-Send-clause-counts
 returns-in-Send-clause-counts c =
-    one_more (config_of c.args.self.now) (state_of c.args.self.now) (step.Send c.in-Send.conn) (state_of c.send.new.self) c.send.result c.send.ensures.moves
+    one_more (gens_of c.args.self.now) (state_of c.args.self.now) (step.Send c.in-Send.conn) (state_of c.send.new.self) c.send.result c.send.ensures.moves

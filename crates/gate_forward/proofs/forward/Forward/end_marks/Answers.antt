@@ -1,22 +1,22 @@
-use Rattle.std.proofs.Common.{arith, ◌≡◌, ◌<◌, ap, length}
+use Rattle.std.proofs.Common.{arith, ◌≡◌, ◌∙◌, ◌<◌, ap, length}
 use Rattle.gate_config.specs.Lookups.{tenants_of}
 use Rattle.gate_config.specs.Limits.{most_tenants}
 use Rattle.gate_record.specs.declared.transit.ConnEntry.TheVariants as entry
 use Rattle.gate_forward.specs.Forwarding.{forwarded_entry}
-use Rattle.gate_forward.specs.Hands.{config_of, conn_of}
+use Rattle.gate_forward.specs.Hands.{conn_of, gens_of, hand_of}
 use Rattle.gate_forward.proofs.Held.{all_filled, one_more}
 use Rattle.gate_forward.proofs.forward.Forward.end_marks.Goals as goal
 
 pub loop-tenant-preserved : goal.loop-tenant-preserved
 loop-tenant-preserved c =
-    let config = config_of c.args.self.now in
-    let all : length c.tenants-tenant-end.result.now ≡ length (tenants_of config) = ap length c.tenants-tenant-end.ensures in
-    let few : c.loop-tenant.tenant < most_tenants = omega (arith, c.loop-tenant-test.true, all, config.few_tenants) in
-    one_more (λ t. forwarded_entry config t (conn_of c.args.self.now) entry.End) c.end_mark_for.result few c.loop-tenant.invariant c.end_mark_for.ensures
+    let gens = gens_of c.args.self.now in
+    let all : length c.tenants-tenant-end.result.now ≡ length (tenants_of gens.first) = ap length c.tenants-tenant-end.ensures ∙ ap (λ config. length (tenants_of config)) c.first.ensures in
+    let few : c.loop-tenant.tenant < most_tenants = omega (arith, c.loop-tenant-test.true, all, gens.first.few_tenants) in
+    one_more (λ t. forwarded_entry gens t (conn_of c.args.self.now) (hand_of c.args.self.now).generation entry.End) c.end_mark_for.result few c.loop-tenant.invariant c.end_mark_for.ensures
 
 pub returns : goal.returns
 returns c =
-    let config = config_of c.args.self.now in
-    let all : length c.tenants-tenant-end.result.now ≡ length (tenants_of config) = ap length c.tenants-tenant-end.ensures in
-    let last : c.loop-tenant.tenant ≡ length (tenants_of config) = omega (arith, c.loop-tenant-test.false, c.loop-tenant.auto.tenant-end, all) in
-    all_filled (λ t. forwarded_entry config t (conn_of c.args.self.now) entry.End) config last c.loop-tenant.invariant
+    let gens = gens_of c.args.self.now in
+    let all : length c.tenants-tenant-end.result.now ≡ length (tenants_of gens.first) = ap length c.tenants-tenant-end.ensures ∙ ap (λ config. length (tenants_of config)) c.first.ensures in
+    let last : c.loop-tenant.tenant ≡ length (tenants_of gens.first) = omega (arith, c.loop-tenant-test.false, c.loop-tenant.auto.tenant-end, all) in
+    all_filled (λ t. forwarded_entry gens t (conn_of c.args.self.now) (hand_of c.args.self.now).generation entry.End) gens last c.loop-tenant.invariant

@@ -1,9 +1,13 @@
-use Rattle.std.proofs.Common.{◌∙◌, ap₂}
+use Rattle.std.proofs.Common.{◌∙◌, ap, ap₂}
+use Rattle.gate_match.specs.Inner.Choosing.{listed_in}
 use Rattle.gate_match.specs.Inner.Marks.{both}
 use Rattle.gate_match.proofs.Chosen.{active_is}
 use Rattle.gate_match.proofs.program.Program.active.Goals as goal
 
 pub returns-clause-rows : goal.returns-clause-rows
 returns-clause-rows c =
-    c.and.ensures.value ∙ ap₂ both c.in_ok-rows.ensures c.in_ok-listed.ensures
-    ∙ active_is c.args.self.now.config.now c.args.self.now.tenant.0 c.args.conn c.args.conns.now c.args.columns.now
+    let t = c.args.self.now.tenant.0 in
+    let events = c.args.columns.now in
+    c.and-2.ensures.value
+    ∙ ap₂ both (c.and.ensures.value ∙ ap₂ both c.in_ok-rows.ensures c.in_ok-of_ids.ensures) (c.in_ok-listed.ensures ∙ ap (λ config. listed_in config t c.args.conn events) c.generation-config.ensures)
+    ∙ active_is c.args.self.now.gens.now t c.args.generation c.args.conn c.args.gens.now c.args.conns.now events

@@ -1,9 +1,31 @@
-use Rattle.gate_match.proofs.Chosen.{all_more}
+use Rattle.std.proofs.Common.{◌≡◌, ◌<◌, ◌≤◌, sym, subst, true, length, arith}
+use Rattle.std.specs.List.{zip}
+use Rattle.std.proofs.lemmas.List.{take_all}
+use Rattle.std.proofs.lemmas.Slice.Zip.{get_or-zip}
+use Rattle.gate_match.specs.Inner.Choosing.{has_all, is_key_of}
+use Rattle.gate_match.proofs.Chosen.{all_more, keys_length}
 use Rattle.gate_match.proofs.program.Program.actives.Goals as goal
 
-pub loop-conn-preserved : goal.loop-conn-preserved
-loop-conn-preserved c = record {
-  active = c.in_ok-add_active.ensures.active;
-  all = all_more c.loop-conn.actives.items c.add_active.new.actives.items c.args.conns.now c.loop-conn.conn-index c.loop-conn-test.true c.loop-conn.invariant.all
-      c.in_ok-add_active.ensures.keeps c.in_ok-add_active.ensures.has;
-}
+pub loop-row-preserved : goal.loop-row-preserved
+loop-row-preserved c =
+    let gens = c.args.gens.now in
+    let conns = c.args.conns.now in
+    let row = c.loop-row.row in
+    let all = keys_length gens conns (length c.args.columns.now) c.requires.gens c.requires.conns in
+    let few : row < length conns = c.loop-row-test.true in
+    let of_gens : row < length gens = omega (arith, few, c.requires.gens, c.requires.conns) in
+    let of_keys : row < length (zip gens conns) = omega (arith, few, all, c.requires.conns) in
+    record {
+      active = c.in_ok-add_active.ensures.active;
+      all = all_more c.loop-row.actives.items c.add_active.new.actives.items (zip gens conns) row of_keys c.loop-row.invariant.all c.in_ok-add_active.ensures.keeps
+          (subst (λ key. is_key_of c.add_active.new.actives.items key ≡ true) (sym (get_or-zip gens conns row (0, 0) of_gens few)) c.in_ok-add_active.ensures.has);
+    }
+
+pub returns-clause-all : goal.returns-clause-all
+returns-clause-all c =
+    let gens = c.args.gens.now in
+    let conns = c.args.conns.now in
+    let row = c.loop-row.row in
+    let all = keys_length gens conns (length c.args.columns.now) c.requires.gens c.requires.conns in
+    let past : length (zip gens conns) ≤ row = omega (arith, c.loop-row-test.false, all, c.requires.conns) in
+    subst (λ keys. has_all c.loop-row.actives.items keys ≡ true) (take_all row (zip gens conns) past) c.loop-row.invariant.all

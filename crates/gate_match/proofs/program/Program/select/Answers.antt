@@ -13,7 +13,7 @@ loop-pipeline-init c = record { right = c.none-answers.ensures c.args.columns.no
 
 pub loop-pipeline-preserved : goal.loop-pipeline-preserved
 loop-pipeline-preserved c =
-    let f = λ (p : ℕ). mask_of c.args.self.now.config.now c.args.self.now.tenant.0 p (zip c.args.conns.now c.args.columns.now) in
+    let f = λ (p : ℕ). mask_of c.args.self.now.gens.now c.args.self.now.tenant.0 p (zip (zip c.args.gens.now c.args.conns.now) c.args.columns.now) in
     let n = c.loop-pipeline.pipeline in
     record {
       right = c.mask.ensures.right;

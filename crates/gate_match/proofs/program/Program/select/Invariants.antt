@@ -8,5 +8,5 @@ use Rattle.gate_match.proofs.program.Program.select.Given as goal
 abbrev pub invariant-loop-pipeline : goal.invariant-loop-pipeline
 invariant-loop-pipeline l = record {
   right : AreRight l.columns l.answers;
-  masks : map (λ mask. mask.items) l.masks.items ≡ map (λ p. mask_of l.self.config.now l.self.tenant.0 p (zip l.conns l.columns)) (range_with_len 0 l.pipeline);
+  masks : map (λ mask. mask.items) l.masks.items ≡ map (λ p. mask_of l.self.gens.now l.self.tenant.0 p (zip (zip l.gens l.conns) l.columns)) (range_with_len 0 l.pipeline);
 }

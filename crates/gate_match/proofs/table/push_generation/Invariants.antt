@@ -1,0 +1,5 @@
+use Rattle.gate_match.specs.Inner.Tables.{AreOfGenerations}
+use Rattle.gate_match.proofs.table.push_generation.Given as goal
+
+abbrev pub invariant-loop-pipeline : goal.invariant-loop-pipeline
+invariant-loop-pipeline l = AreOfGenerations l.gens l.tenant.0 l.table.items
