@@ -1,6 +1,6 @@
 //! Runs in which a pipeline is held while a burst of events comes to wait for it.
 use anyhow::{Context, Result, bail};
-use gate_config::{Config, read_config};
+use gate_config::{Generations, read_config};
 use gate_core::{PipelineReport, RunReport};
 use gate_pipeline::Pipeline;
 use gate_record::{PipelineId, Record, Sequence, TenantId};
@@ -110,12 +110,13 @@ pub fn run<R: Threads + Wait + Clock + Sync>(rt: &R, alloc: Global, bursts: u32)
     let config = read_config(alloc, CONFIGURATION.as_bytes())
         .ok()
         .context("the configuration")?;
+    let gens = Generations::of(alloc, config);
     let begun = Begun {
         held: AtomicU32::new(0),
         free: AtomicU32::new(0),
     };
     let count = BURST.saturating_mul(bursts);
-    let report = run_feed(rt, alloc, &config, &begun, count)?;
+    let report = run_feed(rt, alloc, &gens, &begun, count)?;
     let has_passed = report.pipelines.as_slice().iter().all(|tenant| tenant
         .as_slice()
         .iter()
@@ -127,7 +128,7 @@ pub fn run<R: Threads + Wait + Clock + Sync>(rt: &R, alloc: Global, bursts: u32)
 fn run_feed<R: Threads + Wait + Clock + Sync>(
     rt: &R,
     alloc: Global,
-    config: &Config,
+    gens: &Generations,
     begun: &Begun,
     count: u32,
 ) -> Result<RunReport> {
@@ -139,11 +140,11 @@ fn run_feed<R: Threads + Wait + Clock + Sync>(
         count,
         begun,
     })?;
-    if feeds.len() != config.connections().len() {
+    if feeds.len() != gens.first().connections().len() {
         bail!("a feed for each connection");
     }
-    let (_posts, inbox) = Posts::open(alloc, config).ok().context("memory")?;
-    let served = serve(rt, alloc, config, feeds, inbox, &Holds { begun })
+    let (_posts, inbox) = Posts::open(alloc, gens).ok().context("memory")?;
+    let served = serve(rt, alloc, gens, feeds, inbox, &Holds { begun })
         .ok()
         .context("the run")?;
     Ok(served.report)

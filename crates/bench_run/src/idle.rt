@@ -2,7 +2,7 @@
 use crate::documents::configuration;
 use crate::running::{Silent, processed};
 use anyhow::{Context, Result, bail};
-use gate_config::{Config, read_config};
+use gate_config::{Generations, read_config};
 use gate_run::{FeedStep, Posts, RecordFeed, serve};
 use std::alloc::Global;
 use std::sync::Wait;
@@ -48,24 +48,25 @@ pub fn wait<R: Threads + Wait + Clock + Sync, C: Clock + Copy + Drop + Send>(
     let config = read_config(alloc, document.as_bytes())
         .ok()
         .context("the configuration")?;
+    let gens = Generations::of(alloc, config);
     let mut feeds = Vec::new(alloc);
     for _ in 0..CONNECTIONS {
         feeds.push(Blocked { clock, seconds })?;
     }
-    run_feeds(rt, alloc, &config, feeds)
+    run_feeds(rt, alloc, &gens, feeds)
 }
 
 fn run_feeds<R: Threads + Wait + Clock + Sync, C: Clock + Drop + Send>(
     rt: &R,
     alloc: Global,
-    config: &Config,
+    gens: &Generations,
     feeds: Vec<Blocked<C>>,
 ) -> Result<u64> {
-    if feeds.len() != config.connections().len() {
+    if feeds.len() != gens.first().connections().len() {
         bail!("a feed for each connection");
     }
-    let (_posts, inbox) = Posts::open(alloc, config).ok().context("memory")?;
-    let served = serve(rt, alloc, config, feeds, inbox, &Silent)
+    let (_posts, inbox) = Posts::open(alloc, gens).ok().context("memory")?;
+    let served = serve(rt, alloc, gens, feeds, inbox, &Silent)
         .ok()
         .context("the run")?;
     processed(&served.report)

@@ -1,4 +1,4 @@
-//! Eight feeds of records of three kinds and five projects, and the configuration that selects among them.
+//! Eight feeds of records of three kinds and five projects, and the generations of the configuration that selects among them.
 use crate::documents::comma_before;
 use gate_record::{Memory, Record, Sequence};
 use gate_run::{FeedStep, RecordFeed};
@@ -9,34 +9,48 @@ pub const CONNECTIONS: u32 = 8;
 
 pub const TENANTS: u32 = 4;
 
+/// As many generations as a configuration may have.
+pub const GENERATIONS: u32 = 16;
+
 /// How many records each connection has.
 pub const RECORDS: u32 = 25_000;
 
 // How many changes have events, by turns.
 const CHANGES: u32 = 31;
 
-// The pipelines of a tenant, each with its manager and with the pattern of the events that it selects.
-const PIPELINES: [(&str, &str, &str); 4] = [
-    ("check", "independent", "patchset-created"),
-    ("gate", "dependent", "comment-added"),
-    ("post", "independent", "change-merged"),
-    ("all", "independent", "."),
+// The pipelines of a tenant, each with its manager. The first three select a kind of events each, and the last all.
+const PIPELINES: [(&str, &str); 4] = [
+    ("check", "independent"),
+    ("gate", "dependent"),
+    ("post", "independent"),
+    ("all", "independent"),
 ];
 
-// The kinds of events, by turns: one that each pipeline but the last selects.
+// The kinds of events, by turns.
 const KINDS: [&str; 3] = ["patchset-created", "comment-added", "change-merged"];
+
+// Which kind a pipeline but the last selects in a generation: each the next one in each.
+fn kind_of(generation: u32, pipeline: u32) -> u32 {
+    (pipeline % 3 + generation % 3) % 3
+}
+
+// The project that all tenants list is listed in each second generation.
+fn lists_common(generation: u32) -> bool {
+    generation % 2 == 0
+}
 
 /// Whether a tenant lists a connection.
 pub fn lists(tenant: u32, connection: u32) -> bool {
     connection % TENANTS != tenant
 }
 
-/// Whether pipeline `pipeline` of a tenant selects record `number` of a connection: the projects go by turns, one of each
-/// tenant and one that all list.
-pub fn selects(tenant: u32, pipeline: u32, connection: u32, number: u32) -> bool {
+/// Whether pipeline `pipeline` of a tenant selects record `number` of a connection by a generation: the projects go by turns, one
+/// of each tenant and one that all list.
+pub fn selects(generation: u32, tenant: u32, pipeline: u32, connection: u32, number: u32) -> bool {
     let project = number % (TENANTS + 1);
-    let is_kind = pipeline == 3 || number % 3 == pipeline;
-    lists(tenant, connection) && is_kind && (project == tenant || project == TENANTS)
+    let is_kind = pipeline == 3 || number % 3 == kind_of(generation, pipeline);
+    let is_listed = project == tenant || project == TENANTS && lists_common(generation);
+    lists(tenant, connection) && is_kind && is_listed
 }
 
 /// A feed of such records, with moments between them at which it has none. It never fails.
@@ -99,14 +113,14 @@ impl RecordFeed for Mixed {
     }
 }
 
-/// Their configuration.
-pub fn configuration(alloc: Global) -> Result<String, AllocError> {
+/// The configuration of a generation.
+pub fn configuration(alloc: Global, generation: u32) -> Result<String, AllocError> {
     let mut tenants = String::new(alloc);
     let mut config = String::new(alloc);
     for tenant in 0..TENANTS {
         let comma = comma_before(tenant);
-        let source = source(alloc, tenant)?;
-        let items = items(alloc, tenant)?;
+        let source = source(alloc, generation, tenant)?;
+        let items = items(alloc, generation, tenant)?;
         write!(
             tenants,
             "{comma}{{\"name\":\"t{tenant}\",\"source\":{{{source}}}}}"
@@ -117,14 +131,19 @@ pub fn configuration(alloc: Global) -> Result<String, AllocError> {
 }
 
 // The connections that a tenant lists, with their projects.
-fn source(alloc: Global, tenant: u32) -> Result<String, AllocError> {
+fn source(alloc: Global, generation: u32, tenant: u32) -> Result<String, AllocError> {
     let mut members = String::new(alloc);
     for connection in 0..CONNECTIONS {
         if lists(tenant, connection) {
             let comma = if members.is_empty() { "" } else { "," };
+            let common = if lists_common(generation) {
+                TENANTS
+            } else {
+                tenant
+            };
             write!(
                 members,
-                "{comma}\"c{connection}\":{{\"untrusted-projects\":[\"p{tenant}\",\"p{TENANTS}\"]}}"
+                "{comma}\"c{connection}\":{{\"untrusted-projects\":[\"p{tenant}\",\"p{common}\"]}}"
             )?;
         }
     }
@@ -132,10 +151,10 @@ fn source(alloc: Global, tenant: u32) -> Result<String, AllocError> {
 }
 
 // The pipelines of a tenant, and its projects, which have a job in two of them.
-fn items(alloc: Global, tenant: u32) -> Result<String, AllocError> {
+fn items(alloc: Global, generation: u32, tenant: u32) -> Result<String, AllocError> {
     let mut items = String::new(alloc);
-    for (name, manager, pattern) in PIPELINES {
-        let trigger = trigger(alloc, pattern)?;
+    for (pipeline, (name, manager)) in (0u32..).zip(PIPELINES) {
+        let trigger = trigger(alloc, pattern_of(generation, pipeline))?;
         write!(
             items,
             "{{\"pipeline\":{{\"name\":\"{name}\",\"manager\":\"{manager}\",\"trigger\":{{{trigger}}}}}}},"
@@ -148,6 +167,15 @@ fn items(alloc: Global, tenant: u32) -> Result<String, AllocError> {
         )?;
     }
     Ok(items)
+}
+
+fn pattern_of(generation: u32, pipeline: u32) -> &'static str {
+    match kind_of(generation, pipeline) {
+        _ if pipeline == 3 => ".",
+        0 => KINDS[0],
+        1 => KINDS[1],
+        _ => KINDS[2],
+    }
 }
 
 fn trigger(alloc: Global, pattern: &str) -> Result<String, AllocError> {

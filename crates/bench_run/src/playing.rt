@@ -3,7 +3,7 @@ use crate::documents::{TENANTS, configuration};
 use crate::repeated::record;
 use crate::running::processed;
 use anyhow::Context;
-use gate_config::read_config;
+use gate_config::{Generations, read_config};
 use gate_core::{Step, play};
 use gate_record::{ConnId, Memory, PipelineId, Queue, TenantId};
 use std::alloc::Global;
@@ -14,8 +14,9 @@ pub fn play_all(alloc: Global, connections: u32, records: u32) -> anyhow::Result
     let config = read_config(alloc, document.as_bytes())
         .ok()
         .context("the configuration")?;
+    let gens = Generations::of(alloc, config);
     let steps = steps(alloc, connections, records).ok().context("memory")?;
-    let played = play(alloc, &config, steps).ok().context("the run")?;
+    let played = play(alloc, &gens, steps).ok().context("the run")?;
     let report = played.world.report().ok().context("memory")?;
     processed(&report)
 }

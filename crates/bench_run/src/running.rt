@@ -2,7 +2,7 @@
 use crate::documents::configuration;
 use crate::repeated::Repeated;
 use anyhow::{Context, Result, bail};
-use gate_config::{Config, read_config};
+use gate_config::{Generations, read_config};
 use gate_core::RunReport;
 use gate_pipeline::Pipeline;
 use gate_record::{PipelineId, TenantId};
@@ -39,24 +39,25 @@ pub fn serve_all<R: Threads + Wait + Clock + Sync>(
     let config = read_config(alloc, document.as_bytes())
         .ok()
         .context("the configuration")?;
+    let gens = Generations::of(alloc, config);
     let mut feeds = Vec::new(alloc);
     for _ in 0..connections {
         feeds.push(Repeated::new(alloc, records).ok().context("memory")?)?;
     }
-    run_feeds(rt, alloc, &config, feeds)
+    run_feeds(rt, alloc, &gens, feeds)
 }
 
 fn run_feeds<R: Threads + Wait + Clock + Sync>(
     rt: &R,
     alloc: Global,
-    config: &Config,
+    gens: &Generations,
     feeds: Vec<Repeated>,
 ) -> Result<u64> {
-    if feeds.len() != config.connections().len() {
+    if feeds.len() != gens.first().connections().len() {
         bail!("a feed for each connection");
     }
-    let (_posts, inbox) = Posts::open(alloc, config).ok().context("memory")?;
-    let served = serve(rt, alloc, config, feeds, inbox, &Silent)
+    let (_posts, inbox) = Posts::open(alloc, gens).ok().context("memory")?;
+    let served = serve(rt, alloc, gens, feeds, inbox, &Silent)
         .ok()
         .context("the run")?;
     processed(&served.report)

@@ -1,8 +1,8 @@
-//! Runs of many threads, with results that are posted and stops that are asked for while they work.
-use crate::mixed::{CONNECTIONS, Mixed, RECORDS, TENANTS, configuration};
-use crate::wanted::{accepted, complete};
+//! Runs of many threads, with results that are posted, and renewals and stops that are asked for while they work.
+use crate::mixed::{CONNECTIONS, GENERATIONS, Mixed, RECORDS, TENANTS, configuration};
+use crate::wanted::{accepted, complete, renewals};
 use anyhow::{Context, Result, bail};
-use gate_config::{Config, read_config};
+use gate_config::{Generations, read_generations};
 use gate_core::{EndCause, RunReport};
 use gate_items::JobResult;
 use gate_pipeline::Pipeline;
@@ -30,7 +30,10 @@ pub const STOPS: [Option<u32>; 8] = [
 // One result is posted in so many actions.
 const ACTIONS: u32 = 16;
 
-/// A gate that posts results of the build sets that it sees, and asks for a stop.
+// And the next generation is asked for in so many.
+const RENEWAL: u32 = 499;
+
+/// A gate that posts results of the build sets that it sees, and asks for the next generation and for a stop.
 #[derive(Drop)]
 struct Stresses {
     alloc: Global,
@@ -44,6 +47,9 @@ impl Gate for Stresses {
         let action = self.actions.fetch_add(1, Ordering::SeqCst);
         if self.stop == Some(action) {
             let _ = self.posts.lock(rt).stop(StopCause::Caller);
+        }
+        if action % RENEWAL == RENEWAL - 1 {
+            let _ = self.posts.lock(rt).renew();
         }
         if action % ACTIONS == 0 {
             if let Ok(Some(ended)) = first_ended(self.alloc, state) {
@@ -73,38 +79,45 @@ pub fn run<R: Threads + Wait + Clock + Sync>(
     alloc: Global,
     stop: Option<u32>,
 ) -> Result<String> {
-    let document = configuration(alloc)?;
-    let config = read_config(alloc, document.as_bytes())
-        .ok()
-        .context("the configuration")?;
-    let (posts, inbox) = Posts::open(alloc, &config).ok().context("memory")?;
+    let gens = generations(alloc)?;
+    let (posts, inbox) = Posts::open(alloc, &gens).ok().context("memory")?;
     let gate = Stresses {
         alloc,
         posts: Mutex::new(posts),
         actions: AtomicU32::new(0),
         stop,
     };
-    let served = run_feeds(rt, alloc, &config, inbox, &gate)?;
+    let served = run_feeds(rt, alloc, &gens, inbox, &gate)?;
     told(alloc, stop, &served)
+}
+
+fn generations(alloc: Global) -> Result<Generations> {
+    let mut documents = Vec::new(alloc);
+    for generation in 0..GENERATIONS {
+        documents.push(configuration(alloc, generation)?.into_bytes())?;
+    }
+    read_generations(alloc, documents.as_slice())
+        .ok()
+        .context("the configuration")
 }
 
 fn run_feeds<R: Threads + Wait + Clock + Sync>(
     rt: &R,
     alloc: Global,
-    config: &Config,
+    gens: &Generations,
     inbox: Inbox,
     gate: &Stresses,
 ) -> Result<Served<Mixed>>
-    requires inbox { IsInboxFor config.now inbox }
+    requires inbox { IsInboxFor gens.now.first inbox }
 {
     let mut feeds = Vec::new(alloc);
     for connection in 0..CONNECTIONS {
         feeds.push(Mixed::new(alloc, connection))?;
     }
-    if feeds.len() != config.connections().len() {
+    if feeds.len() != gens.first().connections().len() {
         bail!("a feed for each connection");
     }
-    serve(rt, alloc, config, feeds, inbox, gate)
+    serve(rt, alloc, gens, feeds, inbox, gate)
         .ok()
         .context("the run")
 }
@@ -116,17 +129,28 @@ ghost use Rattle.gate_run.specs.Ports.{IsInboxFor};
 fn told(alloc: Global, stop: Option<u32>, served: &Served<Mixed>) -> Result<String> {
     let complete = complete(&served.report);
     let accepted = accepted(&served.report);
+    let renewals = renewals(&served.report);
     let has_passed = complete == TENANTS * 4
         && has_ended(&served.report, stop)
-        && (stop.is_some() || accepted == u64::from(CONNECTIONS * RECORDS) && has_reported(served));
+        && (stop.is_some() || is_whole(served, accepted));
     let verdict = if has_passed { "passed" } else { "FAILED" };
     let moment = match stop {
         None => format!(in alloc; "to the end")?,
         Some(action) => format!(in alloc; "a stop before action {action}")?,
     };
     Ok(format!(in alloc;
-        "{verdict}: {moment}, {accepted} records accepted, {complete} pipelines complete"
+        "{verdict}: {moment}, {accepted} records accepted, {renewals} marks put, {complete} pipelines complete"
     )?)
+}
+
+// Whether all records were accepted, items were reported, and each connection came to a later generation.
+fn is_whole(served: &Served<Mixed>, accepted: u64) -> bool {
+    let connections = served.report.connections.as_slice();
+    accepted == u64::from(CONNECTIONS * RECORDS)
+        && has_reported(served)
+        && connections
+            .iter()
+            .all(|it| !it.renewals.as_slice().is_empty())
 }
 
 // Whether each connection ended because its records did or, where one was asked for, because of a stop, which then has reached one

@@ -4,7 +4,7 @@ use gate_core::{PipelineReport, RunReport};
 use gate_record::Stamp;
 
 /// How many of the report's pipelines are finished and have processed, of what was accepted of each connection, just the
-/// records that they select, in order.
+/// records that they select, each by the generation that was in force, in order.
 pub fn complete(report: &RunReport) -> u32 {
     let mut complete = 0u32;
     for (tenant, pipelines) in (0u32..).zip(report.pipelines.as_slice()) {
@@ -24,6 +24,15 @@ pub fn accepted(report: &RunReport) -> u64 {
         accepted = accepted.saturating_add(connection.accepted);
     }
     accepted
+}
+
+/// How many marks were put, over all connections.
+pub fn renewals(report: &RunReport) -> usize {
+    let mut renewals = 0usize;
+    for connection in report.connections.as_slice() {
+        renewals = renewals.saturating_add(connection.renewals.as_slice().len());
+    }
+    renewals
 }
 
 fn is_complete(report: &RunReport, tenant: u32, pipeline: u32, said: &PipelineReport) -> bool {
@@ -73,7 +82,25 @@ fn next(
     connection: u32,
     place: u32,
 ) -> Option<u32> {
-    let accepted = report.connections.get(connection as usize)?.accepted;
-    let accepted = u32::try_from(accepted).unwrap_or(u32::MAX);
-    (place..accepted).find(|number| selects(tenant, pipeline, connection, *number))
+    let told = report.connections.get(connection as usize)?;
+    let accepted = u32::try_from(told.accepted).unwrap_or(u32::MAX);
+    let renewals = told.renewals.as_slice();
+    (place..accepted).find(|number| selects(
+        in_force(renewals, *number),
+        tenant,
+        pipeline,
+        connection,
+        *number,
+    ))
+}
+
+// The generation in force at a record, where each renewal stands behind so many records.
+fn in_force(renewals: &[u64], number: u32) -> u32 {
+    let mut generation = 0u32;
+    for behind in renewals {
+        if *behind <= u64::from(number) {
+            generation = generation.saturating_add(1);
+        }
+    }
+    generation
 }

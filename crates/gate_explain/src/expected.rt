@@ -6,6 +6,7 @@ mod spot;
 use crate::expected::finding::{Seen, find};
 use crate::expected::found::Found;
 use crate::expected::spot::Spot;
+use crate::generations::push_number;
 use crate::near::{nearest, push_meant};
 use crate::parts::members;
 use crate::quoted::QuotedFront;
@@ -27,14 +28,21 @@ const ATTRIBUTES: [&str; 8] = [
 // The keys of an entry of patterns that is an object.
 const KEYS: [&str; 2] = ["regex", "negate"];
 
-/// Adds the fault of bytes that are no JSON, and where they aren't.
-pub fn push_unread(out: &mut String, error: &Error) -> Result<(), Memory> {
+/// Adds the fault of the bytes of a generation that are no JSON, and where they aren't.
+pub fn push_unread(out: &mut String, g: u32, error: &Error) -> Result<(), Memory> {
+    push_number(out, g)?;
     write!(out, "not-json\nThe document is no JSON: {error}.")?;
     Ok(())
 }
 
-/// Adds a fault as `check` has it, and a line that says what is expected there and what was found.
-pub fn push_fault(out: &mut String, document: &Value, fault: &ConfigFault) -> Result<(), Memory> {
+/// Adds a fault of the document of a generation as `check` has it, and a line that says what is expected there and what was found.
+pub fn push_fault(
+    out: &mut String,
+    g: u32,
+    document: &Value,
+    fault: &ConfigFault,
+) -> Result<(), Memory> {
+    push_number(out, g)?;
     writeln!(out, "{fault}")?;
     match fault {
         ConfigFault::Memory => Err(Memory),

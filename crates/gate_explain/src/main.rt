@@ -1,9 +1,12 @@
 //! The program `gate_explain`: what a configuration says and what comes of a script, in plain words.
 #![tactic(auto)]
 
+mod beside;
+mod changes;
 mod expected;
 mod explaining;
 mod fault;
+mod generations;
 mod near;
 mod parts;
 mod program;

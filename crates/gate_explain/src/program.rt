@@ -38,19 +38,19 @@ where
     }
 }
 
-// Both files are read before either is looked into.
+// All files are read before any is looked into.
 fn explained<X>(rt: &X, words: &[String]) -> Result<String, Fault>
 where
     X: Files + AllocGlobal,
 {
     let alloc = rt.alloc();
     let task = task_of(alloc, words)?;
-    let document = file(rt, task.config)?;
+    let documents = files(rt, task.config)?;
     match task.script {
-        None => explain(alloc, document.as_slice(), None),
+        None => explain(alloc, documents.as_slice(), None),
         Some(path) => {
             let script = file(rt, path)?;
-            explain(alloc, document.as_slice(), Some(script.as_slice()))
+            explain(alloc, documents.as_slice(), Some(script.as_slice()))
         }
     }
 }
@@ -58,6 +58,14 @@ where
 fn write_text<O: Write>(output: &mut O, text: &str) -> io::Result<()> {
     output.write_all(text.as_bytes())?;
     output.flush()
+}
+
+fn files<X: Files + AllocGlobal>(rt: &X, paths: Vec<String>) -> Result<Vec<Vec<u8>>, Fault> {
+    let mut files = Vec::new(rt.alloc());
+    for path in paths {
+        files.push(file(rt, path)?)?;
+    }
+    Ok(files)
 }
 
 fn file<X: Files + AllocGlobal>(rt: &X, path: String) -> Result<Vec<u8>, Fault> {

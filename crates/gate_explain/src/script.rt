@@ -12,7 +12,7 @@ use crate::fault::Fault;
 use crate::script::lines::{Lines, is_skipped, push_line};
 use crate::script::player::Player;
 use crate::script::wrong::push_wrong;
-use gate_config::Config;
+use gate_config::Generations;
 use gate_core::{ScriptFault, Scripted, read_script};
 use gate_record::{Memory, Queue};
 use std::alloc::Global;
@@ -21,11 +21,11 @@ use std::alloc::Global;
 pub fn push_script(
     out: &mut String,
     alloc: Global,
-    config: &Config,
+    gens: &Generations,
     script: &[u8],
 ) -> Result<(), Fault> {
     match read_script(alloc, script) {
-        Ok(read) => Ok(push_played(out, alloc, config, script, read)?),
+        Ok(read) => Ok(push_played(out, alloc, gens, script, read)?),
         Err(ScriptFault::Memory) => Err(Fault::Memory),
         Err(ScriptFault::Script(line)) => Err(refused(alloc, script, line)),
     }
@@ -34,12 +34,12 @@ pub fn push_script(
 fn push_played(
     out: &mut String,
     alloc: Global,
-    config: &Config,
+    gens: &Generations,
     script: &[u8],
     read: Queue<Scripted>,
 ) -> Result<(), Memory> {
     out.push_str("\nThe script, line by line:\n")?;
-    let mut player = Player::new(alloc, config)?;
+    let mut player = Player::new(alloc, gens)?;
     push_lines(out, alloc, &mut player, script, read)
 }
 

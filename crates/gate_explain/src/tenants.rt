@@ -1,6 +1,6 @@
 //! The tenants of a document that is a configuration, each with its number there.
 use crate::parts::{items, member, member_of, members, name_in, text_at};
-use gate_config::Config;
+use gate_config::{Config, Generations};
 use gate_record::{ConnId, Memory, PipelineId, TenantId};
 use serde_json::Value;
 use std::alloc::Global;
@@ -10,6 +10,8 @@ use std::collections::BTreeSet;
 #[derive(Drop)]
 pub struct Tenant<'v> {
     pub number: TenantId,
+    /// The generations of the configuration, of which the document is one.
+    pub gens: &'v Generations,
     /// Its place in the document.
     pub place: String,
     pub name: &'v str,
@@ -36,8 +38,17 @@ impl Tenant<'_> {
             .any(|listing| listing.name == connection)
     }
 
-    /// Whether the tenant lists a project of this name under any connection.
-    pub fn has_project(&self, config: &Config, project: &str) -> bool {
+    /// Whether the tenant lists a project of this name under any connection, in any generation.
+    pub fn has_project(&self, project: &str) -> bool {
+        for g in 0..self.gens.count() {
+            if self.has_project_in(self.gens.generation(g), project) {
+                return true;
+            }
+        }
+        false
+    }
+
+    fn has_project_in(&self, config: &Config, project: &str) -> bool {
         self.listings.as_slice().iter().any(|listing| config.belongs(
             self.number,
             listing.connection,
@@ -60,10 +71,10 @@ pub fn number_of(place: usize) -> u32 {
     u32::try_from(place).unwrap_or(u32::MAX)
 }
 
-/// The tenants of a document, in order.
+/// The tenants of a document, in order. The document is one of these generations.
 pub fn tenants_of<'v>(
     alloc: Global,
-    config: &'v Config,
+    gens: &'v Generations,
     document: &'v Value,
 ) -> Result<Vec<Tenant<'v>>, Memory> {
     let mut tenants = Vec::new(alloc);
@@ -71,7 +82,7 @@ pub fn tenants_of<'v>(
         if !is_no_tenant(entry) {
             let number = TenantId(number_of(tenants.len()));
             let place = place_of(alloc, position, entry)?;
-            let tenant = tenant_in(alloc, config, document, number, place, entry)?;
+            let tenant = tenant_in(alloc, gens, document, number, place, entry)?;
             tenants.push(tenant)?;
         }
     }
@@ -101,7 +112,7 @@ pub fn place_of(alloc: Global, position: usize, entry: &Value) -> Result<String,
 
 fn tenant_in<'v>(
     alloc: Global,
-    config: &'v Config,
+    gens: &'v Generations,
     document: &'v Value,
     number: TenantId,
     place: String,
@@ -110,9 +121,10 @@ fn tenant_in<'v>(
     let tenant = tenant_of(entry);
     let name = text_at(tenant, "name").unwrap_or("");
     let list = member_of(document.get("config"), name);
-    let listings = listings_of(alloc, config, number, member(tenant, "source"))?;
+    let listings = listings_of(alloc, gens.first(), number, member(tenant, "source"))?;
     Ok(Tenant {
         number,
+        gens,
         place,
         name,
         list,

@@ -7,8 +7,8 @@ use std::io;
 /// What the words of the command line ask for.
 #[derive(Debug, Drop)]
 pub struct Task {
-    /// The path of the configuration.
-    pub config: String,
+    /// The paths of the configuration's documents, a generation each.
+    pub config: Vec<String>,
     /// The path of the script, if there is to be one.
     pub script: Option<String>,
 }
@@ -45,9 +45,25 @@ fn task_in(alloc: Global, matches: &ArgMatches<'_>) -> Result<Task, Fault> {
         None => None,
     };
     Ok(Task {
-        config: String::from_str(alloc, config)?,
+        config: paths_of(alloc, config)?,
         script,
     })
+}
+
+// The paths that a word joins by commas.
+fn paths_of(alloc: Global, word: &str) -> Result<Vec<String>, Fault> {
+    let mut paths = Vec::new(alloc);
+    let mut path = String::new(alloc);
+    for letter in word.chars() {
+        if letter == ',' {
+            paths.push(path)?;
+            path = String::new(alloc);
+        } else {
+            path.push(letter)?;
+        }
+    }
+    paths.push(path)?;
+    Ok(paths)
 }
 
 fn fault_of(error: &Error) -> Fault {

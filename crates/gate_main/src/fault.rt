@@ -1,4 +1,4 @@
-use gate_config::ConfigFault;
+use gate_config::GenerationFault;
 use gate_core::ReplayFault;
 use gate_record::Memory;
 use gate_run::RunFault;
@@ -25,8 +25,8 @@ pub enum Fault {
     /// A word that names no stream, or the stream of a connection that isn't there or has one; or the name of a connection that has
     /// none.
     Source(String),
-    /// The document is no configuration.
-    Config(ConfigFault),
+    /// The documents are no generations of a configuration.
+    Generations(GenerationFault),
     /// The first line of the script that stands for nothing, counted from 1.
     Script(usize),
 }
@@ -38,8 +38,8 @@ impl Fault {
             Fault::Memory | Fault::File(_) | Fault::Write => 1,
             Fault::Thread | Fault::Listen(_) | Fault::Connect(_) => 1,
             Fault::Usage | Fault::Source(_) => 2,
-            Fault::Config(ConfigFault::Memory) => 1,
-            Fault::Config(_) | Fault::Script(_) => 3,
+            Fault::Generations(GenerationFault::Memory) => 1,
+            Fault::Generations(_) | Fault::Script(_) => 3,
         }
     }
 }
@@ -55,7 +55,7 @@ impl fmt::Display for Fault {
             Fault::Write => f.write_str("write"),
             Fault::Usage => f.write_str("usage"),
             Fault::Source(word) => write!(f, "source {word}"),
-            Fault::Config(fault) => write!(f, "{fault}"),
+            Fault::Generations(fault) => write!(f, "{fault}"),
             Fault::Script(line) => write!(f, "script {line}"),
         }
     }
@@ -79,11 +79,11 @@ impl From<Memory> for Fault {
     }
 }
 
-impl From<ConfigFault> for Fault {
-    fn from(fault: ConfigFault) -> Fault {
+impl From<GenerationFault> for Fault {
+    fn from(fault: GenerationFault) -> Fault {
         match fault {
-            ConfigFault::Memory => Fault::Memory,
-            fault => Fault::Config(fault),
+            GenerationFault::Memory => Fault::Memory,
+            fault => Fault::Generations(fault),
         }
     }
 }
@@ -102,7 +102,7 @@ impl From<ReplayFault> for Fault {
         match fault {
             ReplayFault::Memory => Fault::Memory,
             ReplayFault::Script(line) => Fault::Script(line),
-            ReplayFault::Config(fault) => Fault::Config(fault),
+            ReplayFault::Generations(fault) => Fault::Generations(fault),
         }
     }
 }

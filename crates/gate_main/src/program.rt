@@ -1,7 +1,7 @@
 use crate::fault::Fault;
 use crate::serving::serve_words;
 use crate::words::{Task, task_of};
-use gate_config::{check_text, read_config};
+use gate_config::{check_text, read_generations};
 use gate_core::replay;
 use std::alloc::Global;
 use std::fs::File;
@@ -67,19 +67,24 @@ where
 {
     let alloc = rt.alloc();
     let text = match task_of(alloc, words)? {
-        Task::Check { config } => check(alloc, file(rt, config)?.as_slice())?,
+        Task::Check { config } => check(alloc, files(rt, config)?.as_slice())?,
         Task::Replay { config, script } => {
-            let document = file(rt, config)?;
+            let documents = files(rt, config)?;
             let script = file(rt, script)?;
-            replay(alloc, document.as_slice(), script.as_slice())?
+            replay(alloc, documents.as_slice(), script.as_slice())?
         }
         Task::Serve {
             config,
             status,
             sources,
         } => {
-            let document = file(rt, config)?;
-            serve_words(rt, document.as_slice(), status.as_str(), sources.as_slice())?
+            let documents = files(rt, config)?;
+            serve_words(
+                rt,
+                documents.as_slice(),
+                status.as_str(),
+                sources.as_slice(),
+            )?
         }
         Task::Input => replay_input(alloc, input)?,
     };
@@ -89,10 +94,15 @@ where
     }
 }
 
-// What the configuration of a document says.
-fn check(alloc: Global, document: &[u8]) -> Result<String, Fault> {
-    let config = read_config(alloc, document)?;
-    Ok(check_text(alloc, &config)?)
+// What each generation of a configuration says, one after another.
+fn check(alloc: Global, documents: &[Vec<u8>]) -> Result<String, Fault> {
+    let gens = read_generations(alloc, documents)?;
+    let mut text = String::new(alloc);
+    for g in 0..gens.count() {
+        let said = check_text(alloc, gens.generation(g))?;
+        text.push_str(said.as_str())?;
+    }
+    Ok(text)
 }
 
 fn write_text<O: Write>(output: &mut O, text: &str) -> io::Result<()> {
@@ -100,14 +110,15 @@ fn write_text<O: Write>(output: &mut O, text: &str) -> io::Result<()> {
     output.flush()
 }
 
-// Standard input: its first line is the configuration, the rest the script.
+// Standard input: its first line is the configuration, of one generation, and the rest the script.
 fn replay_input<R: Read>(alloc: Global, input: &mut R) -> Result<String, Fault> {
     let mut bytes = Vec::new(alloc);
     if let Err(error) = input.read_to_end(&mut bytes) {
         return Err(reading_fault(String::from_str(alloc, "-")?, &error));
     }
-    let (document, script) = first_line(bytes.as_slice());
-    Ok(replay(alloc, document, script)?)
+    let (line, script) = first_line(bytes.as_slice());
+    let documents = [line.to_vec(alloc)?];
+    Ok(replay(alloc, documents.as_slice(), script)?)
 }
 
 // What stands before the first line feed, and what behind it.
@@ -116,6 +127,15 @@ fn first_line(bytes: &[u8]) -> (&[u8], &[u8]) {
         Some(end) => (&bytes[..end], &bytes[end + 1..]),
         None => (bytes, &[]),
     }
+}
+
+// All files are read before any is looked into.
+fn files<X: Files + AllocGlobal>(rt: &X, paths: Vec<String>) -> Result<Vec<Vec<u8>>, Fault> {
+    let mut files = Vec::new(rt.alloc());
+    for path in paths {
+        files.push(file(rt, path)?)?;
+    }
+    Ok(files)
 }
 
 fn file<X: Files + AllocGlobal>(rt: &X, path: String) -> Result<Vec<u8>, Fault> {

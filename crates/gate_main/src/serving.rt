@@ -9,7 +9,7 @@ use crate::port::{Port, port_address};
 use crate::sessions::Sessions;
 use crate::sources::{open_feeds, sources_of};
 use crate::stream::Stream;
-use gate_config::{Config, read_config};
+use gate_config::{Config, Generations, read_generations};
 use gate_core::report_text;
 use gate_record::Shared;
 use gate_run::{Inbox, Posts, ReaderFeed, RecordFeed, Served, serve};
@@ -24,13 +24,14 @@ use std::thread::{JoinHandle, Threads};
 use std::time::Clock;
 use std::{fs, mem};
 
-/// Runs the configuration of a document over the streams of these words, with a port where STATUS asks for one, and gives the report.
+/// Runs the configuration of these documents, a generation each, over the streams of these words, with a port where STATUS asks for
+/// one, and gives the report.
 ///
-/// The faults come in this order: those of the configuration; `Usage` for STATUS; `Source` for the words; `Listen`; `File` and
+/// The faults come in this order: those of the documents; `Usage` for STATUS; `Source` for the words; `Listen`; `File` and
 /// `Connect` for the streams, in the order of their words; `Thread`. `Memory` where it is refused.
 pub fn serve_words<X>(
     rt: &X,
-    document: &[u8],
+    documents: &[Vec<u8>],
     status: &str,
     words: &[String],
 ) -> Result<String, Fault>
@@ -47,12 +48,12 @@ where
         + 'static,
 {
     let alloc = rt.alloc();
-    let config = read_config(alloc, document)?;
+    let gens = read_generations(alloc, documents)?;
     let address = port_address(status)?;
-    let sources = sources_of(alloc, &config, words)?;
+    let sources = sources_of(alloc, gens.first(), words)?;
     let port = listen(rt, status, address)?;
-    let ran = match open_feeds(rt, &config, sources.as_slice()) {
-        Ok(feeds) => run(rt, config, feeds, port),
+    let ran = match open_feeds(rt, gens.first(), sources.as_slice()) {
+        Ok(feeds) => run(rt, gens, feeds, port),
         Err(fault) => Err(fault),
     };
     // While it is listened on, nobody else takes the socket for an abandoned one.
@@ -81,109 +82,102 @@ fn listen<X: Files + Net<Stream = TcpStream, Listener = TcpListener> + AllocGlob
 // Runs until the streams are worked off or a session has ended by `stop`; where there is a port, one has to. The report, and the port.
 fn run<X>(
     rt: &X,
-    config: Config,
+    gens: Generations,
     feeds: Vec<ReaderFeed<Stream>>,
     port: Option<Port>,
 ) -> Result<(String, Option<Port>), Fault>
 where
     X: Threads + Wait + Clock + AllocGlobal + Copy + Send + Sync + 'static,
-    requires feeds { length feeds.items ≡ length (connections_of config) }
+    requires feeds { length feeds.items ≡ length (connections_of gens.first) }
     requires few { All (λ feed. ⟦<ReaderFeed<Stream> as RecordFeed>⟧.fault_count feed < 2 ^ 64 - 1) feeds.items }
 {
-    let config = Shared::new(rt.alloc(), config)?;
-    let ran = run_shared(rt, &config, feeds, port);
+    let gens = Shared::new(rt.alloc(), gens)?;
+    let ran = run_shared(rt, &gens, feeds, port);
     if ran.is_ok() {
         // The program ends behind this, and the system takes it back at once.
-        mem::forget(config);
+        mem::forget(gens);
     }
     ran
 }
 
 fn run_shared<X>(
     rt: &X,
-    config: &Shared<Config>,
+    gens: &Shared<Generations>,
     feeds: Vec<ReaderFeed<Stream>>,
     port: Option<Port>,
 ) -> Result<(String, Option<Port>), Fault>
 where
     X: Threads + Wait + Clock + AllocGlobal + Copy + Send + Sync + 'static,
-    requires feeds { length feeds.items ≡ length (connections_of config.now) }
+    requires feeds { length feeds.items ≡ length (connections_of gens.now.first) }
     requires few { All (λ feed. ⟦<ReaderFeed<Stream> as RecordFeed>⟧.fault_count feed < 2 ^ 64 - 1) feeds.items }
 {
     let alloc = rt.alloc();
-    let board = Shared::new(alloc, Mutex::new(Board::new(alloc, config.get())?))?;
+    let board = Shared::new(alloc, Mutex::new(Board::new(alloc, gens.get().first())?))?;
     match port {
-        Some(port) => run_with_port(rt, config, &board, feeds, port),
-        None => run_alone(rt, config.get(), &board, feeds),
+        Some(port) => run_with_port(rt, gens, &board, feeds, port),
+        None => run_alone(rt, gens.get(), &board, feeds),
     }
 }
 
 fn run_alone<X>(
     rt: &X,
-    config: &Config,
+    gens: &Generations,
     board: &Shared<Mutex<Board>>,
     feeds: Vec<ReaderFeed<Stream>>,
 ) -> Result<(String, Option<Port>), Fault>
 where
     X: Threads + Wait + Clock + AllocGlobal + Copy + Send + Sync + 'static,
-    requires feeds { length feeds.items ≡ length (connections_of config.now) }
+    requires feeds { length feeds.items ≡ length (connections_of gens.now.first) }
     requires few { All (λ feed. ⟦<ReaderFeed<Stream> as RecordFeed>⟧.fault_count feed < 2 ^ 64 - 1) feeds.items }
 {
     let alloc = rt.alloc();
-    let inbox = Inbox::without_posts(alloc, config)?;
-    let served = serve(
-        rt,
-        alloc,
-        config,
-        feeds,
-        inbox,
-        &BoardGate::new(board.get()),
-    )?;
-    Ok((report(alloc, config, served)?, None))
+    let inbox = Inbox::without_posts(alloc, gens.first())?;
+    let served = serve(rt, alloc, gens, feeds, inbox, &BoardGate::new(board.get()))?;
+    Ok((report(alloc, gens.first(), served)?, None))
 }
 
 fn run_with_port<X>(
     rt: &X,
-    config: &Shared<Config>,
+    gens: &Shared<Generations>,
     board: &Shared<Mutex<Board>>,
     feeds: Vec<ReaderFeed<Stream>>,
     port: Port,
 ) -> Result<(String, Option<Port>), Fault>
 where
     X: Threads + Wait + Clock + AllocGlobal + Copy + Send + Sync + 'static,
-    requires feeds { length feeds.items ≡ length (connections_of config.now) }
+    requires feeds { length feeds.items ≡ length (connections_of gens.now.first) }
     requires few { All (λ feed. ⟦<ReaderFeed<Stream> as RecordFeed>⟧.fault_count feed < 2 ^ 64 - 1) feeds.items }
 {
     let alloc = rt.alloc();
-    let (sessions, inbox) = start_sessions(rt, config, board, port)?;
+    let (sessions, inbox) = start_sessions(rt, gens, board, port)?;
     let served = serve(
         rt,
         alloc,
-        config.get(),
+        gens.get(),
         feeds,
         inbox,
         &BoardGate::new(board.get()),
     )?;
     let port = sessions.join(rt);
-    Ok((report(alloc, config.get(), served)?, Some(port)))
+    Ok((report(alloc, gens.get().first(), served)?, Some(port)))
 }
 
 // The sessions of the port, in their thread, and the inbox of what they post.
 fn start_sessions<X>(
     rt: &X,
-    config: &Shared<Config>,
+    gens: &Shared<Generations>,
     board: &Shared<Mutex<Board>>,
     port: Port,
 ) -> Result<(JoinHandle<Port>, Inbox), Fault>
 where
     X: Threads + Wait + Clock + AllocGlobal + Copy + Send + 'static,
-    ensures { IfOk result (λ started. IsInboxFor config.now started.1) }
+    ensures { IfOk result (λ started. IsInboxFor gens.now.first started.1) }
 {
     let alloc = rt.alloc();
-    let config_of_sessions = config.share()?;
+    let gens_of_sessions = gens.share()?;
     let board = board.share()?;
-    let (posts, inbox) = Posts::open(alloc, config.get())?;
-    let sessions = Sessions::new(port, config_of_sessions, board, posts);
+    let (posts, inbox) = Posts::open(alloc, gens.get())?;
+    let sessions = Sessions::new(port, gens_of_sessions, board, posts);
     Ok((sessions.start(rt, (*rt, alloc))?, inbox))
 }
 

@@ -3,9 +3,9 @@ ghost use Rattle.gate_status.specs.Replies.{ArePostsFor};
 
 use crate::fault::Fault;
 use crate::port::Port;
-use gate_config::Config;
+use gate_config::Generations;
 use gate_record::Shared;
-use gate_run::{Posts, config_crosses};
+use gate_run::{Posts, generations_cross};
 use gate_status::{Board, Counted, SessionEnd, SessionFault, session};
 use std::alloc::Global;
 use std::io::{Read, Write};
@@ -14,14 +14,14 @@ use std::thread::{JoinHandle, Threads};
 use std::time::{Clock, Duration};
 use std::{io, thread};
 
-/// The sessions of a port, each of which reads and posts by one configuration.
+/// The sessions of a port, each of which reads and posts by what all generations of a configuration have in common.
 #[derive(Drop)]
 pub struct Sessions {
     port: Port,
-    config: Shared<Config>,
+    gens: Shared<Generations>,
     board: Shared<Mutex<Board>>,
     posts: Posts,
-    ghost for_config: { ArePostsFor config posts },
+    ghost for_config: { ArePostsFor gens.first posts },
 }
 
 // For how many milliseconds the port is left alone where it had no session to give.
@@ -31,15 +31,15 @@ impl Sessions {
     /// The sessions that a port will have.
     pub fn new(
         port: Port,
-        config: Shared<Config>,
+        gens: Shared<Generations>,
         board: Shared<Mutex<Board>>,
         posts: Posts,
     ) -> Sessions
-        requires for_config { ArePostsFor config posts }
+        requires for_config { ArePostsFor gens.first posts }
     {
         Sessions {
             port,
-            config,
+            gens,
             board,
             posts,
         }
@@ -52,7 +52,7 @@ impl Sessions {
         rt: &X,
         own: (X, Global),
     ) -> Result<JoinHandle<Port>, Fault> {
-        config_crosses();
+        generations_cross();
         match thread::spawn(rt, move || self.serve(&own)) {
             Ok(thread) => Ok(thread),
             Err(_) => Err(Fault::Thread),
@@ -100,7 +100,7 @@ impl Sessions {
             rt,
             &mut input,
             &mut output,
-            self.config.get(),
+            self.gens.get().first(),
             self.board.get(),
             &mut self.posts,
         )

@@ -8,18 +8,18 @@ use std::io;
 /// What the words of the command line ask for.
 #[derive(Debug, Drop)]
 pub enum Task {
-    /// To print what a configuration says, a path.
+    /// To print what a configuration says, whose documents have these paths, a generation each.
     Check {
-        config: String,
+        config: Vec<String>,
     },
-    /// To replay a script by a configuration, each a path.
+    /// To replay a script, a path, by a configuration.
     Replay {
-        config: String,
+        config: Vec<String>,
         script: String,
     },
-    /// To run a configuration, a path, over the streams of its connections, with a status port where there is to be one.
+    /// To run a configuration over the streams of its connections, with a status port where there is to be one.
     Serve {
-        config: String,
+        config: Vec<String>,
         status: String,
         sources: Vec<String>,
     },
@@ -74,7 +74,7 @@ fn task_in(alloc: Global, matches: &ArgMatches<'_>) -> Result<Task, Fault> {
     };
     match (name, words.get_str("config")) {
         ("check", Some(config)) => Ok(Task::Check {
-            config: String::from_str(alloc, config)?,
+            config: paths_of(alloc, config)?,
         }),
         ("replay", Some(config)) => replay_in(alloc, config, words),
         ("serve", Some(config)) => serve_in(alloc, config, words),
@@ -87,7 +87,7 @@ fn replay_in(alloc: Global, config: &str, words: &ArgMatches<'_>) -> Result<Task
         return Err(Fault::Usage);
     };
     Ok(Task::Replay {
-        config: String::from_str(alloc, config)?,
+        config: paths_of(alloc, config)?,
         script: String::from_str(alloc, script)?,
     })
 }
@@ -102,10 +102,26 @@ fn serve_in(alloc: Global, config: &str, words: &ArgMatches<'_>) -> Result<Task,
         sources.push(String::from_str(alloc, word)?)?;
     }
     Ok(Task::Serve {
-        config: String::from_str(alloc, config)?,
+        config: paths_of(alloc, config)?,
         status: String::from_str(alloc, status)?,
         sources,
     })
+}
+
+// The paths that a word joins by commas, which may be empty.
+fn paths_of(alloc: Global, word: &str) -> Result<Vec<String>, Fault> {
+    let mut paths = Vec::new(alloc);
+    let mut path = String::new(alloc);
+    for letter in word.chars() {
+        if letter == ',' {
+            paths.push(path)?;
+            path = String::new(alloc);
+        } else {
+            path.push(letter)?;
+        }
+    }
+    paths.push(path)?;
+    Ok(paths)
 }
 
 fn fault_of(error: &Error) -> Fault {

@@ -1,10 +1,9 @@
 -- The way of a connection's records to a pipeline, put together from what each thread did and from what still waits in each queue.
 use Rattle.std.proofs.Common.{◌≡◌, ◌∙◌, refl, sym, ap, subst, ℕ, suc, ◌<◌, ◌==◌, List, [], ◌∷◌, ◌++◌, Bool, true, false, cond, Some, None, if◌then◌else◌, append_assoc, arith}
-use Rattle.std.specs.List.{cons_option, filter}
+use Rattle.std.specs.List.{cons_option, filter, filter_map}
 use Rattle.std.proofs.lemmas.List.Elements.{filter_map-append}
 use Rattle.std.proofs.lemmas.List.{map-append}
 use Rattle.std.proofs.lemmas.Bool.{eq-eqb}
-use Rattle.gate_record.specs.declared.record.Record.{Record}
 use Rattle.gate_record.specs.declared.reading.Reading.{Reading}
 use Rattle.gate_record.specs.declared.reading.Reading.TheVariants as reading
 use Rattle.gate_record.specs.declared.event.Event.{Event}
@@ -13,18 +12,20 @@ use Rattle.gate_record.specs.declared.transit.ConnEntry.TheVariants as entry
 use Rattle.gate_record.specs.declared.transit.PipelineItem.{PipelineItem}
 use Rattle.gate_record.specs.declared.transit.TenantItem.{TenantItem}
 use Rattle.gate_record.specs.declared.transit.TenantItem.TheVariants as tenant
-use Rattle.gate_record.specs.Entries.{entries_of}
+use Rattle.gate_record.specs.Entries.{generation_behind, with_generations}
+use Rattle.gate_record.specs.Generations.{EntriesHaveGenerations}
 use Rattle.gate_record.specs.Prefixes.{IsPrefixOf}
 use Rattle.gate_record.specs.Reading.{reading_of}
-use Rattle.gate_config.specs.declared.config.Config.{Config}
+use Rattle.gate_config.specs.declared.generations.Generations.{Generations}
+use Rattle.gate_config.specs.Generations.{config_at}
 use Rattle.gate_config.specs.Lookups.{lists}
 use Rattle.gate_config.specs.Selection.{is_listed}
-use Rattle.gate_forward.specs.Forwarding.{conn_id, forwarded, forwarded_entry, forwarded_reading, stamped}
+use Rattle.gate_forward.specs.Forwarding.{conn_id, forwarded, forwarded_at, forwarded_reading, stamped}
 use Rattle.gate_tenant.specs.Dispatching.{chosen, conn_of_item, is_from}
 use Rattle.gate_queue.specs.declared.tagged.Tagged.{Tagged}
 use Rattle.gate_queue.specs.States.{AreFrom, IsDelivered}
 use Rattle.gate_queue.specs.Tagged.{values_of}
-use Rattle.gate_core.specs.Ways.{Way, mark}
+use Rattle.gate_core.specs.Ways.{Way}
 use Rattle.gate_run.specs.Seats.{values}
 
 -- ---- the values of senders
@@ -78,30 +79,34 @@ part_of c (x ∷ xs) all =
 
 -- ---- what is forwarded is of its connection
 
-module _ (config : Config) (t c : ℕ) where
-  own_event : (n : ℕ) (event : Event) (b : Bool) (items : List TenantItem) → Each (λ item. conn_of_item item ≡ c) items → Each (λ item. conn_of_item item ≡ c) (cons_option (cond b (Some (tenant.Event (stamped c n event))) None) items)
-  own_event n event true items all = (refl, all)
-  own_event n event false items all = all
+module _ (gens : Generations) (t c : ℕ) where
+  own_event : (g n : ℕ) (event : Event) (b : Bool) (items : List TenantItem) → Each (λ item. conn_of_item item ≡ c) items → Each (λ item. conn_of_item item ≡ c) (cons_option (cond b (Some (tenant.Event (stamped c g n event))) None) items)
+  own_event g n event true items all = (refl, all)
+  own_event g n event false items all = all
 
-  own_reading : (n : ℕ) (r : Reading) (items : List TenantItem) → Each (λ item. conn_of_item item ≡ c) items → Each (λ item. conn_of_item item ≡ c) (cons_option (forwarded_reading config t c n r) items)
-  own_reading n (reading.Event event) items all = own_event n event (is_listed config t c event.project) items all
-  own_reading n (reading.Nothing why) items all = all
+  own_reading : (g n : ℕ) (r : Reading) (items : List TenantItem) → Each (λ item. conn_of_item item ≡ c) items → Each (λ item. conn_of_item item ≡ c) (cons_option (forwarded_reading gens t c g n r) items)
+  own_reading g n (reading.Event event) items all = own_event g n event (is_listed (config_at gens g) t c event.project) items all
+  own_reading g n (reading.Nothing why) items all = all
 
   own_mark : (b : Bool) (items : List TenantItem) → Each (λ item. conn_of_item item ≡ c) items → Each (λ item. conn_of_item item ≡ c) (cons_option (cond b (Some (tenant.End (conn_id c))) None) items)
   own_mark true items all = (refl, all)
   own_mark false items all = all
 
-  pub all_own : (entries : List ConnEntry) → Each (λ item. conn_of_item item ≡ c) (forwarded config t c entries)
-  all_own [] = tt
-  all_own (entry.Numbered n line ∷ entries) = own_reading n (reading_of line) _ (all_own entries)
-  all_own (entry.End ∷ entries) = own_mark (lists config t c) _ (all_own entries)
+  own_from : (g : ℕ) (entries : List ConnEntry) → Each (λ item. conn_of_item item ≡ c) (filter_map (forwarded_at gens t c) (with_generations g entries))
+  own_from g [] = tt
+  own_from g (entry.Numbered n line ∷ entries) = own_reading g n (reading_of line) _ (own_from g entries)
+  own_from g (entry.Renew ∷ entries) = own_from (suc g) entries
+  own_from g (entry.End ∷ entries) = own_mark (lists gens.first t c) _ (own_from g entries)
+
+  pub all_own : (entries : List ConnEntry) → Each (λ item. conn_of_item item ≡ c) (forwarded gens t c entries)
+  all_own entries = own_from 0 entries
 
 -- what was taken of a sender is of its connection
-pub taken_own : (config : Config) (t s : ℕ) (entries : List ConnEntry) (put : List TenantItem) (taken waiting : List (Tagged TenantItem)) → IsPrefixOf put (forwarded config t s entries) → IsDelivered taken waiting s put → Each (λ item. conn_of_item item ≡ s) (values_of s taken)
-taken_own config t s entries put taken waiting (rest, whole) delivered =
+pub taken_own : (gens : Generations) (t s : ℕ) (entries : List ConnEntry) (put : List TenantItem) (taken waiting : List (Tagged TenantItem)) → IsPrefixOf put (forwarded gens t s entries) → IsDelivered taken waiting s put → Each (λ item. conn_of_item item ≡ s) (values_of s taken)
+taken_own gens t s entries put taken waiting (rest, whole) delivered =
     each_front (λ item. conn_of_item item ≡ s) (values_of s taken) (values_of s waiting)
     (subst (Each (λ item. conn_of_item item ≡ s)) (sym delivered)
-    (each_front (λ item. conn_of_item item ≡ s) put rest (subst (Each (λ item. conn_of_item item ≡ s)) (sym whole) (all_own config t s entries))))
+    (each_front (λ item. conn_of_item item ≡ s) put rest (subst (Each (λ item. conn_of_item item ≡ s)) (sym whole) (all_own gens t s entries))))
 
 -- ---- the way
 
@@ -111,18 +116,19 @@ values_append xs ys = map-append (λ (x : Tagged _). x.value) xs ys
 -- From what the reader put, what was taken of that and what waits, what the forwarder put for the tenant, what was taken of all
 -- senders there and what waits, what the tenant's worker matched and put for the pipeline, what was taken of that and what waits: the
 -- first of what the pipeline took has its way.
-pub way_of : (config : Config) (t p c : ℕ) (lines : List Record) (closed : Bool) (put : List ConnEntry) (taken waiting : List (Tagged ConnEntry))
+pub way_of : EntriesHaveGenerations → (gens : Generations) (t p c : ℕ) (put : List ConnEntry) (taken waiting : List (Tagged ConnEntry))
     (sent : List TenantItem) (got waits : List (Tagged TenantItem)) (matched unmatched : List TenantItem) (given : List PipelineItem) (took still : List (Tagged PipelineItem)) (front held : List PipelineItem) →
-    put ≡ entries_of lines ++ mark closed → AreFrom 1 taken → AreFrom 1 waiting → IsDelivered taken waiting 0 put →
-    IsPrefixOf sent (forwarded config t c (values taken)) → OfSenders got → IsDelivered got waits c sent →
-    matched ++ unmatched ≡ values got → IsPrefixOf given (chosen config t p matched) →
+    AreFrom 1 taken → AreFrom 1 waiting → IsDelivered taken waiting 0 put →
+    IsPrefixOf sent (forwarded gens t c (values taken)) → OfSenders got → IsDelivered got waits c sent →
+    matched ++ unmatched ≡ values got → IsPrefixOf given (chosen gens t p matched) →
     AreFrom 1 took → AreFrom 1 still → IsDelivered took still 0 given → values took ≡ front ++ held →
-    Way config t p c lines closed front
-way_of config t p c lines closed put taken waiting sent got waits matched unmatched given took still front held puts from from' delivered (unsent, forwards) of got_of parts (ungiven, chooses) took_from still_from gave fronts =
+    Way gens t p c put front
+way_of law gens t p c put taken waiting sent got waits matched unmatched given took still front held from from' delivered (unsent, forwards) of got_of parts (ungiven, chooses) took_from still_from gave fronts =
+    let behind = filter_map (forwarded_at gens t c) (with_generations (generation_behind 0 (values taken)) (values waiting)) in
     record {
       matched = matched;
       unmatched = unmatched;
-      unsent = values_of c waits ++ (unsent ++ forwarded config t c (values waiting));
+      unsent = values_of c waits ++ (unsent ++ behind);
       untaken = held ++ (values still ++ ungiven);
       chooses =
           sym (append_assoc front held (values still ++ ungiven))
@@ -131,12 +137,13 @@ way_of config t p c lines closed put taken waiting sent got waits matched unmatc
           ∙ ap (λ xs. xs ++ ungiven) ((λ i. sym (only_sender took took_from) i ++ sym (only_sender still still_from) i) ∙ gave)
           ∙ chooses;
       forwards =
-          ap (λ xs. filter (is_from c) xs ++ (values_of c waits ++ (unsent ++ forwarded config t c (values waiting)))) parts
-          ∙ ap (λ xs. xs ++ (values_of c waits ++ (unsent ++ forwarded config t c (values waiting)))) (part_of c got of)
-          ∙ sym (append_assoc (values_of c got) (values_of c waits) (unsent ++ forwarded config t c (values waiting)))
-          ∙ ap (λ xs. xs ++ (unsent ++ forwarded config t c (values waiting))) got_of
-          ∙ sym (append_assoc sent unsent (forwarded config t c (values waiting)))
-          ∙ ap (λ xs. xs ++ forwarded config t c (values waiting)) forwards
-          ∙ sym (filter_map-append (forwarded_entry config t c) (values taken) (values waiting))
-          ∙ ap (forwarded config t c) ((λ i. sym (only_sender taken from) i ++ sym (only_sender waiting from') i) ∙ delivered ∙ puts);
+          ap (λ xs. filter (is_from c) xs ++ (values_of c waits ++ (unsent ++ behind))) parts
+          ∙ ap (λ xs. xs ++ (values_of c waits ++ (unsent ++ behind))) (part_of c got of)
+          ∙ sym (append_assoc (values_of c got) (values_of c waits) (unsent ++ behind))
+          ∙ ap (λ xs. xs ++ (unsent ++ behind)) got_of
+          ∙ sym (append_assoc sent unsent (behind))
+          ∙ ap (λ xs. xs ++ behind) forwards
+          ∙ sym (filter_map-append (forwarded_at gens t c) (with_generations 0 (values taken)) (with_generations (generation_behind 0 (values taken)) (values waiting)))
+          ∙ ap (filter_map (forwarded_at gens t c)) (sym (law.joined 0 (values taken) (values waiting)))
+          ∙ ap (forwarded gens t c) ((λ i. sym (only_sender taken from) i ++ sym (only_sender waiting from') i) ∙ delivered);
     }

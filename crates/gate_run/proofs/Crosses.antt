@@ -18,6 +18,8 @@ use Rattle.regex.specs.contracts.pattern.Pattern as pattern
 use Rattle.regex.specs.contracts.string.regex.Regex as regex
 use Rattle.gate_rule.specs.contracts.pattern.Pattern as rule_pattern
 use Rattle.gate_rule.specs.contracts.entry.Entry as entry
+use Rattle.gate_config.specs.contracts.config.Config as config
+use Rattle.gate_config.specs.contracts.generations.Generations as generations
 
 nfa_sync : IsSync (nfa.the_field).row
 nfa_sync = search (sendable, crosses) depth 40 fits 20000
@@ -110,4 +112,22 @@ entry_send h = recorded_send_of (entry.the_field).row (entry.the_type).D (entry.
     (λ d. struct_send_at (shape entry.the_type) ((entry.the_type).to d) (
       recorded_send_at (rule_pattern.the_field).row (rule_pattern.the_type).D (rule_pattern.the_type).to (rule_pattern.the_type).to_one h d.pattern,
       all_sent_at (drop 1 (shape entry.the_type).fields) entry_rest_send ((entry.the_type).to d).1,
+    ))
+
+-- ---- generations, which have a configuration beside a list of more
+
+later_sync : IsSync config.the_row → AllSync (drop 1 (shape generations.the_type).fields)
+later_sync h = ((search (sendable, crosses) depth 40 fits 20000), tt)
+
+pub generations_sync : IsSync config.the_row → IsSync generations.the_row
+generations_sync h = record { shared = λ d. struct_sync_at (shape generations.the_type) ((generations.the_type).to d) (h.shared d.first, all_at (drop 1 (shape generations.the_type).fields) (later_sync h) ((generations.the_type).to d).1) }
+
+later_send : IsSend config.the_row → AllSend (drop 1 (shape generations.the_type).fields)
+later_send h = ((search (sendable, crosses) depth 40 fits 20000), tt)
+
+pub generations_send : IsSend config.the_row → IsSend generations.the_row
+generations_send h = recorded_send_of (generations.the_field).row (generations.the_type).D (generations.the_type).to (generations.the_type).to_one
+    (λ d. struct_send_at (shape generations.the_type) ((generations.the_type).to d) (
+      recorded_send_at (config.the_field).row (config.the_type).D (config.the_type).to (config.the_type).to_one h d.first,
+      all_sent_at (drop 1 (shape generations.the_type).fields) (later_send h) ((generations.the_type).to d).1,
     ))

@@ -6,13 +6,13 @@ use Rattle.std.proofs.lemmas.List.Elements.{filter_map-append}
 use Rattle.gate_record.specs.declared.ids.PipelineId.{PipelineId}
 use Rattle.gate_record.specs.declared.transit.PipelineItem.{PipelineItem}
 use Rattle.gate_record.specs.declared.transit.TenantItem.{TenantItem}
-use Rattle.gate_config.specs.declared.config.Config.{Config}
+use Rattle.gate_config.specs.declared.generations.Generations.{Generations}
 use Rattle.gate_config.specs.Lookups.{pipelines_of}
 use Rattle.gate_tenant.specs.declared.dispatch.Dispatch.{Dispatch}
 use Rattle.gate_tenant.specs.Limits.{most_gathered}
 use Rattle.gate_tenant.specs.Dispatching.{chosen}
 use Rattle.gate_tenant.specs.Histories.{EachGetsItsOwn, NothingIsLost, beginning, begins, gathers, gives, item_for, items_for, matches, moves}
-use Rattle.gate_tenant.specs.States.{State, config_of, first_state, has_ended, matched, moved_out, put_back, room_of, state_of, tenant_of}
+use Rattle.gate_tenant.specs.States.{State, first_state, gens_of, has_ended, matched, moved_out, put_back, room_of, state_of, tenant_of}
 use Rattle.gate_queue.specs.declared.tagged.Tagged.{Tagged}
 use Rattle.gate_queue.specs.Seats.{IsHeadOf, SenderSeat, Shape, TakerSeat}
 use Rattle.gate_run.specs.Inner.Dispatchers.{GivenInOrder, HasDispatched, IsDispatching}
@@ -20,15 +20,15 @@ use Rattle.gate_run.specs.Seats.{fresh_head, fresh_tail, values}
 use Rattle.gate_run.specs.Inner.Seats.{PutAt, seat_in, seat_of}
 use Rattle.gate_run.proofs.Seated.{fresh_put, fresh_seats, values_more}
 
-module _ {config : Config} {t : ℕ} {d : Dispatch} {head : TakerSeat TenantItem} {tails : List (SenderSeat PipelineItem)} (d' : Dispatch) (head' : TakerSeat TenantItem) (tails' : List (SenderSeat PipelineItem))
-    (was : IsDispatching config t d head tails) (conf : config_of d' ≡ config_of d) (tenant : tenant_of d' ≡ tenant_of d) where
+module _ {gens : Generations} {t : ℕ} {d : Dispatch} {head : TakerSeat TenantItem} {tails : List (SenderSeat PipelineItem)} (d' : Dispatch) (head' : TakerSeat TenantItem) (tails' : List (SenderSeat PipelineItem))
+    (was : IsDispatching gens t d head tails) (conf : gens_of d' ≡ gens_of d) (tenant : tenant_of d' ≡ tenant_of d) where
   puts : tails' ≡ tails → (p : ℕ) (e : SenderSeat PipelineItem) → p < length tails' → (slice_index_or tails' p e).put ≡ items_for p was.past.given
   puts same p e low = ap (λ zs. (slice_index_or zs p e).put) same ∙ was.put p e (subst (λ zs. p < length zs) same low)
 
   -- nothing changed
-  pub still : state_of d' ≡ state_of d → head'.taken ≡ head.taken → tails' ≡ tails → IsDispatching config t d' head' tails'
+  pub still : state_of d' ≡ state_of d → head'.taken ≡ head.taken → tails' ≡ tails → IsDispatching gens t d' head' tails'
   still state taken same = record {
-    by_config = conf ∙ was.by_config;
+    by_gens = conf ∙ was.by_gens;
     of_tenant = tenant ∙ was.of_tenant;
     past = was.past;
     happens = was.happens;
@@ -40,14 +40,14 @@ module _ {config : Config} {t : ℕ} {d : Dispatch} {head : TakerSeat TenantItem
   }
 
   -- an item was taken and gathered
-  pub gathered_one : (x : Tagged TenantItem) → head'.taken ≡ head.taken ++ x ∷ [] → tails' ≡ tails → 0 < room_of (state_of d) → has_ended (config_of d) (tenant_of d) (state_of d) ≡ false →
-      state_of d' ≡ record (state_of d) { gathered = (state_of d).gathered ++ x.value ∷ [] } → IsDispatching config t d' head' tails'
+  pub gathered_one : (x : Tagged TenantItem) → head'.taken ≡ head.taken ++ x ∷ [] → tails' ≡ tails → 0 < room_of (state_of d) → has_ended (gens_of d).first (tenant_of d) (state_of d) ≡ false →
+      state_of d' ≡ record (state_of d) { gathered = (state_of d).gathered ++ x.value ∷ [] } → IsDispatching gens t d' head' tails'
   gathered_one x more same room goes_on state = record {
-    by_config = conf ∙ was.by_config;
+    by_gens = conf ∙ was.by_gens;
     of_tenant = tenant ∙ was.of_tenant;
     past = record was.past { state = record was.past.state { gathered = was.past.state.gathered ++ x.value ∷ [] }; taken = was.past.taken ++ x.value ∷ [] };
     happens = gathers x.value was.happens was.in_hand (subst (λ (s : State). 0 < room_of s) (sym was.now) room)
-        (ap (has_ended config t) was.now ∙ (λ i. has_ended (sym was.by_config i) (sym was.of_tenant i) (state_of d)) ∙ goes_on);
+        (ap (has_ended gens.first t) was.now ∙ (λ i. has_ended (sym was.by_gens i).first (sym was.of_tenant i) (state_of d)) ∙ goes_on);
     now = ap (λ (s : State). record s { gathered = s.gathered ++ x.value ∷ [] }) was.now ∙ sym state;
     in_hand = was.in_hand;
     place = ap (λ (s : State). s.out) state ∙ was.place;
@@ -57,13 +57,13 @@ module _ {config : Config} {t : ℕ} {d : Dispatch} {head : TakerSeat TenantItem
 
   -- what was gathered was matched
   pub matched_all : head'.taken ≡ head.taken → tails' ≡ tails → (length (state_of d).gathered == 0) ≡ false →
-      state_of d' ≡ matched (config_of d) (tenant_of d) (state_of d) → IsDispatching config t d' head' tails'
+      state_of d' ≡ matched (gens_of d) (tenant_of d) (state_of d) → IsDispatching gens t d' head' tails'
   matched_all taken same some state = record {
-    by_config = conf ∙ was.by_config;
+    by_gens = conf ∙ was.by_gens;
     of_tenant = tenant ∙ was.of_tenant;
-    past = record was.past { state = matched config t was.past.state; done = was.past.done ++ was.past.state.gathered };
+    past = record was.past { state = matched gens t was.past.state; done = was.past.done ++ was.past.state.gathered };
     happens = matches was.happens (ap (λ (s : State). length s.gathered == 0) was.now ∙ some);
-    now = (λ i. matched (sym was.by_config i) (sym was.of_tenant i) (was.now i)) ∙ sym state;
+    now = (λ i. matched (sym was.by_gens i) (sym was.of_tenant i) (was.now i)) ∙ sym state;
     in_hand = was.in_hand;
     place = ap (λ (s : State). s.out) state;
     gathered = was.gathered ∙ ap values (sym taken);
@@ -121,13 +121,13 @@ for_one p u item pipeline e = by (u == p) (ap (λ n. n == p) e)
     by false e' = ap (λ b. cons_option (if b then Some item else None) []) e'
 
 -- an item was given
-pub given_one : {config : Config} {t : ℕ} {d : Dispatch} {head : TakerSeat TenantItem} {tails : List (SenderSeat PipelineItem)} (d' : Dispatch) (head' : TakerSeat TenantItem) (tails' : List (SenderSeat PipelineItem))
-    (was : IsDispatching config t d head tails) (out : State) (pipeline : PipelineId) (item : PipelineItem) → FirstOut (state_of d) out (pipeline, item) → PutAt pipeline.0 item tails tails' →
-    state_of d' ≡ record out { out = None } → config_of d' ≡ config_of d → tenant_of d' ≡ tenant_of d → head'.taken ≡ head.taken → IsDispatching config t d' head' tails'
-given_one {config} {t} {d} {head} {tails} d' head' tails' was out pipeline item moved puts state conf tenant taken =
+pub given_one : {gens : Generations} {t : ℕ} {d : Dispatch} {head : TakerSeat TenantItem} {tails : List (SenderSeat PipelineItem)} (d' : Dispatch) (head' : TakerSeat TenantItem) (tails' : List (SenderSeat PipelineItem))
+    (was : IsDispatching gens t d head tails) (out : State) (pipeline : PipelineId) (item : PipelineItem) → FirstOut (state_of d) out (pipeline, item) → PutAt pipeline.0 item tails tails' →
+    state_of d' ≡ record out { out = None } → gens_of d' ≡ gens_of d → tenant_of d' ≡ tenant_of d → head'.taken ≡ head.taken → IsDispatching gens t d' head' tails'
+given_one {gens} {t} {d} {head} {tails} d' head' tails' was out pipeline item moved puts state conf tenant taken =
     let first : was.past.state.items ≡ (pipeline, item) ∷ moved.rest = ap (λ (s : State). s.items) was.now ∙ moved.items in
     record {
-      by_config = conf ∙ was.by_config;
+      by_gens = conf ∙ was.by_gens;
       of_tenant = tenant ∙ was.of_tenant;
       past = record {
         state = record was.past.state { items = moved.rest; out = None };
@@ -150,12 +150,12 @@ given_one {config} {t} {d} {head} {tails} d' head' tails' was out pipeline item 
 
 -- ---- the whole of a tenant's worker
 
-pub dispatching_begins : {config : Config} {t : ℕ} (d : Dispatch) (head : TakerSeat TenantItem) (tails : List (SenderSeat PipelineItem)) (source : Shape) (targets : List Shape) → config_of d ≡ config → tenant_of d ≡ t → state_of d ≡ first_state config t →
-    head ≡ fresh_head source → tails ≡ map (fresh_tail 0) targets → IsDispatching config t d head tails
-dispatching_begins {config} {t} d head tails source targets conf tenant state not_taken not_put = record {
-  by_config = conf;
+pub dispatching_begins : {gens : Generations} {t : ℕ} (d : Dispatch) (head : TakerSeat TenantItem) (tails : List (SenderSeat PipelineItem)) (source : Shape) (targets : List Shape) → gens_of d ≡ gens → tenant_of d ≡ t → state_of d ≡ first_state gens.first t →
+    head ≡ fresh_head source → tails ≡ map (fresh_tail 0) targets → IsDispatching gens t d head tails
+dispatching_begins {gens} {t} d head tails source targets conf tenant state not_taken not_put = record {
+  by_gens = conf;
   of_tenant = tenant;
-  past = beginning config t;
+  past = beginning gens.first t;
   happens = begins;
   now = sym state;
   in_hand = refl;
@@ -165,41 +165,41 @@ dispatching_begins {config} {t} d head tails source targets conf tenant state no
 }
 
 -- it never began: nothing was taken or put
-pub not_dispatched : (config : Config) (t : ℕ) (source : Shape) (targets : List Shape) (head : TakerSeat TenantItem) (tails : List (SenderSeat PipelineItem)) → head ≡ fresh_head source → tails ≡ map (fresh_tail 0) targets →
-    HasDispatched config t source targets head tails
-not_dispatched config t source targets head tails not_taken not_put = record {
+pub not_dispatched : (gens : Generations) (t : ℕ) (source : Shape) (targets : List Shape) (head : TakerSeat TenantItem) (tails : List (SenderSeat PipelineItem)) → head ≡ fresh_head source → tails ≡ map (fresh_tail 0) targets →
+    HasDispatched gens t source targets head tails
+not_dispatched gens t source targets head tails not_taken not_put = record {
   head_of = ap (λ (h : TakerSeat TenantItem). h.queue) not_taken;
   seats = fresh_seats 0 tails targets not_put;
   given = record {
     matched = [];
     unmatched = [];
     took = ap (λ (h : TakerSeat TenantItem). values h.taken) (sym not_taken);
-    put = λ p d low. (chosen config t p [], ap (λ zs. zs ++ chosen config t p []) (fresh_put 0 tails targets not_put p d low));
+    put = λ p d low. (chosen gens t p [], ap (λ zs. zs ++ chosen gens t p []) (fresh_put 0 tails targets not_put p d low));
   };
 }
 
-pub all_in_order : {config : Config} {t : ℕ} {d : Dispatch} {head : TakerSeat TenantItem} {tails : List (SenderSeat PipelineItem)} → EachGetsItsOwn → NothingIsLost → length tails ≡ length (pipelines_of config t) → IsDispatching config t d head tails →
-    GivenInOrder config t head.taken tails
-all_in_order {config} {t} {d} {head} {tails} own nothing_lost pipelines was = record {
+pub all_in_order : {gens : Generations} {t : ℕ} {d : Dispatch} {head : TakerSeat TenantItem} {tails : List (SenderSeat PipelineItem)} → EachGetsItsOwn → NothingIsLost → length tails ≡ length (pipelines_of gens.first t) → IsDispatching gens t d head tails →
+    GivenInOrder gens t head.taken tails
+all_in_order {gens} {t} {d} {head} {tails} own nothing_lost pipelines was = record {
   matched = was.past.done;
   unmatched = was.past.state.gathered;
-  took = nothing_lost config t was.past was.happens ∙ was.gathered;
+  took = nothing_lost gens t was.past was.happens ∙ was.gathered;
   put = λ p e low.
       let left = items_for p (option_to_list was.past.out ++ was.past.state.items) in (
         left,
         ap (λ zs. zs ++ left) (was.put p e low)
             ∙ sym (filter_map-append (item_for p) was.past.given (option_to_list was.past.out ++ was.past.state.items))
-            ∙ own config t p was.past (subst (λ n. p < n) pipelines low) was.happens,
+            ∙ own gens t p was.past (subst (λ n. p < n) pipelines low) was.happens,
       );
 }
 
-pub dispatcher_ends : {config : Config} {t : ℕ} {d : Dispatch} {taker : TakerSeat TenantItem} {senders : List (SenderSeat PipelineItem)} (source : Shape) (targets : List Shape) (head : TakerSeat TenantItem) (tails : List (SenderSeat PipelineItem)) →
-    head ≡ taker → tails ≡ senders → IsHeadOf source taker → map seat_of senders ≡ map (seat_in 0) targets → IsDispatching config t d taker senders → GivenInOrder (config_of d) (tenant_of d) taker.taken senders →
-    HasDispatched config t source targets head tails
-dispatcher_ends {config} {t} {d} {taker} {senders} source targets head tails same alike of seats was given = record {
+pub dispatcher_ends : {gens : Generations} {t : ℕ} {d : Dispatch} {taker : TakerSeat TenantItem} {senders : List (SenderSeat PipelineItem)} (source : Shape) (targets : List Shape) (head : TakerSeat TenantItem) (tails : List (SenderSeat PipelineItem)) →
+    head ≡ taker → tails ≡ senders → IsHeadOf source taker → map seat_of senders ≡ map (seat_in 0) targets → IsDispatching gens t d taker senders → GivenInOrder (gens_of d) (tenant_of d) taker.taken senders →
+    HasDispatched gens t source targets head tails
+dispatcher_ends {gens} {t} {d} {taker} {senders} source targets head tails same alike of seats was given = record {
   head_of = ap (λ (h : TakerSeat TenantItem). h.queue) same ∙ of;
   seats = ap (map seat_of) alike ∙ seats;
-  given = subst (λ ts. GivenInOrder config t head.taken ts) (sym alike)
-      (subst (λ (h : TakerSeat TenantItem). GivenInOrder config t h.taken senders) (sym same)
-      (subst (λ conf. GivenInOrder conf t taker.taken senders) was.by_config (subst (λ n. GivenInOrder (config_of d) n taker.taken senders) was.of_tenant given)));
+  given = subst (λ ts. GivenInOrder gens t head.taken ts) (sym alike)
+      (subst (λ (h : TakerSeat TenantItem). GivenInOrder gens t h.taken senders) (sym same)
+      (subst (λ conf. GivenInOrder conf t taker.taken senders) was.by_gens (subst (λ n. GivenInOrder (gens_of d) n taker.taken senders) was.of_tenant given)));
 }

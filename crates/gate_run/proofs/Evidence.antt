@@ -3,7 +3,8 @@ use Rattle.std.proofs.Common.{◌≡◌, ℕ, List, [], ◌∷◌, length, map}
 use Rattle.gate_record.specs.declared.transit.ConnEntry.{ConnEntry}
 use Rattle.gate_record.specs.declared.transit.PipelineItem.{PipelineItem}
 use Rattle.gate_record.specs.declared.transit.TenantItem.{TenantItem}
-use Rattle.gate_config.specs.declared.config.Config.{Config}
+use Rattle.gate_config.specs.declared.generations.Generations.{Generations}
+use Rattle.gate_config.specs.Generations.{count_of}
 use Rattle.gate_config.specs.Lookups.{connections_of, tenants_of}
 use Rattle.gate_queue.specs.Seats.{Shape, TakerSeat}
 use Rattle.gate_run.specs.declared.dispatcher.Dispatcher.{Dispatcher}
@@ -17,11 +18,11 @@ use Rattle.gate_source.specs.Feeds.{Told}
 use Rattle.gate_run.specs.Lists.{Pairwise}
 use Rattle.gate_run.specs.Inner.Lists.{EachAt}
 use Rattle.gate_run.specs.Ports.{InboxEnds}
-use Rattle.gate_run.specs.Inner.Seatings.{AreWorkersOf, IsDispatcherOf, IsForwarderOf, IsReaderOf}
+use Rattle.gate_run.specs.Inner.Seatings.{AreWorkersOf, Cells, IsDispatcherOf, IsForwarderOf, IsReaderOf}
 use Rattle.gate_run.specs.Inner.Stages.{AreLanesSettled, IsStageSettled}
 use Rattle.gate_run.specs.Inner.Works.{Dispatched, Forwarded, Read, Worked}
 
-pub record Evidence {F : Type 0} (G : Type 0) (config : Config) (to_come : F → Told) (faults : F → ℕ) (feeds : List F) (inbox : List (List InboxEnds)) (cell : ℕ) : Type 0 where
+pub record Evidence {F : Type 0} (G : Type 0) (gens : Generations) (to_come : F → Told) (faults : F → ℕ) (feeds : List F) (inbox : List (List InboxEnds)) (cells : Cells) : Type 0 where
   pub records : List Shape
   pub items : List Shape
   pub triggers : List (List Shape)
@@ -33,18 +34,19 @@ pub record Evidence {F : Type 0} (G : Type 0) (config : Config) (to_come : F →
   pub forwarder_ends : List (PassedOn (TakerSeat ConnEntry) TenantItem)
   pub dispatcher_ends : List (PassedOn (TakerSeat TenantItem) PipelineItem)
   pub worker_ends : List (List WorkerEnd)
-  pub feed_count : length feeds ≡ length (connections_of config)
-  pub reader_count : length readers ≡ length (connections_of config)
-  pub forwarder_count : length forwarders ≡ length (connections_of config)
-  pub dispatcher_count : length dispatchers ≡ length (tenants_of config)
-  pub worker_count : length workers ≡ length (tenants_of config)
+  pub feed_count : length feeds ≡ length (connections_of gens.first)
+  pub reader_count : length readers ≡ length (connections_of gens.first)
+  pub forwarder_count : length forwarders ≡ length (connections_of gens.first)
+  pub dispatcher_count : length dispatchers ≡ length (tenants_of gens.first)
+  pub worker_count : length workers ≡ length (tenants_of gens.first)
   pub record_senders : map (λ (queue : Shape). queue.name.senders) records ≡ map (λ (queue : Shape). 1) records
-  pub item_senders : map (λ (queue : Shape). queue.name.senders) items ≡ map (λ (queue : Shape). length (connections_of config)) items
+  pub item_senders : map (λ (queue : Shape). queue.name.senders) items ≡ map (λ (queue : Shape). length (connections_of gens.first)) items
   pub trigger_senders : map (λ (queues : List Shape). map (λ (queue : Shape). queue.name.senders) queues) triggers ≡ map (λ (queues : List Shape). map (λ (queue : Shape). 1) queues) triggers
-  pub are_readers : EachAt (IsReaderOf faults feeds records cell) readers
-  pub are_forwarders : EachAt (IsForwarderOf config records items) forwarders
-  pub are_dispatchers : EachAt (IsDispatcherOf config items triggers) dispatchers
-  pub are_workers : EachAt (AreWorkersOf config triggers inbox) workers
+  pub generation_count : cells.generations ≡ count_of gens
+  pub are_readers : EachAt (IsReaderOf faults feeds records cells) readers
+  pub are_forwarders : EachAt (IsForwarderOf gens records items) forwarders
+  pub are_dispatchers : EachAt (IsDispatcherOf gens items triggers) dispatchers
+  pub are_workers : EachAt (AreWorkersOf gens.first triggers inbox) workers
   pub have_read : Pairwise (Read to_come faults) readers reader_ends
   pub have_forwarded : Pairwise Forwarded forwarders forwarder_ends
   pub have_dispatched : Pairwise Dispatched dispatchers dispatcher_ends

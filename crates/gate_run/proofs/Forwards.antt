@@ -1,6 +1,6 @@
 -- What a forwarder's steps keep.
-use Rattle.std.proofs.Common.{◌≡◌, ◌∙◌, refl, sym, ap, subst, ℕ, ◌<◌, ◌==◌, List, [], ◌∷◌, ◌++◌, Bool, true, false, length, map, slice_index_or, Option, Some, None, if◌then◌else◌, append-nil, append_assoc}
-use Rattle.std.specs.List.{cons_option}
+use Rattle.std.proofs.Common.{◌≡◌, ◌∙◌, refl, sym, ap, subst, ℕ, suc, ◌<◌, ◌==◌, List, [], ◌∷◌, ◌++◌, Bool, true, false, length, map, slice_index_or, Option, Some, None, if◌then◌else◌, append-nil, append_assoc}
+use Rattle.std.specs.List.{cons_option, filter_map}
 use Rattle.std.specs.Option.{option_to_list}
 use Rattle.std.proofs.lemmas.List.Elements.{filter_map-append}
 use Rattle.gate_record.specs.declared.ids.TenantId.{TenantId}
@@ -8,11 +8,14 @@ use Rattle.gate_record.specs.declared.record.Record.{Record}
 use Rattle.gate_record.specs.declared.transit.ConnEntry.{ConnEntry}
 use Rattle.gate_record.specs.declared.transit.ConnEntry.TheVariants as entry
 use Rattle.gate_record.specs.declared.transit.TenantItem.{TenantItem}
-use Rattle.gate_config.specs.declared.config.Config.{Config}
+use Rattle.gate_record.specs.Entries.{generation_behind, with_generations}
+use Rattle.gate_record.specs.Generations.{EntriesHaveGenerations}
+use Rattle.gate_config.specs.declared.generations.Generations.{Generations}
+use Rattle.gate_config.specs.Generations.{count_of}
 use Rattle.gate_config.specs.Lookups.{tenants_of}
-use Rattle.gate_forward.specs.Forwarding.{forwarded, forwarded_entry, sends}
-use Rattle.gate_forward.specs.Hands.{Hand, config_of, conn_of, empty_hand, hand_of, moved_out, put_back}
-use Rattle.gate_forward.specs.Histories.{EachTenantGetsItsOwn, beginning, begins, ends, is_sent, item_to, items_to, loads, moves}
+use Rattle.gate_forward.specs.Forwarding.{forwarded, forwarded_at, sends}
+use Rattle.gate_forward.specs.Hands.{Hand, conn_of, empty_hand, gens_of, hand_of, moved_out, put_back}
+use Rattle.gate_forward.specs.Histories.{EachTenantGetsItsOwn, beginning, begins, ends, is_sent, item_to, items_to, loads, moves, renews}
 use Rattle.gate_queue.specs.declared.tagged.Tagged.{Tagged}
 use Rattle.gate_queue.specs.Seats.{IsHeadOf, SenderSeat, Shape, TakerSeat}
 use Rattle.gate_run.specs.declared.forwarder.Forwarding.{Forwarding}
@@ -21,11 +24,11 @@ use Rattle.gate_run.specs.Seats.{fresh_head, fresh_tail, values}
 use Rattle.gate_run.specs.Inner.Seats.{PutAt, seat_in, seat_of}
 use Rattle.gate_run.proofs.Seated.{fresh_put, fresh_seats, taken_more}
 
-module _ {config : Config} {c : ℕ} {f : Forwarding} (f' : Forwarding) (was : IsForwarding config c f) where
+module _ {gens : Generations} {c : ℕ} {f : Forwarding} (f' : Forwarding) (was : IsForwarding gens c f) where
   -- nothing changed
-  pub still : hand_of f'.hand ≡ hand_of f.hand → config_of f'.hand ≡ config_of f.hand → conn_of f'.hand ≡ conn_of f.hand → f'.head.taken ≡ f.head.taken → f'.kept ≡ f.kept → f'.tails.items ≡ f.tails.items → IsForwarding config c f'
+  pub still : hand_of f'.hand ≡ hand_of f.hand → gens_of f'.hand ≡ gens_of f.hand → conn_of f'.hand ≡ conn_of f.hand → f'.head.taken ≡ f.head.taken → f'.kept ≡ f.kept → f'.tails.items ≡ f.tails.items → IsForwarding gens c f'
   still hand conf conn taken kept tails = record {
-    by_config = conf ∙ was.by_config;
+    by_gens = conf ∙ was.by_gens;
     of_conn = conn ∙ was.of_conn;
     past = was.past;
     happens = was.happens;
@@ -36,14 +39,14 @@ module _ {config : Config} {c : ℕ} {f : Forwarding} (f' : Forwarding) (was : I
     put = λ t d low. ap (λ zs. (slice_index_or zs t d).put) tails ∙ was.put t d (subst (λ zs. t < length zs) tails low);
   }
 
-  module _ (x : Tagged ConnEntry) (free : f.kept ≡ None) (more : f'.head.taken ≡ f.head.taken ++ x ∷ []) (tails : f'.tails.items ≡ f.tails.items) (conf : config_of f'.hand ≡ config_of f.hand) (conn : conn_of f'.hand ≡ conn_of f.hand) where
+  module _ (x : Tagged ConnEntry) (free : f.kept ≡ None) (more : f'.head.taken ≡ f.head.taken ++ x ∷ []) (tails : f'.tails.items ≡ f.tails.items) (conf : gens_of f'.hand ≡ gens_of f.hand) (conn : conn_of f'.hand ≡ conn_of f.hand) where
     puts : (t : ℕ) (d : SenderSeat TenantItem) → t < length f'.tails.items → (slice_index_or f'.tails.items t d).put ≡ items_to t was.past.sent
     puts t d low = ap (λ zs. (slice_index_or zs t d).put) tails ∙ was.put t d (subst (λ zs. t < length zs) tails low)
 
     -- an entry was taken and is kept
-    pub kept_one : (e : ConnEntry) → x.value ≡ e → f'.kept ≡ Some e → hand_of f'.hand ≡ hand_of f.hand → IsForwarding config c f'
+    pub kept_one : (e : ConnEntry) → x.value ≡ e → f'.kept ≡ Some e → hand_of f'.hand ≡ hand_of f.hand → IsForwarding gens c f'
     kept_one e is kept hand = record {
-      by_config = conf ∙ was.by_config;
+      by_gens = conf ∙ was.by_gens;
       of_conn = conn ∙ was.of_conn;
       past = was.past;
       happens = was.happens;
@@ -59,13 +62,13 @@ module _ {config : Config} {c : ℕ} {f : Forwarding} (f' : Forwarding) (was : I
       none_left = ap (λ (h : Hand). h.items) was.now ∙ empty
 
       -- a record was taken and loaded
-      pub loaded_one : (n : ℕ) (line : Record) → hand_of f'.hand ≡ record (hand_of f.hand) { items = sends (config_of f.hand) (conn_of f.hand) (entry.Numbered n line) } → x.value ≡ entry.Numbered n line → IsForwarding config c f'
+      pub loaded_one : (n : ℕ) (line : Record) → hand_of f'.hand ≡ record (hand_of f.hand) { items = sends (gens_of f.hand) (conn_of f.hand) (hand_of f.hand).generation (entry.Numbered n line) } → x.value ≡ entry.Numbered n line → IsForwarding gens c f'
       loaded_one n line hand is = record {
-        by_config = conf ∙ was.by_config;
+        by_gens = conf ∙ was.by_gens;
         of_conn = conn ∙ was.of_conn;
-        past = record was.past { hand = record was.past.hand { items = sends config c (entry.Numbered n line) }; loaded = was.past.loaded ++ entry.Numbered n line ∷ [] };
+        past = record was.past { hand = record was.past.hand { items = sends gens c was.past.hand.generation (entry.Numbered n line) }; loaded = was.past.loaded ++ entry.Numbered n line ∷ [] };
         happens = loads n line was.happens none_left was.in_hand;
-        now = (λ i. record (was.now i) { items = sends (sym was.by_config i) (sym was.of_conn i) (entry.Numbered n line) }) ∙ sym hand;
+        now = (λ i. record (was.now i) { items = sends (sym was.by_gens i) (sym was.of_conn i) (was.now i).generation (entry.Numbered n line) }) ∙ sym hand;
         in_hand = was.in_hand;
         place = ap (λ (h : Hand). h.out) hand ∙ was.place;
         loaded = ap (λ (o : Option ConnEntry). (was.past.loaded ++ entry.Numbered n line ∷ []) ++ option_to_list o) none ∙ append-nil (was.past.loaded ++ entry.Numbered n line ∷ [])
@@ -74,17 +77,32 @@ module _ {config : Config} {c : ℕ} {f : Forwarding} (f' : Forwarding) (was : I
       }
 
       -- the end mark was taken and loaded
-      pub loaded_end : x.value ≡ entry.End → hand_of f'.hand ≡ record { items = sends (config_of f.hand) (conn_of f.hand) entry.End; out = None; marked = true } → IsForwarding config c f'
+      pub loaded_end : x.value ≡ entry.End → hand_of f'.hand ≡ record (hand_of f.hand) { items = sends (gens_of f.hand) (conn_of f.hand) (hand_of f.hand).generation entry.End; out = None; marked = true } → IsForwarding gens c f'
       loaded_end is hand = record {
-        by_config = conf ∙ was.by_config;
+        by_gens = conf ∙ was.by_gens;
         of_conn = conn ∙ was.of_conn;
-        past = record was.past { hand = record { items = sends config c entry.End; out = None; marked = true }; loaded = was.past.loaded ++ entry.End ∷ [] };
+        past = record was.past { hand = record was.past.hand { items = sends gens c was.past.hand.generation entry.End; out = None; marked = true }; loaded = was.past.loaded ++ entry.End ∷ [] };
         happens = ends was.happens none_left was.in_hand;
-        now = (λ i. record { items = sends (sym was.by_config i) (sym was.of_conn i) entry.End; out = None; marked = true }) ∙ sym hand;
+        now = (λ i. record (was.now i) { items = sends (sym was.by_gens i) (sym was.of_conn i) (was.now i).generation entry.End; out = None; marked = true }) ∙ sym hand;
         in_hand = was.in_hand;
         place = ap (λ (h : Hand). h.out) hand;
         loaded = ap (λ (o : Option ConnEntry). (was.past.loaded ++ entry.End ∷ []) ++ option_to_list o) none ∙ append-nil (was.past.loaded ++ entry.End ∷ [])
             ∙ taken_more was.past.loaded f.kept f.head.taken f'.head.taken x entry.End was.loaded free is more;
+        put = puts;
+      }
+
+      -- the mark of a renewal was taken and loaded
+      pub loaded_renew : x.value ≡ entry.Renew → hand_of f'.hand ≡ record (hand_of f.hand) { generation = suc (hand_of f.hand).generation } → suc (hand_of f.hand).generation < count_of (gens_of f.hand) → IsForwarding gens c f'
+      loaded_renew is hand later = record {
+        by_gens = conf ∙ was.by_gens;
+        of_conn = conn ∙ was.of_conn;
+        past = record was.past { hand = record was.past.hand { generation = suc was.past.hand.generation }; loaded = was.past.loaded ++ entry.Renew ∷ [] };
+        happens = renews was.happens none_left was.in_hand (subst (λ (h : Hand). suc h.generation < count_of gens) (sym was.now) (subst (λ of. suc (hand_of f.hand).generation < count_of of) was.by_gens later));
+        now = ap (λ (h : Hand). record h { generation = suc h.generation }) was.now ∙ sym hand;
+        in_hand = was.in_hand;
+        place = ap (λ (h : Hand). h.out) hand ∙ was.place;
+        loaded = ap (λ (o : Option ConnEntry). (was.past.loaded ++ entry.Renew ∷ []) ++ option_to_list o) none ∙ append-nil (was.past.loaded ++ entry.Renew ∷ [])
+            ∙ taken_more was.past.loaded f.kept f.head.taken f'.head.taken x entry.Renew was.loaded free is more;
         put = puts;
       }
 
@@ -127,13 +145,13 @@ to_one t u item tenant e = by (u == t) (ap (λ n. n == t) e)
     by false e' = ap (λ b. cons_option (if b then Some item else None) []) e'
 
 -- an item was sent
-pub sent_one : {config : Config} {c : ℕ} {f : Forwarding} (f' : Forwarding) (was : IsForwarding config c f) (out : Hand) (tenant : TenantId) (item : TenantItem) →
+pub sent_one : {gens : Generations} {c : ℕ} {f : Forwarding} (f' : Forwarding) (was : IsForwarding gens c f) (out : Hand) (tenant : TenantId) (item : TenantItem) →
     FirstOut (hand_of f.hand) out (tenant, item) → PutAt tenant.0 item f.tails.items f'.tails.items →
-    hand_of f'.hand ≡ record out { out = None } → config_of f'.hand ≡ config_of f.hand → conn_of f'.hand ≡ conn_of f.hand → f'.head.taken ≡ f.head.taken → f'.kept ≡ f.kept → IsForwarding config c f'
-sent_one {config} {c} {f} f' was out tenant item moved puts hand conf conn taken kept =
+    hand_of f'.hand ≡ record out { out = None } → gens_of f'.hand ≡ gens_of f.hand → conn_of f'.hand ≡ conn_of f.hand → f'.head.taken ≡ f.head.taken → f'.kept ≡ f.kept → IsForwarding gens c f'
+sent_one {gens} {c} {f} f' was out tenant item moved puts hand conf conn taken kept =
     let first : was.past.hand.items ≡ (tenant, item) ∷ moved.rest = ap (λ (h : Hand). h.items) was.now ∙ moved.items in
     record {
-      by_config = conf ∙ was.by_config;
+      by_gens = conf ∙ was.by_gens;
       of_conn = conn ∙ was.of_conn;
       past = record {
         hand = record was.past.hand { items = moved.rest; out = None };
@@ -155,30 +173,34 @@ sent_one {config} {c} {f} f' was out tenant item moved puts hand conf conn taken
 
 -- ---- the end of a forwarder
 
-forwarded_more : (config : Config) (t c : ℕ) (loaded more : List ConnEntry) → forwarded config t c (loaded ++ more) ≡ forwarded config t c loaded ++ forwarded config t c more
-forwarded_more config t c loaded more = filter_map-append (forwarded_entry config t c) loaded more
+forwarded_more : EntriesHaveGenerations → (gens : Generations) (t c : ℕ) (loaded more : List ConnEntry) →
+    forwarded gens t c (loaded ++ more) ≡ forwarded gens t c loaded ++ filter_map (forwarded_at gens t c) (with_generations (generation_behind 0 loaded) more)
+forwarded_more law gens t c loaded more =
+    ap (filter_map (forwarded_at gens t c)) (law.joined 0 loaded more)
+    ∙ filter_map-append (forwarded_at gens t c) (with_generations 0 loaded) (with_generations (generation_behind 0 loaded) more)
 
-pub all_in_order : {config : Config} {c : ℕ} {f : Forwarding} → EachTenantGetsItsOwn → length f.tails.items ≡ length (tenants_of config) → IsForwarding config c f → PutInOrder config c f.head.taken f.tails.items
-all_in_order {config} {c} {f} own tenants was t d low =
-    let low' : t < length (tenants_of config) = subst (λ n. t < n) tenants low in
-    let left = items_to t (option_to_list was.past.out ++ was.past.hand.items) in (
-      left ++ forwarded config t c (option_to_list f.kept),
-      sym (append_assoc (slice_index_or f.tails.items t d).put left (forwarded config t c (option_to_list f.kept)))
-          ∙ ap (λ zs. zs ++ forwarded config t c (option_to_list f.kept)) (
+pub all_in_order : {gens : Generations} {c : ℕ} {f : Forwarding} → EachTenantGetsItsOwn → EntriesHaveGenerations → length f.tails.items ≡ length (tenants_of gens.first) → IsForwarding gens c f → PutInOrder gens c f.head.taken f.tails.items
+all_in_order {gens} {c} {f} law entries tenants was t d low =
+    let low' : t < length (tenants_of gens.first) = subst (λ n. t < n) tenants low in
+    let left = items_to t (option_to_list was.past.out ++ was.past.hand.items) in
+    let behind = filter_map (forwarded_at gens t c) (with_generations (generation_behind 0 was.past.loaded) (option_to_list f.kept)) in (
+      left ++ behind,
+      sym (append_assoc (slice_index_or f.tails.items t d).put left behind)
+          ∙ ap (λ zs. zs ++ behind) (
           ap (λ zs. zs ++ left) (was.put t d low)
           ∙ sym (filter_map-append (item_to t) was.past.sent (option_to_list was.past.out ++ was.past.hand.items))
-          ∙ own config t c was.past low' was.happens)
-          ∙ sym (forwarded_more config t c was.past.loaded (option_to_list f.kept))
-          ∙ ap (forwarded config t c) was.loaded,
+          ∙ law.own gens t c was.past low' was.happens)
+          ∙ sym (forwarded_more entries gens t c was.past.loaded (option_to_list f.kept))
+          ∙ ap (forwarded gens t c) was.loaded,
     )
 
 -- ---- the whole of a forwarder
 
 -- nothing was taken yet
-pub forwarding_begins : {config : Config} {c : ℕ} (f : Forwarding) (source : Shape) (targets : List Shape) → hand_of f.hand ≡ empty_hand → config_of f.hand ≡ config → conn_of f.hand ≡ c →
-    f.head ≡ fresh_head source → f.kept ≡ None → f.tails.items ≡ map (fresh_tail c) targets → IsForwarding config c f
-forwarding_begins {config} {c} f source targets hand conf conn head kept tails = record {
-  by_config = conf;
+pub forwarding_begins : {gens : Generations} {c : ℕ} (f : Forwarding) (source : Shape) (targets : List Shape) → hand_of f.hand ≡ empty_hand → gens_of f.hand ≡ gens → conn_of f.hand ≡ c →
+    f.head ≡ fresh_head source → f.kept ≡ None → f.tails.items ≡ map (fresh_tail c) targets → IsForwarding gens c f
+forwarding_begins {gens} {c} f source targets hand conf conn head kept tails = record {
+  by_gens = conf;
   of_conn = conn;
   past = beginning;
   happens = begins;
@@ -190,21 +212,21 @@ forwarding_begins {config} {c} f source targets hand conf conn head kept tails =
 }
 
 -- it never began: nothing was taken or put
-pub not_forwarded : (config : Config) (c : ℕ) (source : Shape) (targets : List Shape) (head : TakerSeat ConnEntry) (tails : List (SenderSeat TenantItem)) → head ≡ fresh_head source → tails ≡ map (fresh_tail c) targets →
-    HasForwarded config c source targets head tails
-not_forwarded config c source targets head tails not_taken not_put = record {
+pub not_forwarded : (gens : Generations) (c : ℕ) (source : Shape) (targets : List Shape) (head : TakerSeat ConnEntry) (tails : List (SenderSeat TenantItem)) → head ≡ fresh_head source → tails ≡ map (fresh_tail c) targets →
+    HasForwarded gens c source targets head tails
+not_forwarded gens c source targets head tails not_taken not_put = record {
   head_of = ap (λ (h : TakerSeat ConnEntry). h.queue) not_taken;
   seats = fresh_seats c tails targets not_put;
-  put = λ t d low. let all = forwarded config t c (values head.taken) in (all, ap (λ zs. zs ++ all) (fresh_put c tails targets not_put t d low));
+  put = λ t d low. let all = forwarded gens t c (values head.taken) in (all, ap (λ zs. zs ++ all) (fresh_put c tails targets not_put t d low));
 }
 
-pub forwarder_ends : {config : Config} {c : ℕ} {f : Forwarding} (source : Shape) (targets : List Shape) (head : TakerSeat ConnEntry) (tails : List (SenderSeat TenantItem)) →
-    head ≡ f.head → tails ≡ f.tails.items → IsHeadOf source f.head → map seat_of f.tails.items ≡ map (seat_in c) targets → IsForwarding config c f → PutInOrder (config_of f.hand) (conn_of f.hand) f.head.taken f.tails.items →
-    HasForwarded config c source targets head tails
-forwarder_ends {config} {c} {f} source targets head tails same alike of seats was put = record {
+pub forwarder_ends : {gens : Generations} {c : ℕ} {f : Forwarding} (source : Shape) (targets : List Shape) (head : TakerSeat ConnEntry) (tails : List (SenderSeat TenantItem)) →
+    head ≡ f.head → tails ≡ f.tails.items → IsHeadOf source f.head → map seat_of f.tails.items ≡ map (seat_in c) targets → IsForwarding gens c f → PutInOrder (gens_of f.hand) (conn_of f.hand) f.head.taken f.tails.items →
+    HasForwarded gens c source targets head tails
+forwarder_ends {gens} {c} {f} source targets head tails same alike of seats was put = record {
   head_of = ap (λ (h : TakerSeat ConnEntry). h.queue) same ∙ of;
   seats = ap (map seat_of) alike ∙ seats;
-  put = subst (λ ts. PutInOrder config c head.taken ts) (sym alike)
-      (subst (λ (h : TakerSeat ConnEntry). PutInOrder config c h.taken f.tails.items) (sym same)
-      (subst (λ conf. PutInOrder conf c f.head.taken f.tails.items) was.by_config (subst (λ n. PutInOrder (config_of f.hand) n f.head.taken f.tails.items) was.of_conn put)));
+  put = subst (λ ts. PutInOrder gens c head.taken ts) (sym alike)
+      (subst (λ (h : TakerSeat ConnEntry). PutInOrder gens c h.taken f.tails.items) (sym same)
+      (subst (λ conf. PutInOrder conf c f.head.taken f.tails.items) was.by_gens (subst (λ n. PutInOrder (gens_of f.hand) n f.head.taken f.tails.items) was.of_conn put)));
 }

@@ -5,7 +5,7 @@ use Rattle.gate_record.specs.declared.record.Record.{Record}
 use Rattle.gate_record.specs.declared.transit.ConnEntry.{ConnEntry}
 use Rattle.gate_record.specs.declared.transit.PipelineItem.{PipelineItem}
 use Rattle.gate_record.specs.declared.transit.TenantItem.{TenantItem}
-use Rattle.gate_config.specs.declared.config.Config.{Config}
+use Rattle.gate_config.specs.declared.generations.Generations.{Generations}
 use Rattle.gate_queue.specs.Seats.{QueueName, SenderSeat, Shape, TakerSeat}
 use Rattle.gate_run.specs.declared.putting.PassedOn.{PassedOn}
 use Rattle.gate_run.specs.declared.reader.Reader.{Reader}
@@ -17,7 +17,7 @@ use Rattle.gate_run.specs.Inner.Forwarders.{HasForwarded}
 use Rattle.gate_run.specs.Lists.{Pairwise}
 use Rattle.gate_run.specs.Inner.Lists.{Threes}
 use Rattle.gate_run.specs.Ports.{InboxEnds, at_pipeline}
-use Rattle.gate_run.specs.Inner.Seatings.{AreWorkersOf, IsDispatcherOf, IsForwarderOf, IsWorkerOf}
+use Rattle.gate_run.specs.Inner.Seatings.{AreWorkersOf, Cells, IsDispatcherOf, IsForwarderOf, IsWorkerOf}
 use Rattle.gate_run.specs.Inner.Seats.{seat_in, seat_of}
 use Rattle.gate_run.specs.Inner.Workers.{HasWorked}
 use Rattle.gate_run.specs.Inner.Works.{Dispatched, Forwarded, Read, Worked}
@@ -119,24 +119,24 @@ seat_at queues c tails k queue seats at =
 
 -- ---- each thread of a run
 
-module _ {F G : Type 0} {config : Config} {to_come : F → Told} {faults : F → ℕ} {feeds : List F} {inbox : List (List InboxEnds)} {cell : ℕ} (E : Evidence {F = F} G config to_come faults feeds inbox cell) where
+module _ {F G : Type 0} {gens : Generations} {to_come : F → Told} {faults : F → ℕ} {feeds : List F} {inbox : List (List InboxEnds)} {cells : Cells} (E : Evidence {F = F} G gens to_come faults feeds inbox cells) where
   -- what a forwarder did
   pub record ForwarderAt (c : ℕ) (end : PassedOn (TakerSeat ConnEntry) TenantItem) : Type 0 where
     pub queue : Shape
     pub queue_here : slice_get E.records c ≡ Some queue
-    pub did : HasForwarded config c queue E.items end.head end.tails.items
+    pub did : HasForwarded gens c queue E.items end.head end.tails.items
 
   pub forwarder_at : (c : ℕ) (end : PassedOn (TakerSeat ConnEntry) TenantItem) → slice_get E.forwarder_ends c ≡ Some end → ForwarderAt c end
   forwarder_at c end at =
       let pair = beside_of Forwarded E.forwarders E.forwarder_ends c end E.have_forwarded at in
       let w = pair.other in
-      let is = at_here (IsForwarderOf config E.records E.items) E.forwarders c w E.are_forwarders pair.there in
+      let is = at_here (IsForwarderOf gens E.records E.items) E.forwarders c w E.are_forwarders pair.there in
       record {
         queue = w.source.now;
         queue_here = is.source;
-        did = subst (λ x. HasForwarded x c w.source.now E.items end.head end.tails.items) is.by_config
-            (subst (λ x. HasForwarded w.config.now x w.source.now E.items end.head end.tails.items) is.of_conn
-            (subst (λ x. HasForwarded w.config.now w.conn.0 w.source.now x end.head end.tails.items) is.puts_into pair.are));
+        did = subst (λ x. HasForwarded x c w.source.now E.items end.head end.tails.items) is.by_gens
+            (subst (λ x. HasForwarded w.gens.now x w.source.now E.items end.head end.tails.items) is.of_conn
+            (subst (λ x. HasForwarded w.gens.now w.conn.0 w.source.now x end.head end.tails.items) is.puts_into pair.are));
       }
 
   -- what the worker of a tenant did
@@ -145,20 +145,20 @@ module _ {F G : Type 0} {config : Config} {to_come : F → Told} {faults : F →
     pub queue_here : slice_get E.items t ≡ Some queue
     pub targets : List Shape
     pub targets_here : slice_get E.triggers t ≡ Some targets
-    pub did : HasDispatched config t queue targets end.head end.tails.items
+    pub did : HasDispatched gens t queue targets end.head end.tails.items
 
   pub dispatcher_at : (t : ℕ) (end : PassedOn (TakerSeat TenantItem) PipelineItem) → slice_get E.dispatcher_ends t ≡ Some end → DispatcherAt t end
   dispatcher_at t end at =
       let pair = beside_of Dispatched E.dispatchers E.dispatcher_ends t end E.have_dispatched at in
       let w = pair.other in
-      let is = at_here (IsDispatcherOf config E.items E.triggers) E.dispatchers t w E.are_dispatchers pair.there in
+      let is = at_here (IsDispatcherOf gens E.items E.triggers) E.dispatchers t w E.are_dispatchers pair.there in
       record {
         queue = w.source.now;
         queue_here = is.source;
         targets = w.targets.now;
         targets_here = is.puts_into;
-        did = subst (λ x. HasDispatched x t w.source.now w.targets.now end.head end.tails.items) is.by_config
-            (subst (λ x. HasDispatched w.config.now x w.source.now w.targets.now end.head end.tails.items) is.of_tenant pair.are);
+        did = subst (λ x. HasDispatched x t w.source.now w.targets.now end.head end.tails.items) is.by_gens
+            (subst (λ x. HasDispatched w.gens.now x w.source.now w.targets.now end.head end.tails.items) is.of_tenant pair.are);
       }
 
   -- what the worker of a pipeline did
@@ -171,15 +171,15 @@ module _ {F G : Type 0} {config : Config} {to_come : F → Told} {faults : F →
     pub ends_here : at_pipeline t p inbox ≡ Some ends
     pub head : TakerSeat PipelineItem
     pub fresh : head.taken ≡ []
-    pub did : HasWorked config t p head end.head ends.management end.management ends.results end.results end.state
+    pub did : HasWorked gens.first t p head end.head ends.management end.management ends.results end.results end.state
 
   pub worker_at : (t p : ℕ) (list : List WorkerEnd) (end : WorkerEnd) → slice_get E.worker_ends t ≡ Some list → slice_get list p ≡ Some end → WorkerAt t p end
   worker_at t p list end at here =
       let rows = beside_of (Pairwise Worked) E.workers E.worker_ends t list E.have_worked at in
-      let of = at_here (AreWorkersOf config E.triggers inbox) E.workers t rows.other E.are_workers rows.there in
+      let of = at_here (AreWorkersOf gens.first E.triggers inbox) E.workers t rows.other E.are_workers rows.there in
       let pair = beside_of Worked rows.other list p end rows.are here in
       let w = pair.other in
-      let is = at_here (IsWorkerOf config t of.own_sources of.own_inbox) rows.other p w of.each pair.there in
+      let is = at_here (IsWorkerOf gens.first t of.own_sources of.own_inbox) rows.other p w of.each pair.there in
       record {
         queue = w.source.now;
         queues = of.own_sources;

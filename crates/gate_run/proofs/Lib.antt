@@ -1,3 +1,4 @@
+pub mod Asking
 pub mod Places
 pub mod Turned
 pub mod Staged

@@ -1,5 +1,5 @@
 -- What each thread promised, of all of them.
-use Rattle.std.proofs.Common.{◌≡◌, ◌∙◌, refl, sym, ap, subst, ℕ, zero, suc, ◌+◌, ◌<◌, List, [], ◌∷◌, ◌++◌, length, map, slice_index_or, slice_set, arith}
+use Rattle.std.proofs.Common.{◌≡◌, ◌∙◌, refl, sym, ap, subst, ℕ, zero, suc, ◌+◌, ◌<◌, List, [], ◌∷◌, ◌++◌, length, map, slice_index_or, slice_set, append_assoc, arith}
 use Rattle.std.specs.List.{range_with_len}
 use Rattle.std.specs.Prelude.{All}
 use Rattle.gate_run.specs.Lists.{Pairwise}
@@ -36,6 +36,11 @@ one_moved {A = A} f done done' x y rest rest' all before first is more =
     moved : (xs : List A) → map f (xs ++ x ∷ []) ++ rest' ≡ map f xs ++ f x ∷ rest'
     moved [] = refl
     moved (z ∷ xs) = ap (λ zs. f z ∷ zs) (moved xs)
+
+-- one more was taken from a list of which this is made
+pub moved_on : {A B : Type 0} (f : A → B) (done done' : List B) (x : A) (rest rest' : List A) (all : List B) → done ++ map f rest ≡ all → rest ≡ x ∷ rest' → done' ≡ done ++ f x ∷ [] → done' ++ map f rest' ≡ all
+moved_on f done done' x rest rest' all before first more =
+    ap (λ xs. xs ++ map f rest') more ∙ append_assoc done (f x ∷ []) (map f rest') ∙ ap (λ zs. done ++ map f zs) (sym first) ∙ before
 
 -- of two lists that are the same by what is seen of their elements, two at a place are
 pub same_at : {A B C : Type 0} (f : A → C) (g : B → C) (xs : List A) (ys : List B) → map f xs ≡ map g ys → (i : ℕ) (x : A) (y : B) → i < length xs → i < length ys → f (slice_index_or xs i x) ≡ g (slice_index_or ys i y)

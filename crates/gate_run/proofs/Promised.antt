@@ -1,8 +1,9 @@
 -- What is promised of a run, put together from what is known of its threads.
 use Rattle.std.proofs.Common.{◌≡◌, ◌∙◌, refl, sym, ap, subst, ℕ, zero, suc, ◌+◌, ◌<◌, ◌≤◌, List, [], ◌∷◌, ◌++◌, true, false, length, map, Option, Some, None, if◌then◌else◌, add-zero, arith, append-nil}
-use Rattle.std.specs.Prelude.{option_and_then, slice_get, unwrap_or}
+use Rattle.std.specs.Prelude.{All, option_and_then, option_map, slice_get, unwrap_or}
 use Rattle.std.specs.List.{cons_option, filter_map, range_with_len}
 use Rattle.std.proofs.lemmas.Bool.{ne_eqb}
+use Rattle.std.proofs.lemmas.List.{length-map}
 use Rattle.std.proofs.lemmas.Option.{get_or_from_slice_get, slice_get_past, slice_get_within}
 use Rattle.gate_record.specs.declared.ids.Stamp.{Stamp}
 use Rattle.gate_record.specs.declared.record.Record.{Record}
@@ -11,9 +12,12 @@ use Rattle.gate_record.specs.declared.transit.PipelineItem.{PipelineItem}
 use Rattle.gate_record.specs.declared.transit.PipelineItem.TheVariants as item
 use Rattle.gate_record.specs.declared.transit.Stamped.{Stamped}
 use Rattle.gate_record.specs.declared.transit.TenantItem.{TenantItem}
+use Rattle.gate_record.specs.Entries.{AreEntriesOf, beside, begins}
+use Rattle.gate_record.specs.Generations.{EntriesHaveGenerations, RecordsHaveGenerations}
 use Rattle.gate_record.specs.Prefixes.{IsPrefixOf}
 use Rattle.gate_record.specs.Reading.{reading_of}
 use Rattle.gate_config.specs.declared.config.Config.{Config}
+use Rattle.gate_config.specs.declared.generations.Generations.{Generations}
 use Rattle.gate_config.specs.Lookups.{connections_of, lists, pipelines_of}
 use Rattle.gate_forward.specs.Forwarding.{forwarded}
 use Rattle.gate_tenant.specs.Dispatching.{chosen}
@@ -32,9 +36,10 @@ use Rattle.gate_core.specs.declared.report.EndCause.TheVariants as cause
 use Rattle.gate_core.specs.declared.report.PipelineReport.{PipelineReport}
 use Rattle.gate_core.specs.declared.report.RunReport.{RunReport}
 use Rattle.gate_core.specs.History.{asked_among, asked_of, number_from, numbers_from, wanted}
-use Rattle.gate_core.specs.Ways.{EachWayDelivers, IsReadFrom, Way, number_of_item}
+use Rattle.gate_core.specs.Ways.{EachWayDelivers, IsEventOf, Way, number_of_item}
 use Rattle.gate_run.specs.declared.putting.PassedOn.{PassedOn}
 use Rattle.gate_run.specs.declared.reader.ReaderEnd.{ReaderEnd}
+use Rattle.gate_run.specs.declared.reading.Renewal.{Renewal}
 use Rattle.gate_run.specs.declared.worker.Worker.{Worker}
 use Rattle.gate_run.specs.declared.worker.WorkerEnd.{WorkerEnd}
 use Rattle.gate_source.specs.Feeds.{Told}
@@ -43,12 +48,16 @@ use Rattle.gate_run.specs.Ports.{InboxEnds, InboxView, at_pipeline, pipeline_cou
 use Rattle.gate_run.specs.Readers.{Means, is_closed}
 use Rattle.gate_run.specs.Seats.{values}
 use Rattle.gate_run.specs.Inner.Seats.{seat_in, seat_of}
-use Rattle.gate_run.specs.Inner.Seatings.{AreWorkersOf, IsReaderOf}
+use Rattle.gate_run.specs.Asked.{AreKnown}
+use Rattle.gate_run.specs.Inner.Asked.{knows_as_much}
+use Rattle.gate_run.specs.Inner.Readers.{counts_of, notes_of}
+use Rattle.gate_run.specs.Inner.Seatings.{AreWorkersOf, Cells, IsReaderOf}
 use Rattle.gate_run.specs.Gatherings.{report_of_pipeline}
-use Rattle.gate_run.specs.Inner.Gatherings.{inbox_back, knows_as_much, report_of_reader}
-use Rattle.gate_run.specs.Serving.{Delivers, HasEnded, HasProcessed, HaveEnded, Serves, lines_of}
+use Rattle.gate_run.specs.Inner.Gatherings.{inbox_back, most_asked, report_of_reader}
+use Rattle.gate_run.specs.Serving.{Delivers, HasEnded, HasProcessed, HaveEnded, Serves, lines_of, renewals_of}
 use Rattle.gate_run.specs.Inner.Stages.{IsStageSettled}
 use Rattle.gate_run.specs.Inner.Works.{Read, Worked}
+use Rattle.gate_run.proofs.Asking.{each_enough, most_no_fewer}
 use Rattle.gate_run.proofs.Composed.{OfSenders, of_senders, taken_own, way_of}
 use Rattle.gate_run.proofs.Evidence.{Evidence}
 use Rattle.gate_run.proofs.Found.{ForwarderAt, LinesOf, There, WorkerAt, alike_here, all_lines, dispatcher_at, find_lines, forwarder_at, from, lines_count, row_of, seat_at, there, three_here, worker_at}
@@ -77,23 +86,31 @@ nothing_before [] is = refl
 nothing_before (x ∷ xs) (rest, e) = absurd (cc)
 
 -- what is asked for of events that are read from records is what those records ask for
-asked_in : (config : Config) (t p : ℕ) (records : ℕ → List Record) (front : List PipelineItem) → ((i : ℕ) (s : Stamped) → slice_get front i ≡ Some (item.Event s) → IsReadFrom (records s.stamp.conn.0) s) →
+asked_in : RecordsHaveGenerations → (config : Config) (t p : ℕ) (renewals : ℕ → List ℕ) (records : ℕ → List Record) (front : List PipelineItem) →
+    ((i : ℕ) (s : Stamped) → slice_get front i ≡ Some (item.Event s) → IsEventOf (beside (renewals s.stamp.conn.0) (records s.stamp.conn.0)) s) →
     (i : ℕ) (stamp : Option Stamp) (a : Action) → slice_get (filter_map (asking config t p) front) i ≡ Some (stamp, a) → asked_among config t p records stamp ≡ Some a
-asked_in config t p records [] read i stamp a e = absurd (cc)
-asked_in config t p records (item.Event s ∷ front) read zero stamp a e =
+asked_in law config t p renewals records [] read i stamp a e = absurd (cc)
+asked_in law config t p renewals records (item.Event s ∷ front) read zero stamp a e =
     let is = read 0 s refl in
-    let same : (Some s.stamp, trigger_of config t p s) ≡ (stamp, a) = the_same (Some s.stamp, trigger_of config t p s) (stamp, a) e in
+    let there = law.each_record (renewals s.stamp.conn.0) (records s.stamp.conn.0) s.stamp.number s.generation is.line is.there in
+    let same : (Some s.stamp, trigger_of config t p s.stamp s.event) ≡ (stamp, a) = the_same (Some s.stamp, trigger_of config t p s.stamp s.event) (stamp, a) e in
     subst (λ (one : Option Stamp × Action). asked_among config t p records one.0 ≡ Some one.1) same
-    (ap (λ (o : Option Record). option_and_then (λ (line : Record). asked_of config t p s.stamp (reading_of line)) o) is.there ∙ ap (asked_of config t p s.stamp) is.reads)
-asked_in config t p records (item.Event s ∷ front) read (suc i) stamp a e = asked_in config t p records front (λ k x at. read (suc k) x at) i stamp a e
-asked_in config t p records (item.End ∷ front) read i stamp a e = asked_in config t p records front (λ k x at. read (suc k) x at) i stamp a e
+    (ap (λ (o : Option Record). option_and_then (λ (line : Record). asked_of config t p s.stamp (reading_of line)) o) there ∙ ap (asked_of config t p s.stamp) is.reads)
+asked_in law config t p renewals records (item.Event s ∷ front) read (suc i) stamp a e = asked_in law config t p renewals records front (λ k x at. read (suc k) x at) i stamp a e
+asked_in law config t p renewals records (item.End ∷ front) read i stamp a e = asked_in law config t p renewals records front (λ k x at. read (suc k) x at) i stamp a e
 
-module _ {F G : Type 0} {config : Config} {to_come : F → Told} {faults : F → ℕ} {feeds : List F} {inbox : List (List InboxEnds)} {cell : ℕ} (E : Evidence {F = F} G config to_come faults feeds inbox cell) where
+module _ {F G : Type 0} {gens : Generations} {to_come : F → Told} {faults : F → ℕ} {feeds : List F} {inbox : List (List InboxEnds)} {cells : Cells} (E : Evidence {F = F} G gens to_come faults feeds inbox cells) where
   abbrev pub n : ℕ
-  n = length (connections_of config)
+  n = length (connections_of gens.first)
 
   abbrev pub lines : List (List Record)
   lines = all_lines to_come faults E.readers E.reader_ends E.have_read
+
+  abbrev pub counted : List ConnectionReport
+  counted = map report_of_reader E.reader_ends
+
+  abbrev marks : ℕ → List ℕ
+  marks c = renewals_of c counted
 
   -- ---- what a tenant's queue was given by one connection
 
@@ -102,7 +119,7 @@ module _ {F G : Type 0} {config : Config} {to_come : F → Told} {faults : F →
     pub end_here : slice_get E.forwarder_ends s ≡ Some end
     pub forwarder : ForwarderAt E s end
     pub put : List TenantItem
-    pub in_order : IsPrefixOf put (forwarded config t s (values end.head.taken))
+    pub in_order : IsPrefixOf put (forwarded gens t s (values end.head.taken))
     pub waiting : List (Tagged TenantItem)
     pub arrived : IsDelivered d.head.taken waiting s put
 
@@ -118,7 +135,7 @@ module _ {F G : Type 0} {config : Config} {to_come : F → Told} {faults : F →
         end_here = f.here;
         forwarder = forwarder;
         put = seat.tail.put;
-        in_order = subst (λ (x : SenderSeat TenantItem). IsPrefixOf x.put (forwarded config t s (values f.one.head.taken))) (get_or_from_slice_get f.one.tails.items t seat.tail seat.tail seat.here)
+        in_order = subst (λ (x : SenderSeat TenantItem). IsPrefixOf x.put (forwarded gens t s (values f.one.head.taken))) (get_or_from_slice_get f.one.tails.items t seat.tail seat.tail seat.here)
             (forwarder.did.put t seat.tail (slice_get_within f.one.tails.items t seat.tail seat.here));
         waiting = settled.waiting;
         arrived = subst (λ k. IsDelivered d.head.taken settled.waiting k seat.tail.put) seat.sender settled.delivered;
@@ -134,7 +151,7 @@ module _ {F G : Type 0} {config : Config} {to_come : F → Told} {faults : F →
   got_own : (t : ℕ) (d : PassedOn (TakerSeat TenantItem) PipelineItem) (queue : Shape) → slice_get E.dispatcher_ends t ≡ Some d → slice_get E.items t ≡ Some queue → OfSenders d.head.taken
   got_own t d queue at of_queue = of_senders n d.head.taken (got_from t d queue at of_queue) (λ s low.
       let by = sent t s d queue at of_queue low in
-      taken_own config t s (values by.end.head.taken) by.put d.head.taken by.waiting by.in_order by.arrived)
+      taken_own gens t s (values by.end.head.taken) by.put d.head.taken by.waiting by.in_order by.arrived)
 
   -- ---- the whole way to a pipeline
 
@@ -145,7 +162,7 @@ module _ {F G : Type 0} {config : Config} {to_come : F → Told} {faults : F →
     pub unmatched : List TenantItem
     pub took : matched ++ unmatched ≡ values d.head.taken
     pub given : List PipelineItem
-    pub in_order : IsPrefixOf given (chosen config t p matched)
+    pub in_order : IsPrefixOf given (chosen gens t p matched)
     pub waiting : List (Tagged PipelineItem)
     pub from : AreFrom 1 w.head.taken
     pub from_waiting : AreFrom 1 waiting
@@ -170,7 +187,7 @@ module _ {F G : Type 0} {config : Config} {to_come : F → Told} {faults : F →
         unmatched = given.unmatched;
         took = given.took;
         given = seat.tail.put;
-        in_order = subst (λ (x : SenderSeat PipelineItem). IsPrefixOf x.put (chosen config t p given.matched)) (get_or_from_slice_get d.tails.items p seat.tail seat.tail seat.here)
+        in_order = subst (λ (x : SenderSeat PipelineItem). IsPrefixOf x.put (chosen gens t p given.matched)) (get_or_from_slice_get d.tails.items p seat.tail seat.tail seat.here)
             (given.put p seat.tail (slice_get_within d.tails.items p seat.tail seat.here));
         waiting = settled.waiting;
         from = subst (λ m. AreFrom m w.head.taken) one settled.from;
@@ -195,7 +212,7 @@ module _ {F G : Type 0} {config : Config} {to_come : F → Told} {faults : F →
   put : (c : ℕ) (r : ReaderEnd F) (f : PassedOn (TakerSeat ConnEntry) TenantItem) → slice_get E.reader_ends c ≡ Some r → slice_get E.forwarder_ends c ≡ Some f → Put c r f
   put c r f at at' =
       let found = find_lines to_come faults E.readers E.reader_ends E.have_read c r at in
-      let is = at_here (IsReaderOf faults feeds E.records cell) E.readers c found.reader E.are_readers found.reader_here in
+      let is = at_here (IsReaderOf faults feeds E.records cells) E.readers c found.reader E.are_readers found.reader_here in
       let queue = found.reader.queue.now in
       let one : queue.name.senders ≡ 1 = alike_here (λ (q : Shape). q.name.senders) 1 E.records c queue E.record_senders is.queue in
       let sender : r.tail.sender ≡ 0 = ap (λ (seat : QueueName × ℕ). seat.1) found.read.seat ∙ ap (λ (tail : SenderSeat ConnEntry). tail.sender) is.can.not_put in
@@ -213,13 +230,13 @@ module _ {F G : Type 0} {config : Config} {to_come : F → Told} {faults : F →
   record Processed (t p : ℕ) (w : WorkerEnd) : Type 0 where
     pub past : History
     pub now : past.state ≡ w.state
-    pub are : AreProcessed config t p past
+    pub are : AreProcessed gens.first t p past
     pub all : values w.head.taken ≡ are.front ++ held_items past.state.held
 
   processed : TakenIsProcessed → (t p : ℕ) (list : List WorkerEnd) (w : WorkerEnd) → slice_get E.worker_ends t ≡ Some list → slice_get list p ≡ Some w → Processed t p w
   processed law t p list w at here =
       let worker = worker_at E t p list w at here in
-      let are = law config t p worker.did.past worker.did.happens in
+      let are = law gens.first t p worker.did.past worker.did.happens in
       let more = worker.did.triggers in
       record {
         past = worker.did.past;
@@ -229,29 +246,29 @@ module _ {F G : Type 0} {config : Config} {to_come : F → Told} {faults : F →
       }
 
   -- the way of a connection that is there
-  way_there : (law : TakenIsProcessed) (t p c : ℕ) (d : PassedOn (TakerSeat TenantItem) PipelineItem) (list : List WorkerEnd) (w : WorkerEnd) (r : ReaderEnd F) (at_d : slice_get E.dispatcher_ends t ≡ Some d) (at_l : slice_get E.worker_ends t ≡ Some list)
+  way_there : EntriesHaveGenerations → (law : TakenIsProcessed) (t p c : ℕ) (d : PassedOn (TakerSeat TenantItem) PipelineItem) (list : List WorkerEnd) (w : WorkerEnd) (r : ReaderEnd F) (at_d : slice_get E.dispatcher_ends t ≡ Some d) (at_l : slice_get E.worker_ends t ≡ Some list)
       (at_w : slice_get list p ≡ Some w) (at_r : slice_get E.reader_ends c ≡ Some r) (low : c < n) →
-      Way config t p c (find_lines to_come faults E.readers E.reader_ends E.have_read c r at_r).read.lines (is_closed r.cause) (processed law t p list w at_l at_w).are.front
+      Way gens t p c r.tail.put (processed law t p list w at_l at_w).are.front
   unfolding put
-  way_there law t p c d list w r at_d at_l at_w at_r low =
+  way_there entries law t p c d list w r at_d at_l at_w at_r low =
       let dispatcher = dispatcher_at E t d at_d in
       let by = sent t c d dispatcher.queue at_d dispatcher.queue_here low in
       let given = taken t p d list w at_d at_l at_w in
       let first = put c r by.end at_r by.end_here in
       let done = processed law t p list w at_l at_w in
-      way_of config t p c first.found.read.lines (is_closed r.cause) r.tail.put by.end.head.taken first.waiting by.put d.head.taken by.waiting given.matched given.unmatched given.given w.head.taken given.waiting done.are.front (held_items done.past.state.held)
-      first.found.read.put first.from first.from_waiting first.arrived by.in_order (got_own t d dispatcher.queue at_d dispatcher.queue_here) by.arrived given.took given.in_order given.from given.from_waiting given.arrived done.all
+      way_of entries gens t p c r.tail.put by.end.head.taken first.waiting by.put d.head.taken by.waiting given.matched given.unmatched given.given w.head.taken given.waiting done.are.front (held_items done.past.state.held)
+      first.from first.from_waiting first.arrived by.in_order (got_own t d dispatcher.queue at_d dispatcher.queue_here) by.arrived given.took given.in_order given.from given.from_waiting given.arrived done.all
 
   -- the way of one that isn't
-  way_beyond : (law : TakenIsProcessed) (t p c : ℕ) (d : PassedOn (TakerSeat TenantItem) PipelineItem) (list : List WorkerEnd) (w : WorkerEnd) (at_d : slice_get E.dispatcher_ends t ≡ Some d) (at_l : slice_get E.worker_ends t ≡ Some list)
-      (at_w : slice_get list p ≡ Some w) (high : n ≤ c) → Way config t p c [] false (processed law t p list w at_l at_w).are.front
-  way_beyond law t p c d list w at_d at_l at_w high =
+  way_beyond : EntriesHaveGenerations → (law : TakenIsProcessed) (t p c : ℕ) (d : PassedOn (TakerSeat TenantItem) PipelineItem) (list : List WorkerEnd) (w : WorkerEnd) (at_d : slice_get E.dispatcher_ends t ≡ Some d) (at_l : slice_get E.worker_ends t ≡ Some list)
+      (at_w : slice_get list p ≡ Some w) (high : n ≤ c) → Way gens t p c [] (processed law t p list w at_l at_w).are.front
+  way_beyond entries law t p c d list w at_d at_l at_w high =
       let dispatcher = dispatcher_at E t d at_d in
       let given = taken t p d list w at_d at_l at_w in
       let done = processed law t p list w at_l at_w in
       let own = got_own t d dispatcher.queue at_d dispatcher.queue_here in
-      way_of config t p c [] false [] [] [] [] d.head.taken [] given.matched given.unmatched given.given w.head.taken given.waiting done.are.front (held_items done.past.state.held)
-      refl none none refl ([], refl) own (append-nil (values_of c d.head.taken) ∙ none_beyond n c d.head.taken (got_from t d dispatcher.queue at_d dispatcher.queue_here) high) given.took given.in_order given.from given.from_waiting given.arrived done.all
+      way_of entries gens t p c [] [] [] [] d.head.taken [] given.matched given.unmatched given.given w.head.taken given.waiting done.are.front (held_items done.past.state.held)
+      none none refl ([], refl) own (append-nil (values_of c d.head.taken) ∙ none_beyond n c d.head.taken (got_from t d dispatcher.queue at_d dispatcher.queue_here) high) given.took given.in_order given.from given.from_waiting given.arrived done.all
     where
       none : AreFrom {T = ConnEntry} 1 []
       none k x low = absurd (omega (arith, low))
@@ -273,50 +290,59 @@ module _ {F G : Type 0} {config : Config} {to_come : F → Told} {faults : F →
   lines_beyond c at = ap (λ (o : Option (List Record)). unwrap_or o [])
       (slice_get_past lines c (let high = past_end E.reader_ends c at in omega (arith, high, lines_count to_come faults E.readers E.reader_ends E.have_read)))
 
+  marks_there : (c : ℕ) (r : ReaderEnd F) → slice_get E.reader_ends c ≡ Some r → marks c ≡ counts_of r.renewals.items
+  marks_there c r at = ap (λ (o : Option ConnectionReport). unwrap_or (option_map (λ (report : ConnectionReport). report.renewals) o) []) (here_mapped report_of_reader E.reader_ends c r at)
+
+  -- what its reader put are the entries of the lines
+  put_there : (c : ℕ) (r : ReaderEnd F) → slice_get E.reader_ends c ≡ Some r → AreEntriesOf r.tail.put (beside (marks c) (lines_of c lines)) (length r.renewals.items) (is_closed r.cause)
+  put_there c r at = subst (λ (x : List ℕ × List Record). AreEntriesOf r.tail.put (beside x.0 x.1) (length r.renewals.items) (is_closed r.cause)) (sym (λ i. (marks_there c r at i, lines_there c r at i))) (find_lines to_come faults E.readers E.reader_ends E.have_read c r at).read.put
+
+  put_beyond : (c : ℕ) → slice_get E.reader_ends c ≡ None → AreEntriesOf [] (beside (marks c) (lines_of c lines)) 0 false
+  put_beyond c at = subst (λ ls. AreEntriesOf [] (beside (marks c) ls) 0 false) (sym (lines_beyond c at)) begins
+
   numbers : (law : TakenIsProcessed) (t p c : ℕ) (list : List WorkerEnd) (w : WorkerEnd) (at_l : slice_get E.worker_ends t ≡ Some list) (at_w : slice_get list p ≡ Some w) →
       filter_map (number_of_item c) (processed law t p list w at_l at_w).are.front ≡ numbers_from c w.state.done
   numbers law t p c list w at_l at_w =
       let done = processed law t p list w at_l at_w in
       numbered_by c done.are.front ∙ ap (numbers_from c) done.are.stamps ∙ ap (λ (s : State). numbers_from c s.done) done.now
 
-  in_order_by : (law : TakenIsProcessed) → EachWayDelivers → (t p c : ℕ) (d : PassedOn (TakerSeat TenantItem) PipelineItem) (list : List WorkerEnd) (w : WorkerEnd) → slice_get E.dispatcher_ends t ≡ Some d → (at_l : slice_get E.worker_ends t ≡ Some list) →
-      (at_w : slice_get list p ≡ Some w) (o : Option (ReaderEnd F)) → slice_get E.reader_ends c ≡ o → IsPrefixOf (numbers_from c w.state.done) (wanted config t p c (lines_of c lines))
-  in_order_by law ways t p c d list w at_d at_l at_w (Some r) at =
+  in_order_by : EntriesHaveGenerations → (law : TakenIsProcessed) → EachWayDelivers → (t p c : ℕ) (d : PassedOn (TakerSeat TenantItem) PipelineItem) (list : List WorkerEnd) (w : WorkerEnd) → slice_get E.dispatcher_ends t ≡ Some d → (at_l : slice_get E.worker_ends t ≡ Some list) →
+      (at_w : slice_get list p ≡ Some w) (o : Option (ReaderEnd F)) → slice_get E.reader_ends c ≡ o → IsPrefixOf (numbers_from c w.state.done) (wanted gens t p c (beside (marks c) (lines_of c lines)))
+  in_order_by entries law ways t p c d list w at_d at_l at_w (Some r) at =
       let front = (processed law t p list w at_l at_w).are.front in
       let low = slice_get_within E.reader_ends c r at in
-      let way = way_there law t p c d list w r at_d at_l at_w at (omega (arith, low, end_count)) in
-      subst (λ xs. IsPrefixOf xs (wanted config t p c (lines_of c lines))) (numbers law t p c list w at_l at_w)
-      (subst (λ ls. IsPrefixOf (filter_map (number_of_item c) front) (wanted config t p c ls)) (sym (lines_there c r at)) (ways.in_order config t p c _ _ front way))
-  in_order_by law ways t p c d list w at_d at_l at_w None at =
+      let way = way_there entries law t p c d list w r at_d at_l at_w at (omega (arith, low, end_count)) in
+      subst (λ xs. IsPrefixOf xs (wanted gens t p c (beside (marks c) (lines_of c lines)))) (numbers law t p c list w at_l at_w)
+      (ways.in_order gens t p c r.tail.put (beside (marks c) (lines_of c lines)) (length r.renewals.items) (is_closed r.cause) front (put_there c r at) way)
+  in_order_by entries law ways t p c d list w at_d at_l at_w None at =
       let front = (processed law t p list w at_l at_w).are.front in
       let high = past_end E.reader_ends c at in
-      let way = way_beyond law t p c d list w at_d at_l at_w (omega (arith, high, end_count)) in
-      subst (λ xs. IsPrefixOf xs (wanted config t p c (lines_of c lines))) (numbers law t p c list w at_l at_w)
-      (subst (λ ls. IsPrefixOf (filter_map (number_of_item c) front) (wanted config t p c ls)) (sym (lines_beyond c at)) (ways.in_order config t p c [] false front way))
+      let way = way_beyond entries law t p c d list w at_d at_l at_w (omega (arith, high, end_count)) in
+      subst (λ xs. IsPrefixOf xs (wanted gens t p c (beside (marks c) (lines_of c lines)))) (numbers law t p c list w at_l at_w)
+      (ways.in_order gens t p c [] (beside (marks c) (lines_of c lines)) 0 false front (put_beyond c at) way)
 
-  whole_by : (law : TakenIsProcessed) → EachWayDelivers → (t p c : ℕ) (d : PassedOn (TakerSeat TenantItem) PipelineItem) (list : List WorkerEnd) (w : WorkerEnd) → slice_get E.dispatcher_ends t ≡ Some d → (at_l : slice_get E.worker_ends t ≡ Some list) →
-      (at_w : slice_get list p ≡ Some w) (o : Option (ReaderEnd F)) → slice_get E.reader_ends c ≡ o → w.state.finished ≡ true → numbers_from c w.state.done ≡ wanted config t p c (lines_of c lines)
-  whole_by law ways t p c d list w at_d at_l at_w (Some r) at finished =
+  whole_by : EntriesHaveGenerations → (law : TakenIsProcessed) → EachWayDelivers → (t p c : ℕ) (d : PassedOn (TakerSeat TenantItem) PipelineItem) (list : List WorkerEnd) (w : WorkerEnd) → slice_get E.dispatcher_ends t ≡ Some d → (at_l : slice_get E.worker_ends t ≡ Some list) →
+      (at_w : slice_get list p ≡ Some w) (o : Option (ReaderEnd F)) → slice_get E.reader_ends c ≡ o → w.state.finished ≡ true → numbers_from c w.state.done ≡ wanted gens t p c (beside (marks c) (lines_of c lines))
+  whole_by entries law ways t p c d list w at_d at_l at_w (Some r) at finished =
       let done = processed law t p list w at_l at_w in
       let low = slice_get_within E.reader_ends c r at in
       let inside : c < n = omega (arith, low, end_count) in
-      let way = way_there law t p c d list w r at_d at_l at_w at inside in
+      let way = way_there entries law t p c d list w r at_d at_l at_w at inside in
       sym (numbers law t p c list w at_l at_w)
-      ∙ ways.whole config t p c _ _ done.are.front inside way (done.are.ends ∙ ap (λ (s : State). s.finished) done.now ∙ finished)
-      ∙ ap (wanted config t p c) (sym (lines_there c r at))
-  whole_by law ways t p c d list w at_d at_l at_w None at finished =
+      ∙ ways.whole gens t p c r.tail.put (beside (marks c) (lines_of c lines)) (length r.renewals.items) (is_closed r.cause) done.are.front (put_there c r at) inside way (done.are.ends ∙ ap (λ (s : State). s.finished) done.now ∙ finished)
+  whole_by entries law ways t p c d list w at_d at_l at_w None at finished =
       let none = lines_beyond c at in
-      nothing_before (numbers_from c w.state.done) (subst (λ ls. IsPrefixOf (numbers_from c w.state.done) (wanted config t p c ls)) none (in_order_by law ways t p c d list w at_d at_l at_w None at))
-      ∙ ap (wanted config t p c) (sym none)
+      nothing_before (numbers_from c w.state.done) (subst (λ ls. IsPrefixOf (numbers_from c w.state.done) (wanted gens t p c (beside (marks c) ls))) none (in_order_by entries law ways t p c d list w at_d at_l at_w None at))
+      ∙ ap (λ ls. wanted gens t p c (beside (marks c) ls)) (sym none)
 
-  marked_by : (law : TakenIsProcessed) → EachWayDelivers → (t p c : ℕ) (d : PassedOn (TakerSeat TenantItem) PipelineItem) (list : List WorkerEnd) (w : WorkerEnd) (r : ReaderEnd F) → slice_get E.dispatcher_ends t ≡ Some d → (at_l : slice_get E.worker_ends t ≡ Some list) →
-      (at_w : slice_get list p ≡ Some w) → slice_get E.reader_ends c ≡ Some r → w.state.finished ≡ true → lists config t c ≡ true → is_closed r.cause ≡ true
-  marked_by law ways t p c d list w r at_d at_l at_w at finished listed =
+  marked_by : EntriesHaveGenerations → (law : TakenIsProcessed) → EachWayDelivers → (t p c : ℕ) (d : PassedOn (TakerSeat TenantItem) PipelineItem) (list : List WorkerEnd) (w : WorkerEnd) (r : ReaderEnd F) → slice_get E.dispatcher_ends t ≡ Some d → (at_l : slice_get E.worker_ends t ≡ Some list) →
+      (at_w : slice_get list p ≡ Some w) → slice_get E.reader_ends c ≡ Some r → w.state.finished ≡ true → lists gens.first t c ≡ true → is_closed r.cause ≡ true
+  marked_by entries law ways t p c d list w r at_d at_l at_w at finished listed =
       let done = processed law t p list w at_l at_w in
       let low = slice_get_within E.reader_ends c r at in
       let inside : c < n = omega (arith, low, end_count) in
-      let way = way_there law t p c d list w r at_d at_l at_w at inside in
-      ways.closes config t p c _ _ done.are.front inside listed way (done.are.ends ∙ ap (λ (s : State). s.finished) done.now ∙ finished)
+      let way = way_there entries law t p c d list w r at_d at_l at_w at inside in
+      ways.closes gens t p c r.tail.put (beside (marks c) (lines_of c lines)) (length r.renewals.items) (is_closed r.cause) done.are.front (put_there c r at) inside listed way (done.are.ends ∙ ap (λ (s : State). s.finished) done.now ∙ finished)
 
   -- the worker of the tenant of a list of pipelines
   tenant_of_list : (t : ℕ) (list : List WorkerEnd) → slice_get E.worker_ends t ≡ Some list → There E.dispatcher_ends t
@@ -342,17 +368,17 @@ module _ {F G : Type 0} {config : Config} {to_come : F → Told} {faults : F →
       let end = from (λ (end : WorkerEnd). report_of_pipeline end.state) list.one p pipeline (ap (λ xs. slice_get xs p) list.is ∙ row.here) in
       record { list = list.one; list_here = list.here; end = end.one; here = end.here; is = end.is }
 
-  pub delivers : TakenIsProcessed → EachWayDelivers → Delivers config lines reported
-  delivers law ways = record {
+  pub delivers : EntriesHaveGenerations → TakenIsProcessed → EachWayDelivers → Delivers gens lines counted reported
+  delivers entries law ways = record {
     in_order = λ t p c pipeline at.
         let f = find_report t p pipeline at in
         let d = tenant_of_list t f.list f.list_here in
-        subst (λ (x : PipelineReport). IsPrefixOf (numbers_from c x.done) (wanted config t p c (lines_of c lines))) f.is (in_order_by law ways t p c d.one f.list f.end d.here f.list_here f.here (slice_get E.reader_ends c) refl);
+        subst (λ (x : PipelineReport). IsPrefixOf (numbers_from c x.done) (wanted gens t p c (beside (marks c) (lines_of c lines)))) f.is (in_order_by entries law ways t p c d.one f.list f.end d.here f.list_here f.here (slice_get E.reader_ends c) refl);
     whole = λ t p c pipeline at finished.
         let f = find_report t p pipeline at in
         let d = tenant_of_list t f.list f.list_here in
         ap (λ (x : PipelineReport). numbers_from c x.done) (sym f.is)
-        ∙ whole_by law ways t p c d.one f.list f.end d.here f.list_here f.here (slice_get E.reader_ends c) refl (ap (λ (x : PipelineReport). x.finished) f.is ∙ finished);
+        ∙ whole_by entries law ways t p c d.one f.list f.end d.here f.list_here f.here (slice_get E.reader_ends c) refl (ap (λ (x : PipelineReport). x.finished) f.is ∙ finished);
   }
 
   -- ---- what each connection's reader did
@@ -367,37 +393,42 @@ module _ {F G : Type 0} {config : Config} {to_come : F → Told} {faults : F →
   abbrev pub back : List F
   back = map (λ (end : ReaderEnd F). end.feed) E.reader_ends
 
-  abbrev pub counted : List ConnectionReport
-  counted = map report_of_reader E.reader_ends
-
-  pub have_ended : (note : Note) → Each (λ (end : ReaderEnd F). knows_as_much end.note note) E.reader_ends → HaveEnded to_come faults feeds back lines counted note
-  have_ended note knows = record {
+  pub have_ended : (after : InboxView) → Each (λ (end : ReaderEnd F). knows_as_much end.note after.note) E.reader_ends → Each (λ (end : ReaderEnd F). length (notes_of end.renewals.items) ≤ length after.asked) E.reader_ends → HaveEnded gens to_come faults feeds back lines counted after
+  have_ended after knows enough = record {
     feeds_back = map_length (λ (end : ReaderEnd F). end.feed) E.reader_ends ∙ end_count ∙ sym E.feed_count;
     all_lines = lines_count to_come faults E.readers E.reader_ends E.have_read ∙ end_count ∙ sym E.feed_count;
     all_reports = map_length report_of_reader E.reader_ends ∙ end_count ∙ sym E.feed_count;
     each = λ c feed feed' own report at at' here here'.
         let r = from (λ (end : ReaderEnd F). end.feed) E.reader_ends c feed' at' in
         let found = find_lines to_come faults E.readers E.reader_ends E.have_read c r.one r.here in
-        let is = at_here (IsReaderOf faults feeds E.records cell) E.readers c found.reader E.are_readers found.reader_here in
+        let is = at_here (IsReaderOf faults feeds E.records cells) E.readers c found.reader E.are_readers found.reader_here in
         let read = found.read in
         let same : found.reader.feed ≡ feed = the_same found.reader.feed feed (sym is.feed ∙ at) in
         let lines_same : read.lines ≡ own = the_same read.lines own (sym found.lines_here ∙ here) in
         let report_same : report_of_reader r.one ≡ report = the_same (report_of_reader r.one) report (sym (here_mapped report_of_reader E.reader_ends c r.one r.here) ∙ here') in
-        subst (λ x. HasEnded (to_come x) (to_come feed') (faults x) (faults feed') own report note) same
-        (subst (λ x. HasEnded (to_come found.reader.feed) (to_come x) (faults found.reader.feed) (faults x) own report note) r.is
-        (subst (λ x. HasEnded (to_come found.reader.feed) (to_come r.one.feed) (faults found.reader.feed) (faults r.one.feed) x report note) lines_same
-        (subst (λ x. HasEnded (to_come found.reader.feed) (to_come r.one.feed) (faults found.reader.feed) (faults r.one.feed) read.lines x note) report_same
-        (record { first = read.first; accepted = read.counted; means = means_kept r.one.cause _ _ read.lines _ _ r.one.note note (each_here (λ (end : ReaderEnd F). knows_as_much end.note note) E.reader_ends c r.one knows r.here) read.means }))));
+        subst (λ x. HasEnded gens (to_come x) (to_come feed') (faults x) (faults feed') own report after) same
+        (subst (λ x. HasEnded gens (to_come found.reader.feed) (to_come x) (faults found.reader.feed) (faults x) own report after) r.is
+        (subst (λ x. HasEnded gens (to_come found.reader.feed) (to_come r.one.feed) (faults found.reader.feed) (faults r.one.feed) x report after) lines_same
+        (subst (λ x. HasEnded gens (to_come found.reader.feed) (to_come r.one.feed) (faults found.reader.feed) (faults r.one.feed) read.lines x after) report_same
+        (record {
+          first = read.first;
+          accepted = read.counted;
+          never_fall = read.rising;
+          within = subst (λ n. All (λ m. m ≤ n) (counts_of r.one.renewals.items)) (sym read.counted) read.within;
+          few = omega (arith, read.few_renewals, is.of_generations, E.generation_count, length-map r.one.renewals.items (λ (renewal : Renewal). renewal.accepted));
+          asked_for = omega (arith, each_here (λ (end : ReaderEnd F). length (notes_of end.renewals.items) ≤ length after.asked) E.reader_ends c r.one enough r.here, length-map r.one.renewals.items (λ (renewal : Renewal). renewal.accepted), length-map r.one.renewals.items (λ (renewal : Renewal). renewal.note));
+          means = means_kept r.one.cause _ _ read.lines _ _ r.one.note after.note (each_here (λ (end : ReaderEnd F). knows_as_much end.note after.note) E.reader_ends c r.one knows r.here) read.means;
+        }))));
   }
 
-  pub behind_marks : TakenIsProcessed → EachWayDelivers → (t p c : ℕ) (pipeline : PipelineReport) (connection : ConnectionReport) → at_pipeline t p reported ≡ Some pipeline → pipeline.finished ≡ true → lists config t c ≡ true →
+  pub behind_marks : EntriesHaveGenerations → TakenIsProcessed → EachWayDelivers → (t p c : ℕ) (pipeline : PipelineReport) (connection : ConnectionReport) → at_pipeline t p reported ≡ Some pipeline → pipeline.finished ≡ true → lists gens.first t c ≡ true →
       slice_get counted c ≡ Some connection → is_closed connection.cause ≡ true
-  behind_marks law ways t p c pipeline connection at finished listed here =
+  behind_marks entries law ways t p c pipeline connection at finished listed here =
       let f = find_report t p pipeline at in
       let d = tenant_of_list t f.list f.list_here in
       let r = from report_of_reader E.reader_ends c connection here in
       ap (λ (x : ConnectionReport). is_closed x.cause) (sym r.is)
-      ∙ marked_by law ways t p c d.one f.list f.end r.one d.here f.list_here f.here r.here (ap (λ (x : PipelineReport). x.finished) f.is ∙ finished) listed
+      ∙ marked_by entries law ways t p c d.one f.list f.end r.one d.here f.list_here f.here r.here (ap (λ (x : PipelineReport). x.finished) f.is ∙ finished) listed
 
   -- ---- what each pipeline's worker took from the inbox
 
@@ -408,31 +439,31 @@ module _ {F G : Type 0} {config : Config} {to_come : F → Told} {faults : F →
   inbox_kept = map (λ (ends : List WorkerEnd). map inbox_back ends) E.worker_ends
 
   -- each event that was processed is what the record of its stamp reads as
-  read_by : (law : TakenIsProcessed) → EachWayDelivers → (t p c : ℕ) (d : PassedOn (TakerSeat TenantItem) PipelineItem) (list : List WorkerEnd) (w : WorkerEnd) → slice_get E.dispatcher_ends t ≡ Some d → (at_l : slice_get E.worker_ends t ≡ Some list) →
-      (at_w : slice_get list p ≡ Some w) (o : Option (ReaderEnd F)) → slice_get E.reader_ends c ≡ o → (i : ℕ) (s : Stamped) → slice_get (processed law t p list w at_l at_w).are.front i ≡ Some (item.Event s) → s.stamp.conn.0 ≡ c → IsReadFrom (lines_of c lines) s
-  read_by law ways t p c d list w at_d at_l at_w (Some r) at i s here same =
+  read_by : EntriesHaveGenerations → (law : TakenIsProcessed) → EachWayDelivers → (t p c : ℕ) (d : PassedOn (TakerSeat TenantItem) PipelineItem) (list : List WorkerEnd) (w : WorkerEnd) → slice_get E.dispatcher_ends t ≡ Some d → (at_l : slice_get E.worker_ends t ≡ Some list) →
+      (at_w : slice_get list p ≡ Some w) (o : Option (ReaderEnd F)) → slice_get E.reader_ends c ≡ o → (i : ℕ) (s : Stamped) → slice_get (processed law t p list w at_l at_w).are.front i ≡ Some (item.Event s) → s.stamp.conn.0 ≡ c → IsEventOf (beside (marks c) (lines_of c lines)) s
+  read_by entries law ways t p c d list w at_d at_l at_w (Some r) at i s here same =
       let front = (processed law t p list w at_l at_w).are.front in
       let low = slice_get_within E.reader_ends c r at in
-      let way = way_there law t p c d list w r at_d at_l at_w at (omega (arith, low, end_count)) in
-      subst (λ ls. IsReadFrom ls s) (sym (lines_there c r at)) (ways.genuine config t p c _ _ front way i s here same)
-  read_by law ways t p c d list w at_d at_l at_w None at i s here same =
+      let way = way_there entries law t p c d list w r at_d at_l at_w at (omega (arith, low, end_count)) in
+      ways.genuine gens t p c r.tail.put (beside (marks c) (lines_of c lines)) (length r.renewals.items) (is_closed r.cause) front (put_there c r at) way i s here same
+  read_by entries law ways t p c d list w at_d at_l at_w None at i s here same =
       let front = (processed law t p list w at_l at_w).are.front in
       let high = past_end E.reader_ends c at in
-      let way = way_beyond law t p c d list w at_d at_l at_w (omega (arith, high, end_count)) in
-      subst (λ ls. IsReadFrom ls s) (sym (lines_beyond c at)) (ways.genuine config t p c [] false front way i s here same)
+      let way = way_beyond entries law t p c d list w at_d at_l at_w (omega (arith, high, end_count)) in
+      ways.genuine gens t p c [] (beside (marks c) (lines_of c lines)) 0 false front (put_beyond c at) way i s here same
 
   -- so each trigger is what that record asks for
-  asked : (law : TakenIsProcessed) → EachWayDelivers → (t p : ℕ) (d : PassedOn (TakerSeat TenantItem) PipelineItem) (list : List WorkerEnd) (w : WorkerEnd) → slice_get E.dispatcher_ends t ≡ Some d → (at_l : slice_get E.worker_ends t ≡ Some list) →
-      (at_w : slice_get list p ≡ Some w) (i : ℕ) (stamp : Option Stamp) (a : Action) → slice_get (filter_map triggering (processed law t p list w at_l at_w).past.processed) i ≡ Some (stamp, a) → asked_among config t p (λ c. lines_of c lines) stamp ≡ Some a
-  asked law ways t p d list w at_d at_l at_w i stamp a here =
+  asked : EntriesHaveGenerations → RecordsHaveGenerations → (law : TakenIsProcessed) → EachWayDelivers → (t p : ℕ) (d : PassedOn (TakerSeat TenantItem) PipelineItem) (list : List WorkerEnd) (w : WorkerEnd) → slice_get E.dispatcher_ends t ≡ Some d → (at_l : slice_get E.worker_ends t ≡ Some list) →
+      (at_w : slice_get list p ≡ Some w) (i : ℕ) (stamp : Option Stamp) (a : Action) → slice_get (filter_map triggering (processed law t p list w at_l at_w).past.processed) i ≡ Some (stamp, a) → asked_among gens.first t p (λ c. lines_of c lines) stamp ≡ Some a
+  asked entries records law ways t p d list w at_d at_l at_w i stamp a here =
       let done = processed law t p list w at_l at_w in
-      asked_in config t p (λ c. lines_of c lines) done.are.front
-      (λ k s at. read_by law ways t p s.stamp.conn.0 d list w at_d at_l at_w (slice_get E.reader_ends s.stamp.conn.0) refl k s at refl)
+      asked_in records gens.first t p marks (λ c. lines_of c lines) done.are.front
+      (λ k s at. read_by entries law ways t p s.stamp.conn.0 d list w at_d at_l at_w (slice_get E.reader_ends s.stamp.conn.0) refl k s at refl)
       i stamp a (ap (λ (xs : List (Option Stamp × Action)). slice_get xs i) (sym done.are.asked_for) ∙ here)
 
-  pub processes : TakenIsProcessed → EachWayDelivers → (t p : ℕ) (ends ends' : InboxEnds) (state : State) → at_pipeline t p inbox ≡ Some ends → at_pipeline t p inbox_kept ≡ Some ends' → at_pipeline t p kept ≡ Some state → HasProcessed config t p lines ends ends' state
+  pub processes : EntriesHaveGenerations → RecordsHaveGenerations → TakenIsProcessed → EachWayDelivers → (t p : ℕ) (ends ends' : InboxEnds) (state : State) → at_pipeline t p inbox ≡ Some ends → at_pipeline t p inbox_kept ≡ Some ends' → at_pipeline t p kept ≡ Some state → HasProcessed gens.first t p lines ends ends' state
   unfolding processed
-  processes law ways t p ends ends' state at at' here =
+  processes entries records law ways t p ends ends' state at at' here =
       let row = row_of kept t p state here in
       let list = from (λ (es : List WorkerEnd). map (λ (end : WorkerEnd). end.state) es) E.worker_ends t row.row row.row_here in
       let end = from (λ (e : WorkerEnd). e.state) list.one p state (ap (λ xs. slice_get xs p) list.is ∙ row.here) in
@@ -442,14 +473,14 @@ module _ {F G : Type 0} {config : Config} {to_come : F → Told} {faults : F →
       let after_here : at_pipeline t p inbox_kept ≡ Some (inbox_back end.one) =
       ap (option_and_then (λ (xs : List InboxEnds). slice_get xs p)) (here_mapped (λ (es : List WorkerEnd). map inbox_back es) E.worker_ends t list.one list.here) ∙ here_mapped inbox_back list.one p end.one end.here in
       let after : inbox_back end.one ≡ ends' = the_same (inbox_back end.one) ends' (sym after_here ∙ at') in
-      subst (λ x. HasProcessed config t p lines ends ends' x) end.is
-      (subst (λ x. HasProcessed config t p lines ends x end.one.state) after
-      (subst (λ x. HasProcessed config t p lines x (inbox_back end.one) end.one.state) before
+      subst (λ x. HasProcessed gens.first t p lines ends ends' x) end.is
+      (subst (λ x. HasProcessed gens.first t p lines ends x end.one.state) after
+      (subst (λ x. HasProcessed gens.first t p lines x (inbox_back end.one) end.one.state) before
       (record {
         past = w.did.past;
         now = w.did.now;
-        processed = law config t p w.did.past w.did.happens;
-        triggers = asked law ways t p d.one list.one end.one d.here list.here end.here;
+        processed = law gens.first t p w.did.past w.did.happens;
+        triggers = asked entries records law ways t p d.one list.one end.one d.here list.here end.here;
         management = w.did.management;
         results = w.did.results;
       })))
@@ -465,16 +496,16 @@ module _ {F G : Type 0} {config : Config} {to_come : F → Told} {faults : F →
   mapped_lengths f [] = refl
   mapped_lengths f (xs ∷ xss) = (λ i. map_length f xs i ∷ mapped_lengths f xss i)
 
-  worker_counts : map length E.worker_ends ≡ pipeline_counts config
+  worker_counts : map length E.worker_ends ≡ pipeline_counts gens.first
   worker_counts =
       sym (as_long Worked E.workers E.worker_ends E.have_worked)
-      ∙ each_counted (λ t. length (pipelines_of config t)) 0 (AreWorkersOf config E.triggers inbox) (λ k ws (are : AreWorkersOf config E.triggers inbox k ws). are.count ∙ ap (λ m. length (pipelines_of config m)) (omega arith)) E.workers E.are_workers
-      ∙ ap (λ m. map (λ t. length (pipelines_of config t)) (range_with_len 0 m)) E.worker_count
+      ∙ each_counted (λ t. length (pipelines_of gens.first t)) 0 (AreWorkersOf gens.first E.triggers inbox) (λ k ws (are : AreWorkersOf gens.first E.triggers inbox k ws). are.count ∙ ap (λ m. length (pipelines_of gens.first m)) (omega arith)) E.workers E.are_workers
+      ∙ ap (λ m. map (λ t. length (pipelines_of gens.first t)) (range_with_len 0 m)) E.worker_count
 
-  pub pipelines_counted : map length kept ≡ pipeline_counts config
+  pub pipelines_counted : map length kept ≡ pipeline_counts gens.first
   pipelines_counted = mapped_lengths (λ (end : WorkerEnd). end.state) E.worker_ends ∙ worker_counts
 
-  pub inbox_counted : map length inbox_kept ≡ pipeline_counts config
+  pub inbox_counted : map length inbox_kept ≡ pipeline_counts gens.first
   inbox_counted = mapped_lengths inbox_back E.worker_ends ∙ worker_counts
 
   reports_kept : (xss : List (List WorkerEnd)) → map (λ (ends : List WorkerEnd). map (λ (end : WorkerEnd). report_of_pipeline end.state) ends) xss ≡ map (map report_of_pipeline) (map (λ (ends : List WorkerEnd). map (λ (end : WorkerEnd). end.state) ends) xss)
@@ -483,19 +514,23 @@ module _ {F G : Type 0} {config : Config} {to_come : F → Told} {faults : F →
 
   -- ---- all of it
 
-  pub serves : TakenIsProcessed → EachWayDelivers → (feeds' : List F) (before after : InboxView) (report : RunReport) (pipelines : List (List State)) → before.pipelines ≡ inbox →
+  pub serves : EntriesHaveGenerations → RecordsHaveGenerations → TakenIsProcessed → EachWayDelivers → (feeds' : List F) (before after : InboxView) (report : RunReport) (pipelines : List (List State)) → before.pipelines ≡ inbox →
       feeds' ≡ back → report.connections ≡ counted → report.pipelines ≡ reported → pipelines ≡ kept → after.pipelines ≡ inbox_kept → after.note.cell ≡ before.note.cell →
-      Each (λ (end : ReaderEnd F). knows_as_much end.note after.note) E.reader_ends → Serves config to_come faults feeds feeds' before after report pipelines
-  serves law ways feeds' before after report pipelines was fed connections done states inboxes cells knows = record {
+      Each (λ (end : ReaderEnd F). knows_as_much end.note after.note) E.reader_ends → after.cells ≡ before.cells → after.asked ≡ most_asked before.asked E.reader_ends → AreKnown after.cells after.asked → Serves gens to_come faults feeds feeds' before after report pipelines
+  serves entries records law ways feeds' before after report pipelines was fed connections done states inboxes cell knows cells asked known = record {
     lines = lines;
-    connections = subst (λ xs. HaveEnded to_come faults feeds xs lines report.connections after.note) (sym fed) (subst (λ xs. HaveEnded to_come faults feeds back lines xs after.note) (sym connections) (have_ended after.note knows));
-    delivers = subst (Delivers config lines) (sym done) (delivers law ways);
-    behind_marks = λ t p c pipeline connection at finished listed here. behind_marks law ways t p c pipeline connection
+    connections = subst (λ xs. HaveEnded gens to_come faults feeds xs lines report.connections after) (sym fed) (subst (λ xs. HaveEnded gens to_come faults feeds back lines xs after) (sym connections)
+        (have_ended after knows (each_enough before.asked E.reader_ends after.asked (subst (λ xs. length (most_asked before.asked E.reader_ends) ≤ length xs) (sym asked) (omega arith)))));
+    delivers = subst (λ xs. Delivers gens lines xs report.pipelines) (sym connections) (subst (Delivers gens lines counted) (sym done) (delivers entries law ways));
+    behind_marks = λ t p c pipeline connection at finished listed here. behind_marks entries law ways t p c pipeline connection
         (ap (at_pipeline t p) (sym done) ∙ at) finished listed (ap (λ (xs : List ConnectionReport). slice_get xs c) (sym connections) ∙ here);
     reports = done ∙ reports_kept E.worker_ends ∙ ap (map (map report_of_pipeline)) (sym states);
-    processes = λ t p ends ends' state at at' here. processes law ways t p ends ends' state
+    processes = λ t p ends ends' state at at' here. processes entries records law ways t p ends ends' state
         (ap (at_pipeline t p) (sym was) ∙ at) (ap (at_pipeline t p) (sym inboxes) ∙ at') (ap (at_pipeline t p) (sym states) ∙ here);
     counts = ap (map length) states ∙ pipelines_counted;
     inbox_for = ap (map length) inboxes ∙ inbox_counted;
-    cell = cells;
+    cell = cell;
+    cells = cells;
+    known = known;
+    no_fewer = subst (λ xs. length before.asked ≤ length xs) (sym asked) (most_no_fewer before.asked E.reader_ends);
   }

@@ -1,5 +1,5 @@
 -- What is known of the seats that came back, from how threads were seated and from what they did.
-use Rattle.std.proofs.Common.{◌≡◌, ◌∙◌, refl, sym, ap, ℕ, zero, suc, ◌<◌, List, [], ◌∷◌, length, map, Some, arith}
+use Rattle.std.proofs.Common.{◌≡◌, ◌∙◌, refl, sym, ap, subst, ℕ, zero, suc, ◌<◌, List, [], ◌∷◌, length, map, Some, arith}
 use Rattle.std.specs.Prelude.{All, slice_get}
 use Rattle.std.specs.List.{range_with_len}
 use Rattle.std.proofs.lemmas.Option.{slice_get_within}
@@ -7,6 +7,7 @@ use Rattle.gate_record.specs.declared.transit.ConnEntry.{ConnEntry}
 use Rattle.gate_record.specs.declared.transit.PipelineItem.{PipelineItem}
 use Rattle.gate_record.specs.declared.transit.TenantItem.{TenantItem}
 use Rattle.gate_config.specs.declared.config.Config.{Config}
+use Rattle.gate_config.specs.declared.generations.Generations.{Generations}
 use Rattle.gate_config.specs.Lookups.{pipelines_of}
 use Rattle.gate_queue.specs.Seats.{SenderSeat, Shape, TakerSeat}
 use Rattle.gate_source.specs.Stops.{IsNoteOf}
@@ -20,8 +21,10 @@ use Rattle.gate_run.specs.declared.worker.WorkerEnd.{WorkerEnd}
 use Rattle.gate_source.specs.Feeds.{Told}
 use Rattle.gate_run.specs.Lists.{Pairwise}
 use Rattle.gate_run.specs.Inner.Lists.{Each, EachAt}
+use Rattle.gate_run.specs.Asked.{AreKnown}
+use Rattle.gate_run.specs.Inner.Readers.{notes_of}
 use Rattle.gate_run.specs.Ports.{InboxEnds}
-use Rattle.gate_run.specs.Inner.Seatings.{AreWorkersOf, IsDispatcherOf, IsForwarderOf, IsReaderOf, IsWorkerOf}
+use Rattle.gate_run.specs.Inner.Seatings.{AreWorkersOf, Cells, IsDispatcherOf, IsForwarderOf, IsReaderOf, IsWorkerOf}
 use Rattle.gate_run.specs.Inner.Seats.{seat_in, seat_of}
 use Rattle.gate_run.specs.Inner.Works.{Dispatched, Forwarded, Read, Worked}
 use Rattle.gate_run.proofs.Places.{as_many, at_here, beside_of, the_same}
@@ -44,11 +47,11 @@ all_ready items P Q so (row ∷ rows) all (suc k) d low = all_ready items (λ i.
 number_is : (m i k : ℕ) → i < m → slice_get (range_with_len 0 m) i ≡ Some k → k ≡ i
 number_is m i k low at = sym (the_same i k (ap Some (omega arith) ∙ sym (number_here 0 m i low) ∙ at))
 
-module _ {F : Type 0} (to_come : F → Told) (faults : F → ℕ) (feeds : List F) (queues : List Shape) (cell : ℕ) (readers : List (Reader F)) (ends : List (ReaderEnd F)) (are : EachAt (IsReaderOf faults feeds queues cell) readers) (did : Pairwise (Read to_come faults) readers ends) where
+module _ {F : Type 0} (to_come : F → Told) (faults : F → ℕ) (feeds : List F) (queues : List Shape) (cells : Cells) (readers : List (Reader F)) (ends : List (ReaderEnd F)) (are : EachAt (IsReaderOf faults feeds queues cells) readers) (did : Pairwise (Read to_come faults) readers ends) where
   pub tails_back : length readers ≡ length queues → map (λ (end : ReaderEnd F). seat_of end.tail) ends ≡ map (seat_in 0) queues
   tails_back many = all_alike (λ (end : ReaderEnd F). seat_of end.tail) (seat_in 0) ends queues (sym (as_many (Read to_come faults) readers ends did) ∙ many) (λ c end queue at at'.
       let pair = beside_of (Read to_come faults) readers ends c end did at in
-      let is = at_here (IsReaderOf faults feeds queues cell) readers c pair.other are pair.there in
+      let is = at_here (IsReaderOf faults feeds queues cells) readers c pair.other are pair.there in
       pair.are.seat ∙ ap (λ (tail : SenderSeat ConnEntry). seat_of tail) is.can.not_put ∙ ap (seat_in 0) (the_same pair.other.queue.now queue (sym is.queue ∙ at')))
 
 -- notes are of the cell
@@ -59,30 +62,39 @@ notes_back to_come faults cell P of [] (end ∷ ends) are did = absurd did
 notes_back to_come faults cell P of (w ∷ readers) [] are did = absurd did
 notes_back to_come faults cell P of (w ∷ readers) (end ∷ ends) are did = (did.0.cell ∙ of 0 w are.0, notes_back to_come faults cell (λ c. P (suc c)) (λ c. of (suc c)) readers ends are.1 did.1)
 
-module _ (config : Config) (sources targets : List Shape) (forwarders : List Forwarder) (ends : List (PassedOn (TakerSeat ConnEntry) TenantItem)) (are : EachAt (IsForwarderOf config sources targets) forwarders) (did : Pairwise Forwarded forwarders ends) where
+-- and those of renewals are known
+pub known_back : {F : Type 0} (to_come : F → Told) (faults : F → ℕ) (cells : List ℕ) (P : ℕ → Reader F → Type 0) → ((c : ℕ) (w : Reader F) → P c w → w.cells.now ≡ cells) → (readers : List (Reader F)) (ends : List (ReaderEnd F)) → EachAt P readers → Pairwise (Read to_come faults) readers ends →
+    Each (λ (end : ReaderEnd F). AreKnown cells (notes_of end.renewals.items)) ends
+known_back to_come faults cells P of [] [] are did = tt
+known_back to_come faults cells P of [] (end ∷ ends) are did = absurd did
+known_back to_come faults cells P of (w ∷ readers) [] are did = absurd did
+known_back to_come faults cells P of (w ∷ readers) (end ∷ ends) are did =
+    (subst (λ xs. AreKnown xs (notes_of end.renewals.items)) (of 0 w are.0) did.0.known, known_back to_come faults cells (λ c. P (suc c)) (λ c. of (suc c)) readers ends are.1 did.1)
+
+module _ (gens : Generations) (sources targets : List Shape) (forwarders : List Forwarder) (ends : List (PassedOn (TakerSeat ConnEntry) TenantItem)) (are : EachAt (IsForwarderOf gens sources targets) forwarders) (did : Pairwise Forwarded forwarders ends) where
   pub forwarder_heads : length forwarders ≡ length sources → map (λ (end : PassedOn (TakerSeat ConnEntry) TenantItem). end.head.queue) ends ≡ map (λ (queue : Shape). queue.name) sources
   forwarder_heads many = all_alike (λ (end : PassedOn (TakerSeat ConnEntry) TenantItem). end.head.queue) (λ (queue : Shape). queue.name) ends sources (sym (as_many Forwarded forwarders ends did) ∙ many) (λ c end queue at at'.
       let pair = beside_of Forwarded forwarders ends c end did at in
-      let is = at_here (IsForwarderOf config sources targets) forwarders c pair.other are pair.there in
+      let is = at_here (IsForwarderOf gens sources targets) forwarders c pair.other are pair.there in
       pair.are.head_of ∙ ap (λ (q : Shape). q.name) (the_same pair.other.source.now queue (sym is.source ∙ at')))
 
   pub forwarder_tails : map (λ (end : PassedOn (TakerSeat ConnEntry) TenantItem). map seat_of end.tails.items) ends ≡ map (λ s. map (seat_in s) targets) (range_with_len 0 (length ends))
   forwarder_tails = all_alike (λ (end : PassedOn (TakerSeat ConnEntry) TenantItem). map seat_of end.tails.items) (λ s. map (seat_in s) targets) ends (range_with_len 0 (length ends)) (sym (range_length 0 (length ends))) (λ c end s at at'.
       let pair = beside_of Forwarded forwarders ends c end did at in
-      let is = at_here (IsForwarderOf config sources targets) forwarders c pair.other are pair.there in
+      let is = at_here (IsForwarderOf gens sources targets) forwarders c pair.other are pair.there in
       pair.are.seats ∙ (λ i. map (seat_in (is.of_conn i)) (is.puts_into i)) ∙ ap (λ k. map (seat_in k) targets) (sym (number_is (length ends) c s (slice_get_within ends c end at) at')))
 
-module _ (config : Config) (sources : List Shape) (targets : List (List Shape)) (dispatchers : List Dispatcher) (ends : List (PassedOn (TakerSeat TenantItem) PipelineItem)) (are : EachAt (IsDispatcherOf config sources targets) dispatchers) (did : Pairwise Dispatched dispatchers ends) where
+module _ (gens : Generations) (sources : List Shape) (targets : List (List Shape)) (dispatchers : List Dispatcher) (ends : List (PassedOn (TakerSeat TenantItem) PipelineItem)) (are : EachAt (IsDispatcherOf gens sources targets) dispatchers) (did : Pairwise Dispatched dispatchers ends) where
   pub dispatcher_heads : length dispatchers ≡ length sources → map (λ (end : PassedOn (TakerSeat TenantItem) PipelineItem). end.head.queue) ends ≡ map (λ (queue : Shape). queue.name) sources
   dispatcher_heads many = all_alike (λ (end : PassedOn (TakerSeat TenantItem) PipelineItem). end.head.queue) (λ (queue : Shape). queue.name) ends sources (sym (as_many Dispatched dispatchers ends did) ∙ many) (λ t end queue at at'.
       let pair = beside_of Dispatched dispatchers ends t end did at in
-      let is = at_here (IsDispatcherOf config sources targets) dispatchers t pair.other are pair.there in
+      let is = at_here (IsDispatcherOf gens sources targets) dispatchers t pair.other are pair.there in
       pair.are.head_of ∙ ap (λ (q : Shape). q.name) (the_same pair.other.source.now queue (sym is.source ∙ at')))
 
   pub dispatcher_tails : length dispatchers ≡ length targets → map (λ (end : PassedOn (TakerSeat TenantItem) PipelineItem). map seat_of end.tails.items) ends ≡ map (map (seat_in 0)) targets
   dispatcher_tails many = all_alike (λ (end : PassedOn (TakerSeat TenantItem) PipelineItem). map seat_of end.tails.items) (map (seat_in 0)) ends targets (sym (as_many Dispatched dispatchers ends did) ∙ many) (λ t end lane at at'.
       let pair = beside_of Dispatched dispatchers ends t end did at in
-      let is = at_here (IsDispatcherOf config sources targets) dispatchers t pair.other are pair.there in
+      let is = at_here (IsDispatcherOf gens sources targets) dispatchers t pair.other are pair.there in
       pair.are.seats ∙ ap (map (seat_in 0)) (the_same pair.other.targets.now lane (sym is.puts_into ∙ at')))
 
 module _ {G : Type 0} (config : Config) (sources : List (List Shape)) (inbox : List (List InboxEnds)) (workers : List (List (Worker G))) (lists : List (List WorkerEnd)) (are : EachAt (AreWorkersOf config sources inbox) workers) (did : Pairwise (Pairwise Worked) workers lists) where

@@ -7,6 +7,7 @@ use Rattle.gate_record.specs.declared.transit.ConnEntry.{ConnEntry}
 use Rattle.gate_record.specs.declared.transit.PipelineItem.{PipelineItem}
 use Rattle.gate_record.specs.declared.transit.TenantItem.{TenantItem}
 use Rattle.gate_config.specs.declared.config.Config.{Config}
+use Rattle.gate_config.specs.declared.generations.Generations.{Generations}
 use Rattle.gate_config.specs.Lookups.{pipelines_of, tenants_of}
 use Rattle.gate_pipeline.specs.States as pipeline
 use Rattle.gate_queue.specs.Seats.{SenderSeat, Shape, TakerSeat}
@@ -17,7 +18,7 @@ use Rattle.gate_run.specs.declared.reader.Reader.{Reader}
 use Rattle.gate_run.specs.declared.worker.Worker.{Worker}
 use Rattle.gate_run.specs.Inner.Lists.{EachAt}
 use Rattle.gate_run.specs.Ports.{InboxEnds}
-use Rattle.gate_run.specs.Inner.Seatings.{IsDispatcherOf, IsForwarderOf, IsReaderOf, IsWorkerOf}
+use Rattle.gate_run.specs.Inner.Seatings.{Cells, IsDispatcherOf, IsForwarderOf, IsReaderOf, IsWorkerOf}
 use Rattle.gate_run.specs.Seats.{fresh_head, fresh_tail}
 use Rattle.gate_run.proofs.Paired.{map_length}
 use Rattle.gate_run.proofs.Places.{at_more, the_same}
@@ -62,44 +63,47 @@ one_more P xs xs' x n many each here more = record {
     longer [] = refl
     longer (y ∷ ys) = ap suc (longer ys) ∙ omega arith
 
-pub reader_of : {F : Type 0} (faults : F → ℕ) (feeds : List F) (queues : List Shape) (tails : List (SenderSeat ConnEntry)) (cell c : ℕ) (w : Reader F) → slice_get feeds c ≡ Some w.feed → slice_get queues c ≡ Some w.queue.now → slice_get tails c ≡ Some w.tail →
-    tails ≡ map (fresh_tail 0) queues → All (λ feed. faults feed < 2 ^ 64 - 1) feeds → w.cell.now ≡ cell → IsNoteOf cell w.note → IsReaderOf faults feeds queues cell c w
-reader_of faults feeds queues tails cell c w of_feed of_queue of_tail fresh few of_cell note = record {
+pub reader_of : {F : Type 0} (faults : F → ℕ) (feeds : List F) (queues : List Shape) (tails : List (SenderSeat ConnEntry)) (cells : Cells) (c : ℕ) (w : Reader F) → slice_get feeds c ≡ Some w.feed → slice_get queues c ≡ Some w.queue.now → slice_get tails c ≡ Some w.tail →
+    tails ≡ map (fresh_tail 0) queues → All (λ feed. faults feed < 2 ^ 64 - 1) feeds → w.cell.now ≡ cells.stop → w.generations ≡ cells.generations → w.cells.now ≡ cells.later → 0 < cells.generations → IsNoteOf cells.stop w.note → IsReaderOf faults feeds queues cells c w
+reader_of faults feeds queues tails cells c w of_feed of_queue of_tail fresh few of_stop of_generations of_later some note = record {
   feed = of_feed;
   queue = of_queue;
-  of_cell = of_cell;
+  of_stop = of_stop;
+  of_generations = of_generations;
+  of_later = of_later;
   can = record {
     not_put = is_mapped (fresh_tail 0) queues tails c w.queue.now w.tail fresh of_queue of_tail;
-    note_of = note ∙ sym of_cell;
+    note_of = note ∙ sym of_stop;
+    some = subst (λ n. 0 < n) (sym of_generations) some;
     few = subst (λ feed. faults feed < 2 ^ 64 - 1) (get_or_from_slice_get feeds c w.feed w.feed of_feed) (few c w.feed (slice_get_within feeds c w.feed of_feed));
   };
 }
 
-pub forwarder_of : (config : Config) (sources targets : List Shape) (heads : List (TakerSeat ConnEntry)) (rows : List (List (SenderSeat TenantItem))) (m c : ℕ) (w : Forwarder) → w.config.now ≡ config → w.conn.0 ≡ c → slice_get sources c ≡ Some w.source.now → w.targets.now ≡ targets →
-    slice_get heads c ≡ Some w.head → heads ≡ map fresh_head sources → slice_get rows c ≡ Some w.tails.items → rows ≡ map (λ s. map (fresh_tail s) targets) (range_with_len 0 m) → c < m → length targets ≡ length (tenants_of config) → IsForwarderOf config sources targets c w
-forwarder_of config sources targets heads rows m c w by_config of_conn of_source of_targets of_head fresh of_tails fresh' low many = record {
-  by_config = by_config;
+pub forwarder_of : (gens : Generations) (sources targets : List Shape) (heads : List (TakerSeat ConnEntry)) (rows : List (List (SenderSeat TenantItem))) (m c : ℕ) (w : Forwarder) → w.gens.now ≡ gens → w.conn.0 ≡ c → slice_get sources c ≡ Some w.source.now → w.targets.now ≡ targets →
+    slice_get heads c ≡ Some w.head → heads ≡ map fresh_head sources → slice_get rows c ≡ Some w.tails.items → rows ≡ map (λ s. map (fresh_tail s) targets) (range_with_len 0 m) → c < m → length targets ≡ length (tenants_of gens.first) → IsForwarderOf gens sources targets c w
+forwarder_of gens sources targets heads rows m c w by_gens of_conn of_source of_targets of_head fresh of_tails fresh' low many = record {
+  by_gens = by_gens;
   of_conn = of_conn;
   source = of_source;
   puts_into = of_targets;
   can = record {
-    tenants = ap length of_targets ∙ many ∙ ap (λ x. length (tenants_of x)) (sym by_config);
+    tenants = ap length of_targets ∙ many ∙ ap (λ x. length (tenants_of x.first)) (sym by_gens);
     not_taken = is_mapped fresh_head sources heads c w.source.now w.head fresh of_source of_head;
     not_put = is_mapped (λ s. map (fresh_tail s) targets) (range_with_len 0 m) rows c c w.tails.items fresh' (number_here 0 m c low ∙ ap Some (omega arith)) of_tails
         ∙ (λ i. map (fresh_tail (sym of_conn i)) (sym of_targets i));
   };
 }
 
-pub dispatcher_of : (config : Config) (sources : List Shape) (targets : List (List Shape)) (heads : List (TakerSeat TenantItem)) (rows : List (List (SenderSeat PipelineItem))) (t : ℕ) (w : Dispatcher) → w.config.now ≡ config → w.tenant.0 ≡ t →
-    slice_get sources t ≡ Some w.source.now → slice_get targets t ≡ Some w.targets.now → length w.targets.now ≡ length (pipelines_of config t) → slice_get heads t ≡ Some w.head → heads ≡ map fresh_head sources → slice_get rows t ≡ Some w.tails.items → rows ≡ map (map (fresh_tail 0)) targets →
-    IsDispatcherOf config sources targets t w
-dispatcher_of config sources targets heads rows t w by_config own_tenant of_source of_targets many of_head fresh of_tails fresh' = record {
-  by_config = by_config;
+pub dispatcher_of : (gens : Generations) (sources : List Shape) (targets : List (List Shape)) (heads : List (TakerSeat TenantItem)) (rows : List (List (SenderSeat PipelineItem))) (t : ℕ) (w : Dispatcher) → w.gens.now ≡ gens → w.tenant.0 ≡ t →
+    slice_get sources t ≡ Some w.source.now → slice_get targets t ≡ Some w.targets.now → length w.targets.now ≡ length (pipelines_of gens.first t) → slice_get heads t ≡ Some w.head → heads ≡ map fresh_head sources → slice_get rows t ≡ Some w.tails.items → rows ≡ map (map (fresh_tail 0)) targets →
+    IsDispatcherOf gens sources targets t w
+dispatcher_of gens sources targets heads rows t w by_gens own_tenant of_source of_targets many of_head fresh of_tails fresh' = record {
+  by_gens = by_gens;
   of_tenant = own_tenant;
   source = of_source;
   puts_into = of_targets;
   can = record {
-    pipelines = many ∙ (λ i. length (pipelines_of (sym by_config i) (sym own_tenant i)));
+    pipelines = many ∙ (λ i. length (pipelines_of (sym by_gens i).first (sym own_tenant i)));
     not_taken = is_mapped fresh_head sources heads t w.source.now w.head fresh of_source of_head;
     not_put = is_mapped (map (fresh_tail 0)) targets rows t w.targets.now w.tails.items fresh' of_targets of_tails;
   };

@@ -1,4 +1,4 @@
--- That works may be given to threads, since a configuration may be lent to them.
+-- That works may be given to threads, since a configuration and its generations may be lent to them.
 use denote.RattleType.{RattleType}
 use denote.Ref.{NamedLft}
 use denote.Param.Send.{AllSend, IsSend, IsSync, recorded_send, sendable, struct_send}
@@ -18,11 +18,12 @@ use Rattle.gate_run.proofs.posts.InboxSeat.TheSendSync as inbox
 use Rattle.gate_items.proofs.action.Manage.TheSendSync as manage
 use Rattle.gate_items.proofs.action.JobResult.TheSendSync as ended
 use Rattle.gate_config.specs.contracts.config.Config as config
+use Rattle.gate_config.specs.contracts.generations.Generations as generations
 use Rattle.gate_run.specs.contracts.dispatcher.Dispatcher as dispatcher
 use Rattle.gate_run.specs.contracts.forwarder.Forwarder as forwarder
 use Rattle.gate_run.specs.contracts.worker.Worker as worker
 
-module _ (κ : NamedLft) (config_sync : IsSync config.the_row) where
+module _ (κ : NamedLft) (generations_sync : IsSync generations.the_row) where
   forwarder_parts : AllSend (shape (forwarder.the_type κ)).fields
   forwarder_parts = (search (sendable, crosses) depth 40 fits 20000, (search (sendable, crosses) depth 40 fits 20000, (search (sendable, crosses) depth 40 fits 20000, (search (sendable, crosses, queue.the_sync, entry.the_send) depth 40 fits 20000, (search (sendable, crosses, head.the_send, entry.the_send) depth 40 fits 20000, (search (sendable, crosses, free_queue.the_sync, item.the_send) depth 40 fits 20000, (search (sendable, crosses, free_tail.the_send, item.the_send) depth 40 fits 20000, (search (sendable, crosses, parker.the_field_send) depth 40 fits 20000, tt))))))))
 
@@ -35,6 +36,7 @@ module _ (κ : NamedLft) (config_sync : IsSync config.the_row) where
   pub dispatcher_send : IsSend (dispatcher.the_row κ)
   dispatcher_send = recorded_send (dispatcher.the_field κ).row (dispatcher.the_type κ).D (dispatcher.the_type κ).to (dispatcher.the_type κ).to_one (struct_send (shape (dispatcher.the_type κ)) dispatcher_parts)
 
+module _ (κ : NamedLft) (config_sync : IsSync config.the_row) where
   worker_parts : (G : RattleType) → IsSync G → AllSend (shape (worker.the_type κ G)).fields
   worker_parts G gate_sync = (search (sendable, crosses) depth 40 fits 20000, (search (sendable, crosses) depth 40 fits 20000, (search (sendable, crosses) depth 40 fits 20000, (search (sendable, crosses, state.the_send) depth 40 fits 20000, (search (sendable, crosses, free_queue.the_sync, trigger.the_send) depth 40 fits 20000, (search (sendable, crosses, free_head.the_send, trigger.the_send) depth 40 fits 20000, (search (sendable, crosses, inbox.the_send, manage.the_send) depth 40 fits 20000, (search (sendable, crosses, inbox.the_send, ended.the_send) depth 40 fits 20000, (search (sendable, crosses, parker.the_field_send) depth 40 fits 20000, (search (sendable, crosses) depth 40 fits 20000, tt))))))))))
 

@@ -1,10 +1,10 @@
 -- A whole run, from how its queues were opened and what its threads did: what ends them, and all that is known.
-use Rattle.std.proofs.Common.{◌≡◌, ◌∙◌, sym, ap, ℕ, List, [], ◌∷◌, length, map, Some}
+use Rattle.std.proofs.Common.{◌≡◌, ◌∙◌, refl, sym, ap, ℕ, List, [], ◌∷◌, length, map, Some}
 use Rattle.std.specs.Prelude.{Result, Ok, Err, IfOk, slice_get}
 use Rattle.std.specs.List.{range_with_len}
 use Rattle.gate_record.specs.declared.transit.PipelineItem.{PipelineItem}
 use Rattle.gate_record.specs.declared.transit.TenantItem.{TenantItem}
-use Rattle.gate_config.specs.declared.config.Config.{Config}
+use Rattle.gate_config.specs.declared.generations.Generations.{Generations}
 use Rattle.gate_config.specs.Lookups.{connections_of, pipelines_of, tenants_of}
 use Rattle.gate_source.specs.Stops.{IsNoteOf}
 use Rattle.gate_queue.specs.Seats.{Shape, TakerSeat}
@@ -15,16 +15,18 @@ use Rattle.gate_run.specs.declared.queues.Queues.{Queues}
 use Rattle.gate_run.specs.declared.reader.Reader.{Reader}
 use Rattle.gate_source.specs.Feeds.{Told}
 use Rattle.gate_run.specs.Inner.Lists.{Each}
+use Rattle.gate_run.specs.Asked.{AreKnown, AskedView}
 use Rattle.gate_run.specs.Ports.{InboxEnds}
 use Rattle.gate_run.specs.Inner.Queues.{AreOpen}
-use Rattle.gate_run.specs.Inner.Seatings.{IsReaderOf}
+use Rattle.gate_run.specs.Inner.Readers.{notes_of}
+use Rattle.gate_run.specs.Inner.Seatings.{IsReaderOf, cells_of}
 use Rattle.gate_run.specs.Inner.Seats.{seat_in, seat_of}
 use Rattle.gate_run.specs.Inner.Stages.{AreLanesSettled, IsStageSettled}
 use Rattle.gate_run.specs.Inner.Works.{Forwarded, HaveRun}
 use Rattle.gate_run.proofs.Evidence.{Evidence}
 use Rattle.gate_run.proofs.Paired.{map_length}
 use Rattle.gate_run.proofs.Places.{as_many}
-use Rattle.gate_run.proofs.Returning.{dispatcher_heads, dispatcher_tails, forwarder_heads, forwarder_tails, notes_back, tails_back, worker_heads}
+use Rattle.gate_run.proofs.Returning.{dispatcher_heads, dispatcher_tails, forwarder_heads, forwarder_tails, known_back, notes_back, tails_back, worker_heads}
 use Rattle.gate_run.proofs.Seated.{map_map}
 use Rattle.gate_run.proofs.Seatings.{as_many_of, count_here}
 use Rattle.gate_run.proofs.Staged.{lanes_as, range_length}
@@ -33,53 +35,56 @@ pub if_ok : {T E : Type 0} {A B C D Z : T → Type 0} (r : Result T E) → ((x :
 if_ok (Ok x) f a b c d = f x a b c d
 if_ok (Err e) f a b c d = a
 
-module _ {F : Type 0} (G : Type 0) (config : Config) (to_come : F → Told) (faults : F → ℕ) (feeds : List F) (inbox : List (List InboxEnds)) (cell : ℕ) (queues : Queues) (seats : QueueSeats) (ends : Ends F) (O : AreOpen config queues seats) (H : HaveRun G config to_come faults feeds inbox cell queues ends) where
+module _ {F : Type 0} (G : Type 0) (gens : Generations) (to_come : F → Told) (faults : F → ℕ) (feeds : List F) (inbox : List (List InboxEnds)) (asked : AskedView) (queues : Queues) (seats : QueueSeats) (ends : Ends F) (O : AreOpen gens.first queues seats) (H : HaveRun G gens to_come faults feeds inbox (cells_of gens asked) queues ends) where
   abbrev pub lanes : List (List Shape)
   lanes = map (λ lane. lane.items) queues.triggers.items
 
-  pub notes : Each (λ end. IsNoteOf cell end.note) ends.readers.items
-  notes = notes_back to_come faults cell (IsReaderOf faults feeds queues.records.items cell) (λ c (w : Reader F) (is : IsReaderOf faults feeds queues.records.items cell c w). is.can.note_of ∙ is.of_cell) H.readers ends.readers.items H.are_readers H.have_read
+  pub notes : Each (λ end. IsNoteOf asked.note.cell end.note) ends.readers.items
+  notes = notes_back to_come faults asked.note.cell (IsReaderOf faults feeds queues.records.items (cells_of gens asked)) (λ c (w : Reader F) (is : IsReaderOf faults feeds queues.records.items (cells_of gens asked) c w). is.can.note_of ∙ is.of_stop) H.readers ends.readers.items H.are_readers H.have_read
+
+  pub known : Each (λ end. AreKnown asked.cells (notes_of end.renewals.items)) ends.readers.items
+  known = known_back to_come faults asked.cells (IsReaderOf faults feeds queues.records.items (cells_of gens asked)) (λ c (w : Reader F) (is : IsReaderOf faults feeds queues.records.items (cells_of gens asked) c w). is.of_later) H.readers ends.readers.items H.are_readers H.have_read
 
   pub record_heads : map (λ end. end.head.queue) ends.forwarders.items ≡ map (λ queue. queue.name) queues.records.items
-  record_heads = forwarder_heads config queues.records.items queues.items.items H.forwarders ends.forwarders.items H.are_forwarders H.have_forwarded (H.forwarder_count ∙ sym O.records.many)
+  record_heads = forwarder_heads gens queues.records.items queues.items.items H.forwarders ends.forwarders.items H.are_forwarders H.have_forwarded (H.forwarder_count ∙ sym O.records.many)
 
   pub record_tails : map (λ end. seat_of end.tail) ends.readers.items ≡ map (seat_in 0) queues.records.items
-  record_tails = tails_back to_come faults feeds queues.records.items cell H.readers ends.readers.items H.are_readers H.have_read (H.reader_count ∙ sym O.records.many)
+  record_tails = tails_back to_come faults feeds queues.records.items (cells_of gens asked) H.readers ends.readers.items H.are_readers H.have_read (H.reader_count ∙ sym O.records.many)
 
   pub item_senders : map (λ queue. queue.name.senders) queues.items.items ≡ map (λ queue. length ends.forwarders.items) queues.items.items
   item_senders = O.items.of_senders ∙ ap (λ n. map (λ (queue : Shape). n) queues.items.items) (sym H.forwarder_count ∙ as_many Forwarded H.forwarders ends.forwarders.items H.have_forwarded)
 
   pub item_heads : map (λ end. end.head.queue) ends.dispatchers.items ≡ map (λ queue. queue.name) queues.items.items
-  item_heads = dispatcher_heads config queues.items.items lanes H.dispatchers ends.dispatchers.items H.are_dispatchers H.have_dispatched (H.dispatcher_count ∙ sym O.items.many)
+  item_heads = dispatcher_heads gens queues.items.items lanes H.dispatchers ends.dispatchers.items H.are_dispatchers H.have_dispatched (H.dispatcher_count ∙ sym O.items.many)
 
   pub item_tails : map (λ end. map seat_of end.tails.items) ends.forwarders.items ≡ map (λ s. map (seat_in s) queues.items.items) (range_with_len 0 (length ends.forwarders.items))
-  item_tails = forwarder_tails config queues.records.items queues.items.items H.forwarders ends.forwarders.items H.are_forwarders H.have_forwarded
+  item_tails = forwarder_tails gens queues.records.items queues.items.items H.forwarders ends.forwarders.items H.are_forwarders H.have_forwarded
 
-  lane_count : length lanes ≡ length (tenants_of config)
+  lane_count : length lanes ≡ length (tenants_of gens.first)
   lane_count =
       map_length (λ lane. lane.items) queues.triggers.items
-      ∙ as_many_of (λ lane. length lane.items) (λ t. length (pipelines_of config t)) queues.triggers.items (range_with_len 0 (length (tenants_of config))) O.trigger_counts
-      ∙ range_length 0 (length (tenants_of config))
+      ∙ as_many_of (λ lane. length lane.items) (λ t. length (pipelines_of gens.first t)) queues.triggers.items (range_with_len 0 (length (tenants_of gens.first))) O.trigger_counts
+      ∙ range_length 0 (length (tenants_of gens.first))
 
-  lane_wide : (t : ℕ) (lane : List Shape) → slice_get lanes t ≡ Some lane → length lane ≡ length (pipelines_of config t)
-  lane_wide t lane at = count_here length (λ k. length (pipelines_of config k)) lanes (length (tenants_of config)) t lane (map_map length (λ lane. lane.items) queues.triggers.items ∙ O.trigger_counts) at
+  lane_wide : (t : ℕ) (lane : List Shape) → slice_get lanes t ≡ Some lane → length lane ≡ length (pipelines_of gens.first t)
+  lane_wide t lane at = count_here length (λ k. length (pipelines_of gens.first k)) lanes (length (tenants_of gens.first)) t lane (map_map length (λ lane. lane.items) queues.triggers.items ∙ O.trigger_counts) at
 
   pub trigger_heads : map (λ list. map (λ end. end.head.queue) list.items) ends.workers.items ≡ map (λ lane. map (λ queue. queue.name) lane.items) queues.triggers.items
   trigger_heads =
       sym (map_map (map (λ end. end.head.queue)) (λ list. list.items) ends.workers.items)
-      ∙ worker_heads config lanes inbox H.workers (map (λ list. list.items) ends.workers.items) H.are_workers H.have_worked (H.worker_count ∙ sym lane_count) lane_wide
+      ∙ worker_heads gens.first lanes inbox H.workers (map (λ list. list.items) ends.workers.items) H.are_workers H.have_worked (H.worker_count ∙ sym lane_count) lane_wide
       ∙ map_map (map (λ (queue : Shape). queue.name)) (λ lane. lane.items) queues.triggers.items
 
   pub trigger_tails : map (λ end. map seat_of end.tails.items) ends.dispatchers.items ≡ map (λ lane. map (seat_in 0) lane.items) queues.triggers.items
   trigger_tails =
-      dispatcher_tails config queues.items.items lanes H.dispatchers ends.dispatchers.items H.are_dispatchers H.have_dispatched (H.dispatcher_count ∙ sym lane_count)
+      dispatcher_tails gens queues.items.items lanes H.dispatchers ends.dispatchers.items H.are_dispatchers H.have_dispatched (H.dispatcher_count ∙ sym lane_count)
       ∙ map_map (map (seat_in 0)) (λ lane. lane.items) queues.triggers.items
 
-  abbrev pub evidence : length feeds ≡ length (connections_of config)
+  abbrev pub evidence : length feeds ≡ length (connections_of gens.first)
       → IsStageSettled queues.records.items (map (λ end. end.head) ends.forwarders.items) (map (λ end. end.tail) ends.readers.items ∷ [])
       → IsStageSettled queues.items.items (map (λ end. end.head) ends.dispatchers.items) (map (λ end. end.tails.items) ends.forwarders.items)
       → AreLanesSettled lanes (map (λ list. map (λ end. end.head) list.items) ends.workers.items) (map (λ end. end.tails.items) ends.dispatchers.items)
-      → Evidence G config to_come faults feeds inbox cell
+      → Evidence G gens to_come faults feeds inbox (cells_of gens asked)
   evidence fed records_settled items_settled triggers_settled = record {
     records = queues.records.items;
     items = queues.items.items;
@@ -100,6 +105,7 @@ module _ {F : Type 0} (G : Type 0) (config : Config) (to_come : F → Told) (fau
     record_senders = O.records.of_senders;
     item_senders = O.items.of_senders;
     trigger_senders = map_map (map (λ (queue : Shape). queue.name.senders)) (λ lane. lane.items) queues.triggers.items ∙ O.trigger_senders ∙ sym (map_map (map (λ (queue : Shape). 1)) (λ lane. lane.items) queues.triggers.items);
+    generation_count = refl;
     are_readers = H.are_readers;
     are_forwarders = H.are_forwarders;
     are_dispatchers = H.are_dispatchers;

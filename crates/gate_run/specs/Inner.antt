@@ -1,4 +1,5 @@
 -- What only private contracts and proofs cite: no public contract rests on it.
+pub mod Asked
 pub mod Dispatchers
 pub mod Forwarders
 pub mod Gatherings

@@ -1,3 +1,4 @@
+pub mod Asked
 pub mod Gatherings
 pub mod Inner
 pub mod Lists

@@ -2,6 +2,8 @@
 use Rattle.std.specs.Prelude.{◌≡◌, ℕ, zero, suc, List, [], ◌∷◌, Option, None, length, map, option_and_then, slice_get}
 use Rattle.std.specs.List.{range_with_len}
 use Rattle.gate_config.specs.declared.config.Config.{Config}
+use Rattle.gate_config.specs.declared.generations.Generations.{Generations}
+use Rattle.gate_config.specs.Generations.{count_of}
 use Rattle.gate_config.specs.Lookups.{pipelines_of, tenants_of}
 use Rattle.gate_items.specs.declared.action.JobResult.{JobResult}
 use Rattle.gate_items.specs.declared.action.Manage.{Manage}
@@ -26,14 +28,19 @@ pub record InboxEnds : Type 0 where
   pub management : TakerSeat Manage
   pub results : TakerSeat JobResult
 
--- the posts of all pipelines, by tenant and pipeline number, and what is known of the stop cell
+-- the posts of all pipelines, by tenant and pipeline number; what is known of the stop cell; the cells of the generations behind
+-- the first, in order; and a note for each of those that were asked for, in order
 pub record PostsView : Type 0 where
   pub pipelines : List (List PostEnds)
   pub note : Note
+  pub cells : List ℕ
+  pub asked : List Note
 
 pub record InboxView : Type 0 where
   pub pipelines : List (List InboxEnds)
   pub note : Note
+  pub cells : List ℕ
+  pub asked : List Note
 
 -- what stands for pipeline p of tenant t
 abbrev pub at_pipeline : {A : Type 0} → ℕ → ℕ → List (List A) → Option A
@@ -79,10 +86,14 @@ pipeline_counts config = map (λ t. length (pipelines_of config t)) (range_with_
 abbrev pub IsInboxFor : Config → InboxView → Type 0
 IsInboxFor config inbox = map length inbox.pipelines ≡ pipeline_counts config
 
--- The posts and the inbox of a configuration: both have one end each of the queues of each pipeline, and a note of one stop cell.
-pub record ArePosts (config : Config) (posts : PostsView) (inbox : InboxView) : Type 0 where
-  pub tenants : map length posts.pipelines ≡ pipeline_counts config
-  pub inbox_for : IsInboxFor config inbox
+-- The posts and the inbox of a configuration: both have one end each of the queues of each pipeline, a note of one stop cell, and
+-- the cells of all generations behind the first, none of which was asked for.
+pub record ArePosts (gens : Generations) (posts : PostsView) (inbox : InboxView) : Type 0 where
+  pub tenants : map length posts.pipelines ≡ pipeline_counts gens.first
+  pub inbox_for : IsInboxFor gens.first inbox
   pub opened : Pairwise (Pairwise (AreOpened places)) posts.pipelines inbox.pipelines
   pub cell : posts.note.cell ≡ inbox.note.cell
   pub knows_none : (posts.note.cause ≡ None) × (inbox.note.cause ≡ None)
+  pub cells : posts.cells ≡ inbox.cells
+  pub how_many : suc (length posts.cells) ≡ count_of gens
+  pub none_asked : (posts.asked ≡ []) × (inbox.asked ≡ [])

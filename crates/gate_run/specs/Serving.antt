@@ -1,10 +1,13 @@
 -- What is promised of the running threads once they have returned.
-use Rattle.std.specs.Prelude.{◌≡◌, ℕ, List, [], true, Option, Some, length, map, slice_get, unwrap_or}
+use Rattle.std.specs.Prelude.{◌≡◌, ◌<◌, ◌≤◌, ℕ, List, [], All, true, Option, Some, length, map, option_map, slice_get, unwrap_or}
 use Rattle.std.specs.List.{filter_map}
 use Rattle.gate_record.specs.declared.ids.Stamp.{Stamp}
 use Rattle.gate_record.specs.declared.record.Record.{Record}
+use Rattle.gate_record.specs.Entries.{beside}
 use Rattle.gate_record.specs.Prefixes.{IsPrefixOf}
 use Rattle.gate_config.specs.declared.config.Config.{Config}
+use Rattle.gate_config.specs.declared.generations.Generations.{Generations}
+use Rattle.gate_config.specs.Generations.{count_of}
 use Rattle.gate_config.specs.Lookups.{lists}
 use Rattle.gate_items.specs.declared.action.Action.{Action}
 use Rattle.gate_pipeline.specs.Histories.{AreProcessed, History, triggering}
@@ -13,8 +16,9 @@ use Rattle.gate_core.specs.declared.report.ConnectionReport.{ConnectionReport}
 use Rattle.gate_core.specs.declared.report.PipelineReport.{PipelineReport}
 use Rattle.gate_core.specs.declared.report.RunReport.{RunReport}
 use Rattle.gate_core.specs.History.{asked_among, numbers_from, wanted}
-use Rattle.gate_source.specs.Stops.{Note}
 use Rattle.gate_source.specs.Feeds.{AreFirst, Told}
+use Rattle.gate_source.specs.Sources.{NeverFalls}
+use Rattle.gate_run.specs.Asked.{AreKnown}
 use Rattle.gate_run.specs.Gatherings.{report_of_pipeline}
 use Rattle.gate_run.specs.Ports.{InboxEnds, InboxView, IsInboxFor, at_pipeline, pipeline_counts}
 use Rattle.gate_run.specs.Readers.{Means, is_closed}
@@ -24,26 +28,36 @@ use Rattle.gate_run.specs.Workers.{TookMore}
 abbrev pub lines_of : ℕ → List (List Record) → List Record
 lines_of c lines = unwrap_or (slice_get lines c) []
 
--- These records of a connection were accepted, and its report says how many there are and why there are no more. They are the
--- first of those that its feed had still to tell; before and after, by what it tells and by how many faults it has answered.
-pub record HasEnded (before after : Told) (faults faults' : ℕ) (lines : List Record) (report : ConnectionReport) (note : Note) : Type 0 where
+-- how many records connection c had accepted before each of its renewals
+abbrev pub renewals_of : ℕ → List ConnectionReport → List ℕ
+renewals_of c reports = unwrap_or (option_map (λ (report : ConnectionReport). report.renewals) (slice_get reports c)) []
+
+-- These records of a connection were accepted, and its report says how many there are, how many there were before each renewal,
+-- and why there are no more. They are the first of those that its feed had still to tell; before and after, by what it tells and by
+-- how many faults it has answered.
+pub record HasEnded (gens : Generations) (before after : Told) (faults faults' : ℕ) (lines : List Record) (report : ConnectionReport) (inbox : InboxView) : Type 0 where
   pub first : AreFirst lines before
   pub accepted : report.accepted ≡ length lines
-  pub means : Means report.cause before after lines faults faults' note
+  pub never_fall : NeverFalls report.renewals
+  pub within : All (λ m. m ≤ report.accepted) report.renewals
+  -- each renewal is of a generation behind the first, and the inbox has a note of its cell
+  pub few : length report.renewals < count_of gens
+  pub asked_for : length report.renewals ≤ length inbox.asked
+  pub means : Means report.cause before after lines faults faults' inbox.note
 
 -- The feeds came back in order, one for each connection, and so each connection has ended.
-pub record HaveEnded {F : Type 0} (to_come : F → Told) (faults : F → ℕ) (feeds feeds' : List F) (lines : List (List Record)) (reports : List ConnectionReport) (note : Note) : Type 0 where
+pub record HaveEnded {F : Type 0} (gens : Generations) (to_come : F → Told) (faults : F → ℕ) (feeds feeds' : List F) (lines : List (List Record)) (reports : List ConnectionReport) (inbox : InboxView) : Type 0 where
   pub feeds_back : length feeds' ≡ length feeds
   pub all_lines : length lines ≡ length feeds
   pub all_reports : length reports ≡ length feeds
   pub each : (c : ℕ) (feed feed' : F) (own : List Record) (report : ConnectionReport) → slice_get feeds c ≡ Some feed → slice_get feeds' c ≡ Some feed' → slice_get lines c ≡ Some own → slice_get reports c ≡ Some report →
-      HasEnded (to_come feed) (to_come feed') (faults feed) (faults feed') own report note
+      HasEnded gens (to_come feed) (to_come feed') (faults feed) (faults feed') own report inbox
 
--- What each pipeline has processed of the accepted records is, connection by connection, a prefix of what is wanted of them, and all
--- of it where the pipeline is finished.
-pub record Delivers (config : Config) (lines : List (List Record)) (pipelines : List (List PipelineReport)) : Type 0 where
-  pub in_order : (t p c : ℕ) (pipeline : PipelineReport) → at_pipeline t p pipelines ≡ Some pipeline → IsPrefixOf (numbers_from c pipeline.done) (wanted config t p c (lines_of c lines))
-  pub whole : (t p c : ℕ) (pipeline : PipelineReport) → at_pipeline t p pipelines ≡ Some pipeline → pipeline.finished ≡ true → numbers_from c pipeline.done ≡ wanted config t p c (lines_of c lines)
+-- What each pipeline has processed of the accepted records is, connection by connection, a prefix of what is wanted of them, each
+-- beside the generation in force at it, and all of it where the pipeline is finished.
+pub record Delivers (gens : Generations) (lines : List (List Record)) (connections : List ConnectionReport) (pipelines : List (List PipelineReport)) : Type 0 where
+  pub in_order : (t p c : ℕ) (pipeline : PipelineReport) → at_pipeline t p pipelines ≡ Some pipeline → IsPrefixOf (numbers_from c pipeline.done) (wanted gens t p c (beside (renewals_of c connections) (lines_of c lines)))
+  pub whole : (t p c : ℕ) (pipeline : PipelineReport) → at_pipeline t p pipelines ≡ Some pipeline → pipeline.finished ≡ true → numbers_from c pipeline.done ≡ wanted gens t p c (beside (renewals_of c connections) (lines_of c lines))
 
 -- A pipeline has processed what its worker took: as triggers what the accepted records of their stamps ask for, and of management
 -- events and results just what the inbox's seats took meanwhile.
@@ -57,17 +71,22 @@ pub record HasProcessed (config : Config) (t p : ℕ) (lines : List (List Record
 
 -- All that is promised of a run that has returned: of the feeds and the inbox, before and after, of its report, and of the pipelines
 -- that come back.
-pub record Serves {F : Type 0} (config : Config) (to_come : F → Told) (faults : F → ℕ) (feeds feeds' : List F) (inbox inbox' : InboxView) (report : RunReport) (pipelines : List (List State)) : Type 0 where
+pub record Serves {F : Type 0} (gens : Generations) (to_come : F → Told) (faults : F → ℕ) (feeds feeds' : List F) (inbox inbox' : InboxView) (report : RunReport) (pipelines : List (List State)) : Type 0 where
   -- the records that each connection accepted
   pub lines : List (List Record)
-  pub connections : HaveEnded to_come faults feeds feeds' lines report.connections inbox'.note
-  pub delivers : Delivers config lines report.pipelines
+  pub connections : HaveEnded gens to_come faults feeds feeds' lines report.connections inbox'
+  pub delivers : Delivers gens lines report.connections report.pipelines
   -- a pipeline is finished only where the end mark of each connection that its tenant lists was put
-  pub behind_marks : (t p c : ℕ) (pipeline : PipelineReport) (connection : ConnectionReport) → at_pipeline t p report.pipelines ≡ Some pipeline → pipeline.finished ≡ true → lists config t c ≡ true → slice_get report.connections c ≡ Some connection →
+  pub behind_marks : (t p c : ℕ) (pipeline : PipelineReport) (connection : ConnectionReport) → at_pipeline t p report.pipelines ≡ Some pipeline → pipeline.finished ≡ true → lists gens.first t c ≡ true → slice_get report.connections c ≡ Some connection →
       is_closed connection.cause ≡ true
   pub reports : report.pipelines ≡ map (map report_of_pipeline) pipelines
-  pub processes : (t p : ℕ) (ends ends' : InboxEnds) (state : State) → at_pipeline t p inbox.pipelines ≡ Some ends → at_pipeline t p inbox'.pipelines ≡ Some ends' → at_pipeline t p pipelines ≡ Some state → HasProcessed config t p lines ends ends' state
+  pub processes : (t p : ℕ) (ends ends' : InboxEnds) (state : State) → at_pipeline t p inbox.pipelines ≡ Some ends → at_pipeline t p inbox'.pipelines ≡ Some ends' → at_pipeline t p pipelines ≡ Some state → HasProcessed gens.first t p lines ends ends' state
   -- a pipeline for each of the configuration
-  pub counts : map length pipelines ≡ pipeline_counts config
-  pub inbox_for : IsInboxFor config inbox'
+  pub counts : map length pipelines ≡ pipeline_counts gens.first
+  pub inbox_for : IsInboxFor gens.first inbox'
   pub cell : inbox'.note.cell ≡ inbox.note.cell
+  -- the cells of the generations behind the first are the same, and what the inbox has of them are notes of the first, no fewer than
+  -- before, which all know that the generation was asked for
+  pub cells : inbox'.cells ≡ inbox.cells
+  pub known : AreKnown inbox'.cells inbox'.asked
+  pub no_fewer : length inbox.asked ≤ length inbox'.asked

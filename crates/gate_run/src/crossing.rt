@@ -8,6 +8,7 @@ ghost use Rattle.gate_rule.specs.contracts.entry.Entry as entry_type;
 ghost use Rattle.gate_rule.specs.contracts.rule.Rule as rule_type;
 ghost use Rattle.gate_config.specs.contracts.config.PipelineSpec as pipeline_type;
 ghost use Rattle.gate_config.specs.contracts.config.Config as config_type;
+ghost use Rattle.gate_config.specs.contracts.generations.Generations as generations_type;
 
 use gate_config::{Config, PipelineSpec, TenantSpec};
 use gate_rule::{Pattern, Rule};
@@ -77,4 +78,12 @@ pub fn config_crosses()
     pipeline_crosses();
     crosses::<TenantSpec>();
     crosses::<Config>();
+}
+
+/// The generations of one may be given and lent to other threads: a law, for those that start some of their own.
+pub fn generations_cross()
+    ensures send { IsSend generations_type.the_row }
+    ensures sync { IsSync generations_type.the_row }
+{
+    config_crosses();
 }

@@ -2,7 +2,7 @@
 ghost use Rattle.std.specs.Prelude.{◌≡◌, ◌==◌, ◌+◌, ◌<◌, ◌≤◌, ◌∷◌, ◌++◌, [], false, length, map, None};
 ghost use Rattle.gate_config.specs.Lookups.{pipelines_of};
 ghost use Rattle.gate_queue.specs.Seats.{IsHeadOf};
-ghost use Rattle.gate_tenant.specs.States.{config_of, has_ended, reserved_of, room_of, state_of, tenant_of};
+ghost use Rattle.gate_tenant.specs.States.{gens_of, has_ended, reserved_of, room_of, state_of, tenant_of};
 ghost use Rattle.gate_run.specs.Inner.Dispatchers.{Continues, GivenInOrder, HasDispatched, IsDispatching};
 ghost use Rattle.gate_run.specs.Inner.Seats.{seat_of};
 ghost use Rattle.gate_run.specs.Inner.Steps.{GoesOn};
@@ -13,7 +13,7 @@ use crate::signals::Signals;
 use crate::went::Went;
 use crate::works::Work;
 use crossbeam_utils::sync::Parker;
-use gate_config::Config;
+use gate_config::Generations;
 use gate_queue::{FreeHead, FreeQueue, FreeTail};
 use gate_record::{Memory, PipelineItem, TenantId, TenantItem};
 use gate_tenant::{Dispatch, each_pipeline_gets_its_own, nothing_that_was_gathered_is_lost};
@@ -26,7 +26,7 @@ use std::time::Clock;
 #[derive(Drop)]
 pub(crate) struct Dispatcher<'a> {
     pub(crate) alloc: Global,
-    pub(crate) config: &'a Config,
+    pub(crate) gens: &'a Generations,
     pub(crate) tenant: TenantId,
     /// The tenant's queue, and the taker's seat in it.
     pub(crate) source: &'a FreeQueue<TenantItem>,
@@ -40,9 +40,9 @@ pub(crate) struct Dispatcher<'a> {
 impl<'a> Work<PassedOn<FreeHead<TenantItem>, PipelineItem>> for Dispatcher<'a> {
     ghost use Rattle.gate_run.specs.Inner.Dispatchers.{CanDispatch};
 
-    ghost ready = { λ w. CanDispatch w.config.now w.tenant.0 w.source.now w.targets.now w.head w.tails.items };
+    ghost ready = { λ w. CanDispatch w.gens.now w.tenant.0 w.source.now w.targets.now w.head w.tails.items };
 
-    ghost comes_to = { λ w end. HasDispatched w.config.now w.tenant.0 w.source.now w.targets.now end.head end.tails.items };
+    ghost comes_to = { λ w end. HasDispatched w.gens.now w.tenant.0 w.source.now w.targets.now end.head end.tails.items };
 
     fn work<R: Threads + Wait + Clock + Sync>(
         self,
@@ -51,7 +51,7 @@ impl<'a> Work<PassedOn<FreeHead<TenantItem>, PipelineItem>> for Dispatcher<'a> {
     ) -> PassedOn<FreeHead<TenantItem>, PipelineItem> {
         let Dispatcher {
             alloc,
-            config,
+            gens,
             tenant,
             source,
             head,
@@ -64,7 +64,7 @@ impl<'a> Work<PassedOn<FreeHead<TenantItem>, PipelineItem>> for Dispatcher<'a> {
             return PassedOn { head, tails };
         };
         // What it matches by is made here, where it is used, so that no other thread has to be able to use it.
-        let Ok(dispatch) = Dispatch::new(alloc, config, tenant) else {
+        let Ok(dispatch) = Dispatch::new(alloc, gens, tenant) else {
             signals.halt();
             return PassedOn { head, tails };
         };
@@ -111,8 +111,8 @@ impl<'c> Dispatching<'c> {
     ) -> Went
         requires head { IsHeadOf source.now self.old.head }
         requires seats { map (λ tail. tail.queue) self.old.tails.items ≡ map (λ queue. queue.name) targets.now }
-        requires dispatches { IsDispatching (config_of self.old.dispatch) (tenant_of self.old.dispatch) self.old.dispatch self.old.head self.old.tails.items }
-        ensures dispatches { IsDispatching (config_of self.old.dispatch) (tenant_of self.old.dispatch) self.new.dispatch self.new.head self.new.tails.items }
+        requires dispatches { IsDispatching (gens_of self.old.dispatch) (tenant_of self.old.dispatch) self.old.dispatch self.old.head self.old.tails.items }
+        ensures dispatches { IsDispatching (gens_of self.old.dispatch) (tenant_of self.old.dispatch) self.new.dispatch self.new.head self.new.tails.items }
         ensures head { self.new.head.queue ≡ self.old.head.queue }
         ensures seats { map seat_of self.new.tails.items ≡ map seat_of self.old.tails.items }
     {
@@ -144,8 +144,8 @@ impl<'c> Dispatching<'c> {
         owed: &mut Owed,
     ) -> Went
         requires seats { map (λ tail. tail.queue) self.old.tails.items ≡ map (λ queue. queue.name) targets.now }
-        requires dispatches { IsDispatching (config_of self.old.dispatch) (tenant_of self.old.dispatch) self.old.dispatch self.old.head self.old.tails.items }
-        ensures dispatches { IsDispatching (config_of self.old.dispatch) (tenant_of self.old.dispatch) self.new.dispatch self.new.head self.new.tails.items }
+        requires dispatches { IsDispatching (gens_of self.old.dispatch) (tenant_of self.old.dispatch) self.old.dispatch self.old.head self.old.tails.items }
+        ensures dispatches { IsDispatching (gens_of self.old.dispatch) (tenant_of self.old.dispatch) self.new.dispatch self.new.head self.new.tails.items }
         ensures head { self.new.head ≡ self.old.head }
         ensures seats { map seat_of self.new.tails.items ≡ map seat_of self.old.tails.items }
     {
@@ -169,11 +169,11 @@ impl<'c> Dispatching<'c> {
     // Takes what waits, up to a block of it, and gathers it.
     fn take<R: Wait>(&mut self, rt: &R, source: &FreeQueue<TenantItem>, signals: &Signals) -> Went
         requires room { 0 < room_of (state_of self.old.dispatch) }
-        requires goes_on { has_ended (config_of self.old.dispatch) (tenant_of self.old.dispatch) (state_of self.old.dispatch) ≡ false }
+        requires goes_on { has_ended (gens_of self.old.dispatch).first (tenant_of self.old.dispatch) (state_of self.old.dispatch) ≡ false }
         requires head { IsHeadOf source.now self.old.head }
-        requires dispatches { IsDispatching (config_of self.old.dispatch) (tenant_of self.old.dispatch) self.old.dispatch self.old.head self.old.tails.items }
-        ensures dispatches { IsDispatching (config_of self.old.dispatch) (tenant_of self.old.dispatch) self.new.dispatch self.new.head self.new.tails.items }
-        ensures config { config_of self.new.dispatch ≡ config_of self.old.dispatch }
+        requires dispatches { IsDispatching (gens_of self.old.dispatch) (tenant_of self.old.dispatch) self.old.dispatch self.old.head self.old.tails.items }
+        ensures dispatches { IsDispatching (gens_of self.old.dispatch) (tenant_of self.old.dispatch) self.new.dispatch self.new.head self.new.tails.items }
+        ensures gens { gens_of self.new.dispatch ≡ gens_of self.old.dispatch }
         ensures tenant { tenant_of self.new.dispatch ≡ tenant_of self.old.dispatch }
         ensures head { self.new.head.queue ≡ self.old.head.queue }
         ensures tails { self.new.tails ≡ self.old.tails }
@@ -195,8 +195,8 @@ impl<'c> Dispatching<'c> {
     // Matches what is gathered.
     fn match_gathered(&mut self, alloc: Global, signals: &Signals) -> Went
         requires gathered { (length (state_of self.old.dispatch).gathered == 0) ≡ false }
-        requires dispatches { IsDispatching (config_of self.old.dispatch) (tenant_of self.old.dispatch) self.old.dispatch self.old.head self.old.tails.items }
-        ensures dispatches { IsDispatching (config_of self.old.dispatch) (tenant_of self.old.dispatch) self.new.dispatch self.new.head self.new.tails.items }
+        requires dispatches { IsDispatching (gens_of self.old.dispatch) (tenant_of self.old.dispatch) self.old.dispatch self.old.head self.old.tails.items }
+        ensures dispatches { IsDispatching (gens_of self.old.dispatch) (tenant_of self.old.dispatch) self.new.dispatch self.new.head self.new.tails.items }
         ensures head { self.new.head ≡ self.old.head }
         ensures tails { self.new.tails ≡ self.old.tails }
     {
@@ -211,11 +211,11 @@ impl<'c> Dispatching<'c> {
 
     // The seats.
     fn end(self) -> PassedOn<FreeHead<TenantItem>, PipelineItem>
-        requires pipelines { length self.tails.items ≡ length (pipelines_of (config_of self.dispatch) (tenant_of self.dispatch)) }
-        requires dispatches { IsDispatching (config_of self.dispatch) (tenant_of self.dispatch) self.dispatch self.head self.tails.items }
+        requires pipelines { length self.tails.items ≡ length (pipelines_of (gens_of self.dispatch).first (tenant_of self.dispatch)) }
+        requires dispatches { IsDispatching (gens_of self.dispatch) (tenant_of self.dispatch) self.dispatch self.head self.tails.items }
         ensures head { result.head ≡ self.entry.head }
         ensures tails { result.tails ≡ self.entry.tails }
-        ensures given { GivenInOrder (config_of self.entry.dispatch) (tenant_of self.entry.dispatch) self.entry.head.taken self.entry.tails.items }
+        ensures given { GivenInOrder (gens_of self.entry.dispatch) (tenant_of self.entry.dispatch) self.entry.head.taken self.entry.tails.items }
     {
         each_pipeline_gets_its_own();
         nothing_that_was_gathered_is_lost();
@@ -233,12 +233,12 @@ fn gather_batch<R: Wait>(
     most: usize,
 )
     requires in_hand { (state_of dispatch.old).out ≡ None }
-    requires goes_on { has_ended (config_of dispatch.old) (tenant_of dispatch.old) (state_of dispatch.old) ≡ false }
+    requires goes_on { has_ended (gens_of dispatch.old).first (tenant_of dispatch.old) (state_of dispatch.old) ≡ false }
     requires room { most ≤ room_of (state_of dispatch.old) }
     requires reserved { most ≤ reserved_of dispatch.old }
     requires head { IsHeadOf source.now head.old }
     ensures continues { Continues dispatch.old head.old dispatch.new head.new }
-    ensures config { config_of dispatch.new ≡ config_of dispatch.old }
+    ensures gens { gens_of dispatch.new ≡ gens_of dispatch.old }
     ensures tenant { tenant_of dispatch.new ≡ tenant_of dispatch.old }
     ensures head { head.new.queue ≡ head.old.queue }
 {
@@ -250,10 +250,10 @@ fn gather_batch<R: Wait>(
 // Gathers an item, for which room was made.
 fn gather(dispatch: &mut Dispatch, item: TenantItem)
     requires in_hand { (state_of dispatch.old).out ≡ None }
-    requires goes_on { has_ended (config_of dispatch.old) (tenant_of dispatch.old) (state_of dispatch.old) ≡ false }
+    requires goes_on { has_ended (gens_of dispatch.old).first (tenant_of dispatch.old) (state_of dispatch.old) ≡ false }
     requires room { 0 < room_of (state_of dispatch.old) }
     requires reserved { 0 < reserved_of dispatch.old }
-    ensures config { config_of dispatch.new ≡ config_of dispatch.old }
+    ensures gens { gens_of dispatch.new ≡ gens_of dispatch.old }
     ensures tenant { tenant_of dispatch.new ≡ tenant_of dispatch.old }
     ensures gathers { state_of dispatch.new ≡ record (state_of dispatch.old) { gathered = (state_of dispatch.old).gathered ++ item ∷ [] } }
     ensures reserved { reserved_of dispatch.old ≤ reserved_of dispatch.new + 1 }

@@ -1,7 +1,7 @@
 //! The thread that forwards a connection's entries to the tenants.
 ghost use Rattle.std.specs.Prelude.{◌≡◌, [], length, map, None};
 ghost use Rattle.gate_config.specs.Lookups.{tenants_of};
-ghost use Rattle.gate_forward.specs.Hands.{config_of, conn_of, hand_of};
+ghost use Rattle.gate_forward.specs.Hands.{conn_of, gens_of, hand_of};
 ghost use Rattle.gate_queue.specs.Seats.{IsHeadOf};
 ghost use Rattle.gate_run.specs.Inner.Forwarders.{HasForwarded, IsForwarding, PutInOrder};
 ghost use Rattle.gate_run.specs.Inner.Seats.{seat_of};
@@ -13,11 +13,11 @@ use crate::signals::Signals;
 use crate::went::Went;
 use crate::works::Work;
 use crossbeam_utils::sync::Parker;
-use gate_config::Config;
+use gate_config::Generations;
 use gate_core::PLACES;
-use gate_forward::{Forward, each_tenant_gets_its_own};
+use gate_forward::{Forward, Last, each_tenant_gets_its_own};
 use gate_queue::{EventQueue, FreeQueue, FreeTail, Head};
-use gate_record::{ConnEntry, ConnId, Memory, TenantId, TenantItem};
+use gate_record::{ConnEntry, ConnId, Memory, TenantId, TenantItem, entries_have_generations};
 use std::alloc::Global;
 use std::sync::Wait;
 use std::thread::Threads;
@@ -30,7 +30,7 @@ const MANY_TAKEN: usize = PLACES / 4;
 #[derive(Drop)]
 pub(crate) struct Forwarder<'a> {
     pub(crate) alloc: Global,
-    pub(crate) config: &'a Config,
+    pub(crate) gens: &'a Generations,
     pub(crate) conn: ConnId,
     /// The connection's queue, and the taker's seat in it.
     pub(crate) source: &'a EventQueue<ConnEntry>,
@@ -44,9 +44,9 @@ pub(crate) struct Forwarder<'a> {
 impl<'a> Work<PassedOn<Head<ConnEntry>, TenantItem>> for Forwarder<'a> {
     ghost use Rattle.gate_run.specs.Inner.Forwarders.{CanForward};
 
-    ghost ready = { λ w. CanForward w.config.now w.conn.0 w.source.now w.targets.now w.head w.tails.items };
+    ghost ready = { λ w. CanForward w.gens.now w.conn.0 w.source.now w.targets.now w.head w.tails.items };
 
-    ghost comes_to = { λ w end. HasForwarded w.config.now w.conn.0 w.source.now w.targets.now end.head end.tails.items };
+    ghost comes_to = { λ w end. HasForwarded w.gens.now w.conn.0 w.source.now w.targets.now end.head end.tails.items };
 
     fn work<R: Threads + Wait + Clock + Sync>(
         self,
@@ -55,7 +55,7 @@ impl<'a> Work<PassedOn<Head<ConnEntry>, TenantItem>> for Forwarder<'a> {
     ) -> PassedOn<Head<ConnEntry>, TenantItem> {
         let Forwarder {
             alloc,
-            config,
+            gens,
             conn,
             source,
             head,
@@ -68,7 +68,7 @@ impl<'a> Work<PassedOn<Head<ConnEntry>, TenantItem>> for Forwarder<'a> {
             return PassedOn { head, tails };
         };
         let mut forwarding = Forwarding {
-            hand: Forward::new(config, conn),
+            hand: Forward::new(gens, conn),
             head,
             kept: None,
             tails,
@@ -93,7 +93,8 @@ impl<'a> Work<PassedOn<Head<ConnEntry>, TenantItem>> for Forwarder<'a> {
     }
 }
 
-// A forwarder at work. An entry that was taken and couldn't be loaded is kept.
+// A forwarder at work. An entry that was taken and couldn't be loaded, since memory was refused or no generation is behind the one in
+// force, is kept.
 #[derive(Drop)]
 pub(crate) struct Forwarding<'c> {
     pub(crate) hand: Forward<'c>,
@@ -116,8 +117,8 @@ impl<'c> Forwarding<'c> {
         requires kept { self.old.kept ≡ None }
         requires head { IsHeadOf source.now self.old.head }
         requires seats { map (λ tail. tail.queue) self.old.tails.items ≡ map (λ queue. queue.name) targets.now }
-        requires forwards { IsForwarding (config_of self.old.hand) (conn_of self.old.hand) self.old }
-        ensures forwards { IsForwarding (config_of self.old.hand) (conn_of self.old.hand) self.new }
+        requires forwards { IsForwarding (gens_of self.old.hand) (conn_of self.old.hand) self.old }
+        ensures forwards { IsForwarding (gens_of self.old.hand) (conn_of self.old.hand) self.new }
         ensures head { self.new.head.queue ≡ self.old.head.queue }
         ensures seats { map seat_of self.new.tails.items ≡ map seat_of self.old.tails.items }
         ensures kept { GoesOn result (self.new.kept ≡ None) }
@@ -140,8 +141,8 @@ impl<'c> Forwarding<'c> {
         debts: &mut Debts,
     ) -> Went
         requires seats { map (λ tail. tail.queue) self.old.tails.items ≡ map (λ queue. queue.name) targets.now }
-        requires forwards { IsForwarding (config_of self.old.hand) (conn_of self.old.hand) self.old }
-        ensures forwards { IsForwarding (config_of self.old.hand) (conn_of self.old.hand) self.new }
+        requires forwards { IsForwarding (gens_of self.old.hand) (conn_of self.old.hand) self.old }
+        ensures forwards { IsForwarding (gens_of self.old.hand) (conn_of self.old.hand) self.new }
         ensures head { self.new.head ≡ self.old.head }
         ensures seats { map seat_of self.new.tails.items ≡ map seat_of self.old.tails.items }
         ensures kept { self.new.kept ≡ self.old.kept }
@@ -175,8 +176,8 @@ impl<'c> Forwarding<'c> {
         requires kept { self.old.kept ≡ None }
         requires empty { (hand_of self.old.hand).items ≡ [] }
         requires head { IsHeadOf source.now self.old.head }
-        requires forwards { IsForwarding (config_of self.old.hand) (conn_of self.old.hand) self.old }
-        ensures forwards { IsForwarding (config_of self.old.hand) (conn_of self.old.hand) self.new }
+        requires forwards { IsForwarding (gens_of self.old.hand) (conn_of self.old.hand) self.old }
+        ensures forwards { IsForwarding (gens_of self.old.hand) (conn_of self.old.hand) self.new }
         ensures head { self.new.head.queue ≡ self.old.head.queue }
         ensures tails { self.new.tails ≡ self.old.tails }
         ensures kept { GoesOn result (self.new.kept ≡ None) }
@@ -194,6 +195,14 @@ impl<'c> Forwarding<'c> {
                     Went::Out
                 }
             },
+            ConnEntry::Renew => match self.hand.load_renew() {
+                Ok(()) => Went::On,
+                Err(Last) => {
+                    self.kept = Some(ConnEntry::Renew);
+                    signals.halt();
+                    Went::Out
+                }
+            },
             ConnEntry::End => {
                 self.hand.load_end();
                 Went::On
@@ -203,13 +212,14 @@ impl<'c> Forwarding<'c> {
 
     // The seats.
     fn end(self) -> PassedOn<Head<ConnEntry>, TenantItem>
-        requires tenants { length self.tails.items ≡ length (tenants_of (config_of self.hand)) }
-        requires forwards { IsForwarding (config_of self.hand) (conn_of self.hand) self }
+        requires tenants { length self.tails.items ≡ length (tenants_of (gens_of self.hand).first) }
+        requires forwards { IsForwarding (gens_of self.hand) (conn_of self.hand) self }
         ensures head { result.head ≡ self.entry.head }
         ensures tails { result.tails ≡ self.entry.tails }
-        ensures put { PutInOrder (config_of self.entry.hand) (conn_of self.entry.hand) self.entry.head.taken self.entry.tails.items }
+        ensures put { PutInOrder (gens_of self.entry.hand) (conn_of self.entry.hand) self.entry.head.taken self.entry.tails.items }
     {
         each_tenant_gets_its_own();
+        entries_have_generations();
         let Forwarding { head, tails, .. } = self;
         PassedOn { head, tails }
     }

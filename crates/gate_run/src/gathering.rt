@@ -2,20 +2,25 @@
 ghost use Rattle.std.specs.Prelude.{◌≡◌, ◌++◌, ◌∷◌, [], IfOk, OnOk, map};
 ghost use Rattle.gate_source.specs.Stops.{IsNoteOf};
 ghost use Rattle.gate_run.specs.Gatherings.{report_of_pipeline};
-ghost use Rattle.gate_run.specs.Inner.Gatherings.{knows_as_much, report_of_reader, inbox_back};
+ghost use Rattle.gate_run.specs.Asked.{AreKnown};
+ghost use Rattle.gate_run.specs.Inner.Asked.{knows_as_much};
+ghost use Rattle.gate_run.specs.Inner.Gatherings.{inbox_back, most_asked, report_of_reader};
 ghost use Rattle.gate_run.specs.Inner.Lists.{Each};
+ghost use Rattle.gate_run.specs.Inner.Readers.{counts_of, notes_of};
 ghost use Rattle.gate_run.specs.PipelineEnds.{inbox_of};
 
+use crate::asked::Asked;
 use crate::lists::push;
 use crate::posts::PipelineInbox;
 use crate::putting::PassedOn;
 use crate::reader::ReaderEnd;
+use crate::reading::Renewal;
 use crate::worker::WorkerEnd;
 use gate_core::{ConnectionReport, PipelineReport};
 use gate_pipeline::Pipeline;
 use gate_queue::{FreeHead, FreeTail, Head, Tail};
 use gate_record::{ConnEntry, Memory, PipelineItem, Sequence, TenantItem};
-use gate_source::{StopCell, StopNote};
+use gate_source::StopNote;
 use std::alloc::Global;
 
 /// What the threads of a run handed back.
@@ -30,58 +35,79 @@ pub(crate) struct Ends<F> {
     pub(crate) workers: Vec<Vec<WorkerEnd>>,
 }
 
-/// What readers handed back, by connection number; and a note of their cell that knows a cause to stop if one of theirs does.
+/// What readers handed back, by connection number; and what is known of what the run was asked for, by their notes, too.
 #[derive(Drop)]
 pub(crate) struct Readings<F> {
     pub(crate) feeds: Vec<F>,
     pub(crate) tails: Vec<Tail<ConnEntry>>,
     pub(crate) connections: Sequence<ConnectionReport>,
-    pub(crate) note: StopNote,
+    pub(crate) asked: Asked,
 }
 
-/// Gathers what readers handed back. A note that knows a cause takes the place of the one that is given.
+/// Gathers what readers handed back. A note of theirs that knows a cause to stop takes the place of the one that is given, and so do
+/// notes of more generations.
 pub(crate) fn gather_readers<F: Drop>(
     alloc: Global,
-    cell: &StopCell,
     ends: Vec<ReaderEnd<F>>,
-    note: StopNote,
+    asked: Asked,
 ) -> Result<Readings<F>, Memory>
-    requires note { IsNoteOf cell.now note }
-    requires notes { Each (λ end. IsNoteOf cell.now end.note) ends.items }
+    requires notes { Each (λ end. IsNoteOf asked.note.cell end.note) ends.items }
+    requires known { Each (λ end. AreKnown asked.cells (notes_of end.renewals.items)) ends.items }
     ensures feeds { IfOk result (λ back. back.feeds.items ≡ map (λ end. end.feed) ends.items) }
     ensures tails { IfOk result (λ back. back.tails.items ≡ map (λ end. end.tail) ends.items) }
     ensures connections { IfOk result (λ back. back.connections ≡ map report_of_reader ends.items) }
-    ensures note { IfOk result (λ back. IsNoteOf cell.now back.note) }
-    ensures knows { IfOk result (λ back. Each (λ end. knows_as_much end.note back.note) ends.items) }
+    ensures note { IfOk result (λ back. IsNoteOf asked.note.cell back.asked.note) }
+    ensures knows { IfOk result (λ back. Each (λ end. knows_as_much end.note back.asked.note) ends.items) }
+    ensures cells { IfOk result (λ back. back.asked.cells ≡ asked.cells) }
+    ensures asked { IfOk result (λ back. back.asked.asked ≡ most_asked asked.asked ends.items) }
+    ensures known { IfOk result (λ back. AreKnown back.asked.cells back.asked.asked) }
 {
     let mut feeds = Vec::new(alloc);
     let mut tails = Vec::new(alloc);
     let mut connections = Sequence::empty(alloc);
-    let mut note = note;
+    let mut asked = asked;
     for end in ends {
         let ReaderEnd {
             feed,
             tail,
-            note: mut own,
+            note,
             count,
+            renewals,
             cause,
         } = end;
         feeds.push(feed)?;
         tails.push(tail)?;
+        let (known, renewals) = parted(alloc, renewals)?;
         connections.push(ConnectionReport {
             accepted: count,
+            renewals,
             cause,
         })?;
-        if cell.seen(&mut own).is_some() {
-            note = own;
-        }
+        asked.take_stop(note);
+        asked.take_asked(known);
     }
+    asked.notes_know();
     Ok(Readings {
         feeds,
         tails,
         connections,
-        note,
+        asked,
     })
+}
+
+// The notes of renewals, and how many records were accepted before each of them.
+fn parted(alloc: Global, renewals: Vec<Renewal>) -> Result<(Vec<StopNote>, Sequence<u64>), Memory>
+    ensures notes { IfOk result (λ parts. parts.0.items ≡ notes_of renewals.items) }
+    ensures counts { IfOk result (λ parts. parts.1 ≡ counts_of renewals.items) }
+{
+    let mut notes = Vec::new(alloc);
+    let mut counts = Sequence::empty(alloc);
+    for renewal in renewals {
+        let Renewal { note, accepted } = renewal;
+        notes.push(note)?;
+        counts.push(accepted)?;
+    }
+    Ok((notes, counts))
 }
 
 /// Gathers the seats of threads that took from one queue and put into several.

@@ -1,6 +1,7 @@
 //! The running threads.
 #![tactic(auto)]
 
+mod asked;
 mod crossing;
 mod dispatcher;
 mod fault;
@@ -15,6 +16,7 @@ mod posts;
 mod putting;
 mod queues;
 mod reader;
+mod reading;
 mod running;
 mod seating;
 mod serving;
@@ -24,7 +26,8 @@ mod went;
 mod worker;
 mod works;
 
-pub use crossing::config_crosses;
+pub use asked::RenewPostFault;
+pub use crossing::{config_crosses, generations_cross};
 pub use fault::RunFault;
 pub use gate::Gate;
 pub use gate_source::{FeedStep, ReaderFeed, RecordFeed};

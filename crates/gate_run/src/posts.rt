@@ -1,19 +1,19 @@
 //! The queues of management events and results: what is posted from outside, and taken by the pipelines' workers.
-ghost use Rattle.std.specs.Prelude.{◌≡◌, ◌<◌, IfErr, IfNone, IfOk, IfSome, OnErr, OnOk, length, map};
+ghost use Rattle.std.specs.Prelude.{◌≡◌, ◌<◌, ◌+◌, [], IfErr, IfNone, IfOk, IfSome, OnErr, OnOk, length, map};
 ghost use Rattle.gate_queue.specs.Seats.{IsHeadOf, IsTailOf, with_taken};
-ghost use Rattle.gate_source.specs.Stops.{IsNoteOf};
 ghost use Rattle.gate_run.specs.Lists.{Pairwise};
 ghost use Rattle.gate_run.specs.PipelineEnds.{ends_of, inbox_of};
 ghost use Rattle.gate_run.specs.Ports.{AreOpened, IsOpened, pipeline_counts};
 
+use crate::asked::{Asked, RenewPostFault};
 use crate::lane::open_queue;
 use crossbeam_utils::sync::{Parker, Unparker};
-use gate_config::Config;
+use gate_config::{Config, Generations};
 use gate_core::PLACES;
 use gate_items::{JobResult, Manage};
 use gate_queue::{EventQueue, Full, Head, Tagged, Tail};
 use gate_record::{Memory, PipelineId, Shared, TenantId};
-use gate_source::{StopCause, StopCell, StopNote};
+use gate_source::StopCause;
 use std::alloc::Global;
 use std::marker::Model;
 use std::sync::Wait;
@@ -114,13 +114,12 @@ pub(crate) struct PipelineInbox {
 }
 
 /// Where management events and results are posted to the pipelines of a configuration while `serve` runs, and where `serve` is
-/// asked to stop. Contracts see by tenant and pipeline number what was posted, and what is known of the cause to stop.
+/// asked to stop, and to put later generations in force. Contracts see by tenant and pipeline number what was posted, and what is
+/// known of the cause to stop and of the generations that were asked for.
 #[derive(Drop)]
 pub struct Posts {
     tenants: Vec<Vec<PipelinePosts>>,
-    cell: Shared<StopCell>,
-    note: StopNote,
-    ghost of_cell: { IsNoteOf cell note },
+    asked: Asked,
 }
 
 impl Model for Posts {
@@ -131,16 +130,14 @@ impl Model for Posts {
     ghost use Rattle.std.specs.Prelude.{map};
     ghost use Rattle.gate_run.specs.PipelineEnds.{ends_of};
 
-    ghost view = { λ posts. record { pipelines = map (λ tenant. map ends_of tenant.items) posts.tenants.items; note = posts.note } };
+    ghost view = { λ posts. record { pipelines = map (λ tenant. map ends_of tenant.items) posts.tenants.items; note = posts.asked.note; cells = posts.asked.cells; asked = posts.asked.asked } };
 }
 
 /// The other ends of the queues of `Posts`, for `serve`.
 #[derive(Drop)]
 pub struct Inbox {
     pub(crate) tenants: Vec<Vec<PipelineInbox>>,
-    pub(crate) cell: Shared<StopCell>,
-    pub(crate) note: StopNote,
-    ghost of_cell: { IsNoteOf cell note },
+    pub(crate) asked: Asked,
 }
 
 impl Model for Inbox {
@@ -151,7 +148,7 @@ impl Model for Inbox {
     ghost use Rattle.std.specs.Prelude.{map};
     ghost use Rattle.gate_run.specs.PipelineEnds.{inbox_of};
 
-    ghost view = { λ inbox. record { pipelines = map (λ tenant. map inbox_of tenant.items) inbox.tenants.items; note = inbox.note } };
+    ghost view = { λ inbox. record { pipelines = map (λ tenant. map inbox_of tenant.items) inbox.tenants.items; note = inbox.asked.note; cells = inbox.asked.cells; asked = inbox.asked.asked } };
 }
 
 // Both ends of the queues of one pipeline.
@@ -220,28 +217,25 @@ fn open_tenants(
 impl Posts {
     ghost use Rattle.std.specs.Prelude.{None};
     ghost use Rattle.gate_source.specs.Stops.{Learns};
+    ghost use Rattle.gate_run.specs.Asked.{AsksForNext, MayNotAsk};
     ghost use Rattle.gate_run.specs.PipelineEnds.{HandsBack, Judges};
     ghost use Rattle.gate_run.specs.Ports.{ArePosts, with_manage, with_result};
 
-    /// Opens a queue of management events and one of results for each pipeline of a configuration, each of 4,096 places, and a cell
-    /// for the cause to stop: the posts, and the other ends for `serve`. `Memory` where there is none for them.
-    pub fn open(alloc: Global, config: &Config) -> Result<(Posts, Inbox), Memory>
-        ensures { IfOk result (λ ends. ArePosts config.now ends.0 ends.1) }
+    /// Opens a queue of management events and one of results for each pipeline of a configuration, each of 4,096 places, a cell
+    /// for the cause to stop, and one for each generation behind the first: the posts, and the other ends for `serve`. `Memory`
+    /// where there is none for them.
+    pub fn open(alloc: Global, gens: &Generations) -> Result<(Posts, Inbox), Memory>
+        ensures { IfOk result (λ ends. ArePosts gens.now ends.0 ends.1) }
     {
-        let (posts, inbox) = open_tenants(alloc, PLACES, config)?;
-        let cell = Shared::new(alloc, StopCell::new(alloc))?;
-        let other = cell.share()?;
-        let note = cell.get().note();
-        let other_note = cell.get().note();
+        let (posts, inbox) = open_tenants(alloc, PLACES, gens.first())?;
+        let (asked, other) = Asked::open(alloc, gens.count() as usize - 1)?;
         let posts = Posts {
             tenants: posts,
-            cell,
-            note,
+            asked,
         };
         let inbox = Inbox {
             tenants: inbox,
-            cell: other,
-            note: other_note,
+            asked: other,
         };
         Ok((posts, inbox))
     }
@@ -316,8 +310,24 @@ impl Posts {
         ensures stops { IfOk result (λ held. Learns self.old.note held self.new.note) }
         ensures memory { OnErr result ((self.old.note.cause ≡ None) × (self.new ≡ self.old)) }
         ensures posts { self.new.pipelines ≡ self.old.pipelines }
+        ensures cells { self.new.cells ≡ self.old.cells }
+        ensures asked { self.new.asked ≡ self.old.asked }
     {
-        self.cell.get().request(&mut self.note, cause)
+        self.asked.stop(cause)
+    }
+
+    /// Asks `serve` to put the next generation in force on each connection, behind the last one that these posts asked for, or
+    /// behind the first of all. The answer is its number. A connection's reader puts its mark before the next record that it gets.
+    ///
+    /// `Last` comes exactly where there is no such generation, and then `Memory`; both change nothing.
+    pub fn renew(&mut self) -> Result<u32, RenewPostFault>
+        ensures number { IfOk result (λ generation. generation ≡ length self.old.asked + 1) }
+        ensures asks { IfOk result (λ generation. AsksForNext self.old.cells self.old.asked self.new.asked) }
+        ensures rest { self.new ≡ record self.old { asked = self.new.asked } }
+        ensures unchanged { OnErr result (self.new ≡ self.old) }
+        ensures why { IfErr result (MayNotAsk self.old.cells self.old.asked) }
+    {
+        self.asked.renew()
     }
 }
 
@@ -325,19 +335,15 @@ impl Inbox {
     ghost use Rattle.std.specs.Prelude.{None};
     ghost use Rattle.gate_run.specs.Ports.{IsInboxFor};
 
-    /// The inbox of a run to which nobody posts, and which nobody asks to stop: its queues have one place in place of 4,096, so it
+    /// The inbox of a run to which nobody posts, and which nobody asks for anything: its queues have one place in place of 4,096, so it
     /// takes some kilobytes for a pipeline where `Posts::open` takes 670. `Memory` where there is none for them.
     pub fn without_posts(alloc: Global, config: &Config) -> Result<Inbox, Memory>
         ensures for_config { IfOk result (λ inbox. IsInboxFor config.now inbox) }
         ensures knows_none { IfOk result (λ inbox. inbox.note.cause ≡ None) }
+        ensures asks_none { IfOk result (λ inbox. inbox.cells ≡ []) }
     {
         let (_posts, tenants) = open_tenants(alloc, 1, config)?;
-        let cell = Shared::new(alloc, StopCell::new(alloc))?;
-        let note = cell.get().note();
-        Ok(Inbox {
-            tenants,
-            cell,
-            note,
-        })
+        let (_other, asked) = Asked::open(alloc, 0)?;
+        Ok(Inbox { tenants, asked })
     }
 }

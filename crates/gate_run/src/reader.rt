@@ -1,22 +1,21 @@
 //! The thread that reads a connection's records into its queue.
-ghost use Rattle.std.specs.Prelude.{◌≡◌, IfNone, IfSome};
+ghost use Rattle.std.specs.Prelude.{◌≡◌};
 ghost use Rattle.gate_queue.specs.Seats.{IsTailOf};
-ghost use Rattle.gate_source.specs.Sources.{accepted};
-ghost use Rattle.gate_source.specs.Stops.{IsNoteOf};
 ghost use Rattle.gate_core.specs.declared.report.EndCause.TheVariants as cause;
-ghost use Rattle.gate_run.specs.Inner.Readers.{CanRead, Closes, CutsShort, HasRead};
+ghost use Rattle.gate_run.specs.Inner.Readers.{CanRead, Closes, HasRead};
 
 use crate::naps::Naps;
+use crate::reading::{Reading, Renewal};
 use crate::signals::Signals;
 use crate::works::Work;
 use crossbeam_utils::sync::Parker;
 use gate_core::EndCause;
 use gate_queue::{EventQueue, Tail};
-use gate_record::{ConnEntry, ConnId, Record};
+use gate_record::{ConnEntry, ConnId};
 use gate_source::{
-    ClosedSource, FeedStep, OfferFault, RecordFeed, Source, StopCell, StopNote,
-    accepted_records_are_numbered,
+    ClosedSource, FeedStep, RecordFeed, Source, StopCell, StopNote, accepted_records_are_numbered,
 };
+use std::alloc::Global;
 use std::sync::Wait;
 use std::thread::Threads;
 use std::time::Clock;
@@ -32,6 +31,10 @@ pub(crate) struct Reader<'a, F> {
     /// What tells to stop, and what the reader knows of it.
     pub(crate) cell: &'a StopCell,
     pub(crate) note: StopNote,
+    /// How many generations the configuration has, and what tells to put each behind the first in force, in order.
+    pub(crate) generations: u32,
+    pub(crate) cells: &'a [StopCell],
+    pub(crate) alloc: Global,
     pub(crate) parker: Parker,
 }
 
@@ -43,13 +46,15 @@ pub(crate) struct ReaderEnd<F> {
     pub(crate) note: StopNote,
     /// How many records were accepted.
     pub(crate) count: u64,
+    /// The generations that it put in force, in order.
+    pub(crate) renewals: Vec<Renewal>,
     pub(crate) cause: EndCause,
 }
 
 impl<'a, F: RecordFeed + Drop> Work<ReaderEnd<F>> for Reader<'a, F> {
-    ghost ready = { λ w. CanRead w.queue.now w.tail w.cell.now w.note (F.fault_count w.feed) };
+    ghost ready = { λ w. CanRead w.queue.now w.tail w.cell.now w.note w.generations (F.fault_count w.feed) };
 
-    ghost comes_to = { λ w end. HasRead (F.to_come w.feed) (F.to_come end.feed) (F.fault_count w.feed) (F.fault_count end.feed) w.tail end.tail end.count end.cause w.note end.note };
+    ghost comes_to = { λ w end. HasRead (F.to_come w.feed) (F.to_come end.feed) (F.fault_count w.feed) (F.fault_count end.feed) w.tail end.tail w.generations w.cells.now end.count end.renewals.items end.cause w.note end.note };
 
     fn work<R: Threads + Wait + Clock + Sync>(self, rt: &R, signals: &Signals) -> ReaderEnd<F> {
         accepted_records_are_numbered();
@@ -60,23 +65,35 @@ impl<'a, F: RecordFeed + Drop> Work<ReaderEnd<F>> for Reader<'a, F> {
             tail,
             cell,
             note,
+            generations,
+            cells,
+            alloc,
             parker,
         } = self;
         let mut reading = Reading {
             conn,
             source: Source::new(tail),
             note,
+            renewals: Vec::new(alloc),
             parker,
         };
         let mut naps = Naps::none();
         for _ in rt.forever() {
-            if let Some(cause) = reading.cut_short(cell, signals) {
+            if let Some(cause) = reading.look(rt, queue, cell, generations, cells, signals) {
                 return reading.end(rt, queue, signals, feed, cause);
             }
             match feed.next(rt) {
                 FeedStep::Got(line) => {
                     naps = Naps::none();
-                    if let Some(cause) = reading.offer(rt, queue, cell, signals, line) {
+                    if let Some(cause) = reading.take_in(
+                        rt,
+                        queue,
+                        cell,
+                        generations,
+                        cells,
+                        signals,
+                        line,
+                    ) {
                         return reading.end(rt, queue, signals, feed, cause);
                     }
                 }
@@ -93,68 +110,7 @@ impl<'a, F: RecordFeed + Drop> Work<ReaderEnd<F>> for Reader<'a, F> {
     }
 }
 
-// A reader at work.
-#[derive(Drop)]
-pub(crate) struct Reading {
-    pub(crate) conn: ConnId,
-    pub(crate) source: Source,
-    pub(crate) note: StopNote,
-    pub(crate) parker: Parker,
-}
-
 impl Reading {
-    // Why no more is read, if a stop was asked for or threads are to return.
-    fn cut_short(&mut self, cell: &StopCell, signals: &Signals) -> Option<EndCause>
-        requires note { IsNoteOf cell.now self.old.note }
-        ensures cuts { IfSome result (λ cause. CutsShort cause self.new.note) }
-        ensures source { self.new.source ≡ self.old.source }
-        ensures note { self.new.note.cell ≡ self.old.note.cell }
-    {
-        if signals.is_halted() {
-            return Some(EndCause::Memory);
-        }
-        if cell.seen(&mut self.note).is_some() {
-            return Some(EndCause::Stopped);
-        }
-        None
-    }
-
-    // Offers a record until it is accepted. Else the answer is why it wasn't.
-    fn offer<R: Wait>(
-        &mut self,
-        rt: &R,
-        queue: &EventQueue<ConnEntry>,
-        cell: &StopCell,
-        signals: &Signals,
-        line: Record,
-    ) -> Option<EndCause>
-        requires seat { IsTailOf queue.now self.old.source.seat }
-        requires note { IsNoteOf cell.now self.old.note }
-        ensures accepts { IfNone result (self.new.source ≡ accepted self.old.source line) }
-        ensures cuts { IfSome result (λ cause. CutsShort cause self.new.note) }
-        ensures unchanged { IfSome result (λ cause. self.new.source ≡ self.old.source) }
-        ensures note { self.new.note.cell ≡ self.old.note.cell }
-    {
-        let mut waiting = line;
-        for _ in rt.forever() {
-            match self.source.offer(rt, queue, cell, &mut self.note, waiting) {
-                Ok(_) => {
-                    signals.wake_forwarder(self.conn);
-                    return None;
-                }
-                Err(OfferFault::Stopped(_)) => return Some(EndCause::Stopped),
-                Err(OfferFault::Full(line)) => {
-                    if signals.is_halted() {
-                        return Some(EndCause::Memory);
-                    }
-                    self.parker.park(rt);
-                    waiting = line;
-                }
-            }
-        }
-        unreachable!()
-    }
-
     // Puts the end mark, but where memory was refused, and leaves the queue. Where threads are to return before there is room for
     // the mark, the cause is that.
     fn end<F: Drop, R: Wait>(
@@ -169,16 +125,18 @@ impl Reading {
         ensures feed { result.feed ≡ feed }
         ensures count { result.count ≡ self.source.count }
         ensures closes { Closes cause self.source.seat result.cause result.tail }
+        ensures renewals { result.renewals.items ≡ self.renewals.items }
         ensures note { result.note ≡ self.note }
     {
         let Reading {
             conn,
             mut source,
             note,
+            renewals,
             parker,
         } = self;
         if matches!(cause, EndCause::Memory | EndCause::Unclosed) {
-            return left(source, note, feed);
+            return left(source, note, renewals, feed);
         }
         for _ in rt.forever() {
             match source.close(rt, queue) {
@@ -189,12 +147,13 @@ impl Reading {
                         tail,
                         note,
                         count,
+                        renewals,
                         cause,
                     };
                 }
                 Err(back) => {
                     if signals.is_halted() {
-                        return left(back, note, feed);
+                        return left(back, note, renewals, feed);
                     }
                     parker.park(rt);
                     source = back;
@@ -206,10 +165,11 @@ impl Reading {
 }
 
 // The end of a reader that puts no end mark.
-fn left<F>(source: Source, note: StopNote, feed: F) -> ReaderEnd<F>
+fn left<F>(source: Source, note: StopNote, renewals: Vec<Renewal>, feed: F) -> ReaderEnd<F>
     ensures feed { result.feed ≡ feed }
     ensures count { result.count ≡ source.count }
     ensures tail { result.tail ≡ source.seat }
+    ensures renewals { result.renewals.items ≡ renewals.items }
     ensures cause { result.cause ≡ cause.Memory }
     ensures note { result.note ≡ note }
 {
@@ -219,6 +179,7 @@ fn left<F>(source: Source, note: StopNote, feed: F) -> ReaderEnd<F>
         tail,
         note,
         count,
+        renewals,
         cause: EndCause::Memory,
     }
 }

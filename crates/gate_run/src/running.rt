@@ -5,9 +5,11 @@ ghost use Rattle.gate_run.specs.Lists.{Pairwise};
 ghost use Rattle.gate_run.specs.PipelineEnds.{inbox_of};
 ghost use Rattle.gate_run.specs.Ports.{pipeline_counts};
 ghost use Rattle.gate_run.specs.Inner.Queues.{AreOpen};
+ghost use Rattle.gate_run.specs.Inner.Seatings.{cells_of};
 ghost use Rattle.gate_run.specs.Inner.Works.{Dispatched, Forwarded, HaveRun, Read, ReadyToDispatch, ReadyToForward, ReadyToRead, ReadyToWork, Worked};
 
-use crate::crossing::{config_crosses, is_shared};
+use crate::asked::Asked;
+use crate::crossing::{config_crosses, generations_cross, is_shared};
 use crate::dispatcher::Dispatcher;
 use crate::fault::RunFault;
 use crate::forwarder::Forwarder;
@@ -20,8 +22,8 @@ use crate::seating::{seat_dispatchers, seat_forwarders, seat_readers, seat_worke
 use crate::signals::Signals;
 use crate::worker::Worker;
 use crate::works::{join_all, join_lists, start_all, start_lists};
-use gate_config::Config;
-use gate_source::{RecordFeed, StopCell};
+use gate_config::Generations;
+use gate_source::RecordFeed;
 use std::alloc::Global;
 use std::sync::Wait;
 use std::sync::atomic::AtomicBool;
@@ -39,19 +41,19 @@ pub(crate) fn run_between<
 >(
     rt: &R,
     alloc: Global,
-    config: &'a Config,
+    gens: &'a Generations,
     queues: &'a Queues,
     seats: QueueSeats,
     feeds: Vec<F>,
     inbox: Vec<Vec<PipelineInbox>>,
-    cell: &'a StopCell,
+    asked: &'a Asked,
     gate: &'a G,
 ) -> Result<Ends<F>, RunFault>
-    requires seats { AreOpen config.now queues.now seats }
-    requires feeds { length feeds.items ≡ length (connections_of config.now) }
+    requires seats { AreOpen gens.now.first queues.now seats }
+    requires feeds { length feeds.items ≡ length (connections_of gens.now.first) }
     requires few { All (λ feed. F.fault_count feed < 2 ^ 64 - 1) feeds.items }
-    requires inbox { map (λ row. length row.items) inbox.items ≡ pipeline_counts config.now }
-    ensures { IfOk result (λ ends. HaveRun G config.entry.now F.to_come F.fault_count feeds.items (map (λ row. map inbox_of row.items) inbox.items) cell.entry.now queues.entry.now ends) }
+    requires inbox { map (λ row. length row.items) inbox.items ≡ pipeline_counts gens.now.first }
+    ensures { IfOk result (λ ends. HaveRun G gens.entry.now F.to_come F.fault_count feeds.items (map (λ row. map inbox_of row.items) inbox.items) (cells_of gens.entry.now asked.entry.now) queues.entry.now ends) }
 {
     let QueueSeats {
         record_heads,
@@ -61,17 +63,20 @@ pub(crate) fn run_between<
         trigger_heads,
         trigger_tails,
     } = seats;
+    let config = gens.first();
     let (readers, reader_wakers) = seat_readers(
         alloc,
         config,
         feeds,
         &queues.records,
         record_tails,
-        cell,
+        asked.stop_cell(),
+        gens.count(),
+        asked.cells(),
     )?;
     let (forwarders, forwarder_wakers) = seat_forwarders(
         alloc,
-        config,
+        gens,
         &queues.records,
         record_heads,
         &queues.items,
@@ -79,7 +84,7 @@ pub(crate) fn run_between<
     )?;
     let (dispatchers, dispatcher_wakers) = seat_dispatchers(
         alloc,
-        config,
+        gens,
         &queues.items,
         item_heads,
         &queues.triggers,
@@ -146,6 +151,7 @@ fn run_works<'a, F: RecordFeed + Drop + Send, G: Gate + Sync, R: Threads + Wait 
             ensures workers { IfOk result (λ ends. Pairwise (Pairwise Worked) (map (λ list. list.items) workers.entry.items) (map (λ list. list.items) ends.workers.items)) }
         {
             config_crosses();
+            generations_cross();
             is_shared::<G>();
             let readers = start_all(scope, rt, alloc, signals, readers)?;
             let forwarders = start_all(scope, rt, alloc, signals, forwarders)?;

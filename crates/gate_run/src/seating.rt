@@ -15,7 +15,7 @@ use crate::posts::PipelineInbox;
 use crate::reader::Reader;
 use crate::worker::Worker;
 use crossbeam_utils::sync::{Parker, Unparker};
-use gate_config::Config;
+use gate_config::{Config, Generations};
 use gate_pipeline::Pipeline;
 use gate_queue::{EventQueue, FreeHead, FreeQueue, FreeTail, Head, Tail};
 use gate_record::{ConnEntry, ConnId, Memory, PipelineId, PipelineItem, TenantId, TenantItem};
@@ -30,13 +30,16 @@ pub(crate) fn seat_readers<'a, F: RecordFeed + Drop>(
     queues: &'a [EventQueue<ConnEntry>],
     tails: Vec<Tail<ConnEntry>>,
     cell: &'a StopCell,
+    generations: u32,
+    cells: &'a [StopCell],
 ) -> Result<(Vec<Reader<'a, F>>, Vec<Unparker>), Memory>
     requires feeds { length feeds.items ≡ length (connections_of config.now) }
     requires few { All (λ feed. F.fault_count feed < 2 ^ 64 - 1) feeds.items }
     requires queues { length queues.now ≡ length (connections_of config.now) }
     requires tails { tails.items ≡ map (fresh_tail 0) queues.now }
+    requires some { 0 < generations }
     ensures count { IfOk result (λ made. length made.0.items ≡ length (connections_of config.now)) }
-    ensures readers { IfOk result (λ made. EachAt (IsReaderOf F.fault_count feeds.items queues.entry.now cell.entry.now) made.0.items) }
+    ensures readers { IfOk result (λ made. EachAt (IsReaderOf F.fault_count feeds.items queues.entry.now (record { stop = cell.entry.now; generations = generations; later = cells.entry.now })) made.0.items) }
 {
     let mut feeds = feeds.into_iter();
     let mut tails = tails.into_iter();
@@ -52,6 +55,9 @@ pub(crate) fn seat_readers<'a, F: RecordFeed + Drop>(
             tail: next_of(&mut tails),
             cell,
             note: cell.note(),
+            generations,
+            cells,
+            alloc,
             parker,
         })?;
     }
@@ -61,29 +67,29 @@ pub(crate) fn seat_readers<'a, F: RecordFeed + Drop>(
 /// A forwarder for each connection.
 pub(crate) fn seat_forwarders<'a>(
     alloc: Global,
-    config: &'a Config,
+    gens: &'a Generations,
     sources: &'a [EventQueue<ConnEntry>],
     heads: Vec<Head<ConnEntry>>,
     targets: &'a [FreeQueue<TenantItem>],
     tails: Vec<Vec<FreeTail<TenantItem>>>,
 ) -> Result<(Vec<Forwarder<'a>>, Vec<Unparker>), Memory>
-    requires sources { length sources.now ≡ length (connections_of config.now) }
+    requires sources { length sources.now ≡ length (connections_of gens.now.first) }
     requires heads { heads.items ≡ map fresh_head sources.now }
-    requires targets { length targets.now ≡ length (tenants_of config.now) }
-    requires tails { map (λ row. row.items) tails.items ≡ map (λ c. map (fresh_tail c) targets.now) (range_with_len 0 (length (connections_of config.now))) }
-    ensures count { IfOk result (λ made. length made.0.items ≡ length (connections_of config.entry.now)) }
-    ensures forwarders { IfOk result (λ made. EachAt (IsForwarderOf config.entry.now sources.entry.now targets.entry.now) made.0.items) }
+    requires targets { length targets.now ≡ length (tenants_of gens.now.first) }
+    requires tails { map (λ row. row.items) tails.items ≡ map (λ c. map (fresh_tail c) targets.now) (range_with_len 0 (length (connections_of gens.now.first))) }
+    ensures count { IfOk result (λ made. length made.0.items ≡ length (connections_of gens.entry.now.first)) }
+    ensures forwarders { IfOk result (λ made. EachAt (IsForwarderOf gens.entry.now sources.entry.now targets.entry.now) made.0.items) }
 {
     let mut heads = heads.into_iter();
     let mut tails = tails.into_iter();
     let mut forwarders = Vec::new(alloc);
     let mut wakers = Vec::new(alloc);
-    for number in 0..config.connections().len() {
+    for number in 0..gens.first().connections().len() {
         let parker = Parker::new(alloc)?;
         wakers.push(parker.unparker().clone()?)?;
         forwarders.push(Forwarder {
             alloc,
-            config,
+            gens,
             conn: ConnId(number as u32),
             source: &sources[number],
             head: next_of(&mut heads),
@@ -98,30 +104,30 @@ pub(crate) fn seat_forwarders<'a>(
 /// A worker for each tenant.
 pub(crate) fn seat_dispatchers<'a>(
     alloc: Global,
-    config: &'a Config,
+    gens: &'a Generations,
     sources: &'a [FreeQueue<TenantItem>],
     heads: Vec<FreeHead<TenantItem>>,
     targets: &'a [Vec<FreeQueue<PipelineItem>>],
     tails: Vec<Vec<FreeTail<PipelineItem>>>,
 ) -> Result<(Vec<Dispatcher<'a>>, Vec<Unparker>), Memory>
-    requires sources { length sources.now ≡ length (tenants_of config.now) }
+    requires sources { length sources.now ≡ length (tenants_of gens.now.first) }
     requires heads { heads.items ≡ map fresh_head sources.now }
-    requires targets { map (λ queues. length queues.items) targets.now ≡ pipeline_counts config.now }
+    requires targets { map (λ queues. length queues.items) targets.now ≡ pipeline_counts gens.now.first }
     requires tails { map (λ row. row.items) tails.items ≡ map (λ queues. map (fresh_tail 0) queues.items) targets.now }
-    ensures count { IfOk result (λ made. length made.0.items ≡ length (tenants_of config.entry.now)) }
-    ensures dispatchers { IfOk result (λ made. EachAt (IsDispatcherOf config.entry.now sources.entry.now (map (λ queues. queues.items) targets.entry.now)) made.0.items) }
+    ensures count { IfOk result (λ made. length made.0.items ≡ length (tenants_of gens.entry.now.first)) }
+    ensures dispatchers { IfOk result (λ made. EachAt (IsDispatcherOf gens.entry.now sources.entry.now (map (λ queues. queues.items) targets.entry.now)) made.0.items) }
 {
     let mut heads = heads.into_iter();
     let mut tails = tails.into_iter();
     let mut dispatchers = Vec::new(alloc);
     let mut wakers = Vec::new(alloc);
-    for number in 0..config.tenants().len() {
+    for number in 0..gens.first().tenants().len() {
         let tenant = TenantId(number as u32);
         let parker = Parker::new(alloc)?;
         wakers.push(parker.unparker().clone()?)?;
         dispatchers.push(Dispatcher {
             alloc,
-            config,
+            gens,
             tenant,
             source: &sources[number],
             head: next_of(&mut heads),

@@ -4,13 +4,17 @@ ghost use Rattle.std.specs.List.{range_with_len};
 ghost use Rattle.gate_config.specs.Lookups.{connections_of};
 ghost use Rattle.gate_source.specs.Stops.{IsNoteOf};
 ghost use Rattle.gate_run.specs.Gatherings.{report_of_pipeline};
-ghost use Rattle.gate_run.specs.Inner.Gatherings.{inbox_back, knows_as_much, report_of_reader};
+ghost use Rattle.gate_run.specs.Asked.{AreKnown};
+ghost use Rattle.gate_run.specs.Inner.Asked.{knows_as_much};
+ghost use Rattle.gate_run.specs.Inner.Gatherings.{inbox_back, most_asked, report_of_reader};
 ghost use Rattle.gate_run.specs.Inner.Lists.{Each};
+ghost use Rattle.gate_run.specs.Inner.Readers.{notes_of};
 ghost use Rattle.gate_run.specs.Ports.{IsInboxFor};
 ghost use Rattle.gate_run.specs.Inner.Seats.{seat_in, seat_of};
 ghost use Rattle.gate_run.specs.Serving.{Serves};
 ghost use Rattle.gate_run.specs.Inner.Stages.{AreLanesSettled, IsStageSettled};
 
+use crate::asked::Asked;
 use crate::fault::RunFault;
 use crate::gate::Gate;
 use crate::gathering::{Ends, Readings, Workings, gather_readers, gather_seats, gather_workers};
@@ -19,12 +23,14 @@ use crate::posts::Inbox;
 use crate::queues::{Queues, open_queues};
 use crate::running::run_between;
 use crate::stage::{settle_lanes, settle_stage};
-use gate_config::Config;
+use gate_config::Generations;
 use gate_core::{PLACES, RunReport, each_way_delivers};
 use gate_pipeline::{Pipeline, what_was_taken_is_processed};
 use gate_queue::{EventQueue, FreeQueue};
-use gate_record::{ConnEntry, Memory, PipelineItem, Shared, TenantItem};
-use gate_source::{RecordFeed, StopCell, StopNote};
+use gate_record::{
+    ConnEntry, Memory, PipelineItem, TenantItem, entries_have_generations, records_have_generations,
+};
+use gate_source::RecordFeed;
 use std::alloc::Global;
 use std::sync::Wait;
 use std::thread::Threads;
@@ -47,13 +53,18 @@ pub struct Served<F> {
 /// forwarder for each connection, a worker for each tenant and one for each pipeline, each in a thread of its own. The queue between a
 /// reader and its forwarder has 4,096 places; those of tenants and pipelines have no bound. It waits for all of them.
 ///
+/// Each connection begins with the first generation of the configuration. For each generation that is asked for through the inbox, or
+/// was so in a run before this one, its reader puts a mark behind the records that it has accepted, before it accepts the next one that
+/// it gets; from that mark on the connection goes by that generation. A stop comes before a mark.
+///
 /// `feeds` are those of the connections, by connection number, each of which has answered fewer than 2^64 - 1 faults; `inbox` was
 /// opened on this configuration. Each pipeline begins with nothing in it. `gate` is told of each pipeline by its worker.
 ///
-/// Where it answers, what each pipeline has processed of a connection is a prefix of what its rules select of the records that were
-/// accepted from that connection, in order, and all of it where the pipeline is finished; and it has processed the management events
-/// and results that its worker took from the inbox, in order. That it answers isn't promised: a feed may have records for ever, and a
-/// gate may wait for ever.
+/// Where it answers, what each pipeline has processed of a connection is a prefix of what the rules select of the records that were
+/// accepted from that connection, each by the generation in force at it, in order, and all of it where the pipeline is finished; and it
+/// has processed the management events and results that its worker took from the inbox, in order. The report says for each connection
+/// how many records were accepted before each mark, and a mark was put only for a generation that was asked for. That it answers isn't
+/// promised: a feed may have records for ever, and a gate may wait for ever; nor is it that a mark is put, or when.
 ///
 /// `Memory` where it was refused before the threads began, or for what they hand back, and `Thread` where a thread couldn't be started;
 /// then the threads that run are told to halt and are waited for, and feeds and inbox are lost. Where memory is refused to a thread
@@ -61,17 +72,17 @@ pub struct Served<F> {
 pub fn serve<'c, F: RecordFeed + Drop + Send, G: Gate + Sync, R: Threads + Wait + Clock + Sync>(
     rt: &R,
     alloc: Global,
-    config: &'c Config,
+    gens: &'c Generations,
     feeds: Vec<F>,
     inbox: Inbox,
     gate: &'c G,
 ) -> Result<Served<F>, RunFault>
-    requires feeds { length feeds.items ≡ length (connections_of config.now) }
+    requires feeds { length feeds.items ≡ length (connections_of gens.now.first) }
     requires few { All (λ feed. F.fault_count feed < 2 ^ 64 - 1) feeds.items }
-    requires inbox { IsInboxFor config.now inbox }
-    ensures { IfOk result (λ served. Serves config.entry.now F.to_come F.fault_count feeds.items served.feeds.items inbox served.inbox served.report (map (λ row. row.items) served.pipelines.items)) }
+    requires inbox { IsInboxFor gens.now.first inbox }
+    ensures { IfOk result (λ served. Serves gens.entry.now F.to_come F.fault_count feeds.items served.feeds.items inbox served.inbox served.report (map (λ row. row.items) served.pipelines.items)) }
 {
-    serve_over(rt, alloc, PLACES, config, feeds, inbox, gate)
+    serve_over(rt, alloc, PLACES, gens, feeds, inbox, gate)
 }
 
 /// The same with so many places, at least one, for the queue of each connection.
@@ -84,42 +95,32 @@ pub fn serve_over<
     rt: &R,
     alloc: Global,
     places: usize,
-    config: &'c Config,
+    gens: &'c Generations,
     feeds: Vec<F>,
     inbox: Inbox,
     gate: &'c G,
 ) -> Result<Served<F>, RunFault>
     requires places { 0 < places }
-    requires feeds { length feeds.items ≡ length (connections_of config.now) }
+    requires feeds { length feeds.items ≡ length (connections_of gens.now.first) }
     requires few { All (λ feed. F.fault_count feed < 2 ^ 64 - 1) feeds.items }
-    requires inbox { IsInboxFor config.now inbox }
-    ensures { IfOk result (λ served. Serves config.entry.now F.to_come F.fault_count feeds.items served.feeds.items inbox served.inbox served.report (map (λ row. row.items) served.pipelines.items)) }
+    requires inbox { IsInboxFor gens.now.first inbox }
+    ensures { IfOk result (λ served. Serves gens.entry.now F.to_come F.fault_count feeds.items served.feeds.items inbox served.inbox served.report (map (λ row. row.items) served.pipelines.items)) }
 {
+    entries_have_generations();
+    records_have_generations();
     each_way_delivers();
     what_was_taken_is_processed();
-    let Inbox {
-        tenants,
-        cell,
-        note,
-    } = inbox;
-    let (queues, seats) = open_queues(alloc, places, config)?;
+    let Inbox { tenants, asked } = inbox;
+    let (queues, seats) = open_queues(alloc, places, gens.first())?;
     let ends = run_between(
-        rt,
-        alloc,
-        config,
-        &queues,
-        seats,
-        feeds,
-        tenants,
-        cell.get(),
-        gate,
+        rt, alloc, gens, &queues, seats, feeds, tenants, &asked, gate,
     )?;
     let Queues {
         records,
         items,
         triggers,
     } = queues;
-    let served = finish(rt, alloc, records, items, triggers, ends, cell, note)?;
+    let served = finish(rt, alloc, records, items, triggers, ends, asked)?;
     Ok(served)
 }
 
@@ -131,11 +132,10 @@ pub(crate) fn finish<F: Drop, R: Wait>(
     items: Vec<FreeQueue<TenantItem>>,
     triggers: Vec<Vec<FreeQueue<PipelineItem>>>,
     ends: Ends<F>,
-    cell: Shared<StopCell>,
-    note: StopNote,
+    asked: Asked,
 ) -> Result<Served<F>, Memory>
-    requires note { IsNoteOf cell note }
-    requires notes { Each (λ end. IsNoteOf cell end.note) ends.readers.items }
+    requires notes { Each (λ end. IsNoteOf asked.note.cell end.note) ends.readers.items }
+    requires known { Each (λ end. AreKnown asked.cells (notes_of end.renewals.items)) ends.readers.items }
     requires record_senders { map (λ queue. queue.name.senders) records.items ≡ map (λ queue. 1) records.items }
     requires record_heads { map (λ end. end.head.queue) ends.forwarders.items ≡ map (λ queue. queue.name) records.items }
     requires record_tails { map (λ end. seat_of end.tail) ends.readers.items ≡ map (seat_in 0) records.items }
@@ -150,8 +150,11 @@ pub(crate) fn finish<F: Drop, R: Wait>(
     ensures reports { IfOk result (λ served. served.report.pipelines ≡ map (λ list. map (λ end. report_of_pipeline end.state) list.items) ends.workers.items) }
     ensures pipelines { IfOk result (λ served. map (λ row. row.items) served.pipelines.items ≡ map (λ list. map (λ end. end.state) list.items) ends.workers.items) }
     ensures inbox { IfOk result (λ served. served.inbox.pipelines ≡ map (λ list. map inbox_back list.items) ends.workers.items) }
-    ensures cell { IfOk result (λ served. IsNoteOf cell served.inbox.note) }
+    ensures cell { IfOk result (λ served. IsNoteOf asked.note.cell served.inbox.note) }
     ensures knows { IfOk result (λ served. Each (λ end. knows_as_much end.note served.inbox.note) ends.readers.items) }
+    ensures cells { IfOk result (λ served. served.inbox.cells ≡ asked.cells) }
+    ensures asked { IfOk result (λ served. served.inbox.asked ≡ most_asked asked.asked ends.readers.items) }
+    ensures known { IfOk result (λ served. AreKnown served.inbox.cells served.inbox.asked) }
     ensures records { IfOk result (λ served. IsStageSettled records.items (map (λ end. end.head) ends.forwarders.items) (map (λ end. end.tail) ends.readers.items ∷ [])) }
     ensures items { IfOk result (λ served. IsStageSettled items.items (map (λ end. end.head) ends.dispatchers.items) (map (λ end. end.tails.items) ends.forwarders.items)) }
     ensures triggers { IfOk result (λ served. AreLanesSettled (map (λ queues. queues.items) triggers.items) (map (λ list. map (λ end. end.head) list.items) ends.workers.items) (map (λ end. end.tails.items) ends.dispatchers.items)) }
@@ -166,8 +169,8 @@ pub(crate) fn finish<F: Drop, R: Wait>(
         feeds,
         tails: record_tails,
         connections,
-        note,
-    } = gather_readers(alloc, cell.get(), readers, note)?;
+        asked,
+    } = gather_readers(alloc, readers, asked)?;
     let (record_heads, item_tails) = gather_seats(alloc, forwarders)?;
     let (item_heads, trigger_tails) = gather_seats(alloc, dispatchers)?;
     let Workings {
@@ -188,8 +191,7 @@ pub(crate) fn finish<F: Drop, R: Wait>(
         feeds,
         inbox: Inbox {
             tenants: inbox,
-            cell,
-            note,
+            asked,
         },
     })
 }

@@ -4,6 +4,7 @@
 
 mod commands;
 mod posts;
+mod renewals;
 mod serving;
 mod sessions;
 
@@ -52,6 +53,8 @@ fn run<R: AllocGlobal + Threads + Wait + Clock + Sync>(
         "serve-over" => serving::run(rt, log, alloc, Way::ServeOver),
         "sessions" => sessions::run(rt, log),
         "commands" => commands::run(log, alloc),
+        "renewals" => renewals::run(rt, log, alloc, 20),
+        "no-renewals" => renewals::run(rt, log, alloc, 0),
         _ => Err(Elsewhere),
     }
 }

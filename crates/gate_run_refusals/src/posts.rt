@@ -1,12 +1,12 @@
-//! Where management events and results are posted, and a stop is asked for.
+//! Where management events and results are posted, and a stop and later generations are asked for.
 ghost use Rattle.std.specs.Prelude.{IfOk};
 ghost use Rattle.gate_run.specs.Ports.{ArePosts};
 
-use gate_config::Config;
+use gate_config::Generations;
 use gate_items::{JobResult, Key, Manage};
 use gate_record::{ConnId, Memory, PipelineId, TenantId, Text};
-use gate_refusing::{Elsewhere, Log, WHOLE, config_of, made, say};
-use gate_run::{Inbox, Posts};
+use gate_refusing::{Elsewhere, Log, WHOLE, WHOLE_LATER, gens_of, made, say};
+use gate_run::{Inbox, Posts, RenewPostFault};
 use gate_source::StopCause;
 use std::alloc::Global;
 use std::sync::Wait;
@@ -15,25 +15,27 @@ const OPEN: &str = "gate_run Posts::open";
 
 const STOP: &str = "gate_run Posts::stop";
 
+const RENEW: &str = "gate_run Posts::renew";
+
 pub(crate) fn run<R: Wait>(rt: &R, log: &mut Log, alloc: Global) -> Result<(), Elsewhere> {
-    let config = config_of(log, alloc, WHOLE)?;
-    open_both(rt, log, alloc, &config)
+    let gens = gens_of(log, alloc, &[WHOLE, WHOLE_LATER])?;
+    open_both(rt, log, alloc, &gens)
 }
 
 fn open_both<R: Wait>(
     rt: &R,
     log: &mut Log,
     alloc: Global,
-    config: &Config,
+    gens: &Generations,
 ) -> Result<(), Elsewhere> {
-    open_without(log, alloc, config)?;
-    let (mut posts, _inbox) = opened(log, alloc, config)?;
+    open_without(log, alloc, gens)?;
+    let (mut posts, _inbox) = opened(log, alloc, gens)?;
     post_all(rt, log, alloc, &mut posts)
 }
 
-fn open_without(log: &mut Log, alloc: Global, config: &Config) -> Result<(), Elsewhere> {
+fn open_without(log: &mut Log, alloc: Global, gens: &Generations) -> Result<(), Elsewhere> {
     let call = "gate_run Inbox::without_posts";
-    let _inbox = made!(log, call, Inbox::without_posts(alloc, config))?;
+    let _inbox = made!(log, call, Inbox::without_posts(alloc, gens.first()))?;
     Ok(())
 }
 
@@ -41,15 +43,15 @@ fn open_without(log: &mut Log, alloc: Global, config: &Config) -> Result<(), Els
 pub(crate) fn opened(
     log: &mut Log,
     alloc: Global,
-    config: &Config,
+    gens: &Generations,
 ) -> Result<(Posts, Inbox), Elsewhere>
-    ensures { IfOk result (λ ends. ArePosts config.now ends.0 ends.1) }
+    ensures { IfOk result (λ ends. ArePosts gens.now ends.0 ends.1) }
 {
-    match Posts::open(alloc, config) {
+    match Posts::open(alloc, gens) {
         Ok(opened) => return Ok(opened),
         Err(Memory) => log.tell_refused(OPEN),
     }
-    match Posts::open(alloc, config) {
+    match Posts::open(alloc, gens) {
         Ok(opened) => Ok(opened),
         Err(Memory) => Err(log.tell_twice(OPEN)),
     }
@@ -64,6 +66,8 @@ fn post_all<R: Wait>(
     post_manage(rt, log, posts, PipelineId(1));
     post_manage(rt, log, posts, PipelineId(2));
     post_result(rt, log, alloc, posts)?;
+    renew(log, posts)?;
+    renew(log, posts)?;
     stop(log, posts, StopCause::Caller, StopCause::Port)?;
     stop(log, posts, StopCause::Port, StopCause::Caller)
 }
@@ -86,6 +90,27 @@ fn post_result<R: Wait>(
     let (set, success) = (0, true);
     let ended = JobResult { set, job, success };
     let answer = posts.result(rt, TenantId(0), PipelineId(1), ended);
+    say!(log.told, "{answer:?}\n");
+    Ok(())
+}
+
+/// Asks for the next generation, and once more where memory is refused: it is the same one then.
+pub(crate) fn asked(
+    log: &mut Log,
+    posts: &mut Posts,
+) -> Result<Result<u32, RenewPostFault>, Elsewhere> {
+    match posts.renew() {
+        Err(RenewPostFault::Memory) => log.tell_refused(RENEW),
+        answer => return Ok(answer),
+    }
+    match posts.renew() {
+        Err(RenewPostFault::Memory) => Err(log.tell_twice(RENEW)),
+        answer => Ok(answer),
+    }
+}
+
+fn renew(log: &mut Log, posts: &mut Posts) -> Result<(), Elsewhere> {
+    let answer = asked(log, posts)?;
     say!(log.told, "{answer:?}\n");
     Ok(())
 }

@@ -3,12 +3,12 @@ ghost use Rattle.std.specs.Prelude.{◌≡◌, All, IfOk, length};
 ghost use Rattle.gate_config.specs.Lookups.{connections_of};
 ghost use Rattle.gate_run.specs.Ports.{IsInboxFor};
 
-use crate::posts::opened;
-use gate_config::Config;
+use crate::posts::{asked, opened};
+use gate_config::Generations;
 use gate_core::{EndCause, RunReport, report_text};
 use gate_pipeline::Pipeline;
 use gate_record::{PipelineId, TenantId};
-use gate_refusing::{Elsewhere, Log, PLAIN, config_of, made, say};
+use gate_refusing::{Elsewhere, Log, PLAIN, PLAIN_LATER, gens_of, made, say};
 use gate_run::{Gate, Inbox, ReaderFeed, RecordFeed, RunFault, Served, serve, serve_over};
 use std::alloc::Global;
 use std::sync::Wait;
@@ -68,8 +68,8 @@ pub(crate) fn run<R: Threads + Wait + Clock + Sync>(
     alloc: Global,
     way: Way,
 ) -> Result<(), Elsewhere> {
-    let config = config_of(log, alloc, PLAIN)?;
-    run_twice(rt, log, alloc, &config, way)
+    let gens = gens_of(log, alloc, &[PLAIN, PLAIN_LATER])?;
+    run_twice(rt, log, alloc, &gens, way)
 }
 
 // Once, and once more where memory is refused.
@@ -77,13 +77,13 @@ fn run_twice<R: Threads + Wait + Clock + Sync>(
     rt: &R,
     log: &mut Log,
     alloc: Global,
-    config: &Config,
+    gens: &Generations,
     way: Way,
 ) -> Result<(), Elsewhere> {
-    if run_once(rt, log, alloc, config, way)? {
+    if run_once(rt, log, alloc, gens, way)? {
         return Ok(());
     }
-    if run_once(rt, log, alloc, config, way)? {
+    if run_once(rt, log, alloc, gens, way)? {
         return Ok(());
     }
     Err(log.tell_twice(way.call()))
@@ -94,16 +94,17 @@ fn run_once<R: Threads + Wait + Clock + Sync>(
     rt: &R,
     log: &mut Log,
     alloc: Global,
-    config: &Config,
+    gens: &Generations,
     way: Way,
 ) -> Result<bool, Elsewhere> {
     let feeds = feeds(log, alloc)?;
-    let (_posts, inbox) = opened(log, alloc, config)?;
-    if feeds.len() != config.connections().len() {
+    let (mut posts, inbox) = opened(log, alloc, gens)?;
+    let _first_later = asked(log, &mut posts)?;
+    if feeds.len() != gens.first().connections().len() {
         return Err(log.unexpected("number of connections"));
     }
-    match served(rt, alloc, config, feeds, inbox, way) {
-        Ok(served) => tell_run(log, alloc, config, &served.report, way),
+    match served(rt, alloc, gens, feeds, inbox, way) {
+        Ok(served) => tell_run(log, alloc, gens, &served.report, way),
         Err(fault) => Ok(tell_fault(log, fault, way)),
     }
 }
@@ -129,12 +130,12 @@ fn tell_fault(log: &mut Log, fault: RunFault, way: Way) -> bool {
 fn tell_run(
     log: &mut Log,
     alloc: Global,
-    config: &Config,
+    gens: &Generations,
     report: &RunReport,
     way: Way,
 ) -> Result<bool, Elsewhere> {
     let call = "gate_core report_text";
-    let text = made!(log, call, report_text(alloc, config, report))?;
+    let text = made!(log, call, report_text(alloc, gens.first(), report))?;
     if is_whole(report) {
         say!(log.told, "{text}");
         return Ok(true);
@@ -162,17 +163,17 @@ fn is_whole(report: &RunReport) -> bool {
 fn served<R: Threads + Wait + Clock + Sync>(
     rt: &R,
     alloc: Global,
-    config: &Config,
+    gens: &Generations,
     feeds: Vec<Feed>,
     inbox: Inbox,
     way: Way,
 ) -> Result<Served<Feed>, RunFault>
-    requires feeds { length feeds.items ≡ length (connections_of config.now) }
+    requires feeds { length feeds.items ≡ length (connections_of gens.now.first) }
     requires few { All (λ feed. ⟦<Feed as RecordFeed>⟧.fault_count feed ≡ 0) feeds.items }
-    requires inbox { IsInboxFor config.now inbox }
+    requires inbox { IsInboxFor gens.now.first inbox }
 {
     match way {
-        Way::Serve => serve(rt, alloc, config, feeds, inbox, &Silent),
-        Way::ServeOver => serve_over(rt, alloc, 2, config, feeds, inbox, &Silent),
+        Way::Serve => serve(rt, alloc, gens, feeds, inbox, &Silent),
+        Way::ServeOver => serve_over(rt, alloc, 2, gens, feeds, inbox, &Silent),
     }
 }

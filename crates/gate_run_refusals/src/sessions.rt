@@ -3,9 +3,9 @@ ghost use Rattle.std.specs.Prelude.{◌≡◌};
 ghost use Rattle.gate_status.specs.Replies.{ArePostsFor};
 
 use crate::posts::opened;
-use gate_config::Config;
+use gate_config::{Config, Generations};
 use gate_record::{PipelineId, TenantId};
-use gate_refusing::{Elsewhere, Log, WHOLE, config_of, made, say};
+use gate_refusing::{Elsewhere, Log, WHOLE, WHOLE_LATER, gens_of, made, say};
 use gate_run::Posts;
 use gate_status::{Board, Counted, Progress, SessionEnd, SessionFault, session, status_text};
 use std::alloc::Global;
@@ -17,23 +17,25 @@ const CALL: &str = "gate_status session";
 const WRITTEN: usize = 4096;
 
 // A session each.
-const LINES: [&str; 8] = [
+const LINES: [&str; 10] = [
     "status\n",
     "result 0 0 0 success unit\n",
     "reset 0 1 ref 0 2e9c refs/heads/main demo\n",
     "dequeue 9 0 change 0 7\n",
     "nothing\n",
     "result 0 0\n",
+    "renew\n",
+    "renew\n",
     "stop\n",
     "quit\n",
 ];
 
 pub(crate) fn run<R: AllocGlobal + Wait>(rt: &R, log: &mut Log) -> Result<(), Elsewhere> {
     let alloc = rt.alloc();
-    let config = config_of(log, alloc, WHOLE)?;
-    let board = board_of(log, alloc, &config)?;
-    tell_status(log, alloc, &config, &board)?;
-    open_and_talk(rt, log, &config, &Mutex::new(board))
+    let gens = gens_of(log, alloc, &[WHOLE, WHOLE_LATER])?;
+    let board = board_of(log, alloc, gens.first())?;
+    tell_status(log, alloc, gens.first(), &board)?;
+    open_and_talk(rt, log, &gens, &Mutex::new(board))
 }
 
 fn board_of(log: &mut Log, alloc: Global, config: &Config) -> Result<Board, Elsewhere> {
@@ -66,11 +68,11 @@ fn tell_status(
 fn open_and_talk<R: AllocGlobal + Wait>(
     rt: &R,
     log: &mut Log,
-    config: &Config,
+    gens: &Generations,
     board: &Mutex<Board>,
 ) -> Result<(), Elsewhere> {
-    let (mut posts, _inbox) = opened(log, rt.alloc(), config)?;
-    talk_all(rt, log, config, board, &mut posts)
+    let (mut posts, _inbox) = opened(log, rt.alloc(), gens)?;
+    talk_all(rt, log, gens.first(), board, &mut posts)
 }
 
 fn talk_all<R: AllocGlobal + Wait>(

@@ -4,8 +4,8 @@ ghost use Rattle.gate_run.specs.Ports.{IsInboxFor};
 
 use crate::feeds::Feed;
 use crate::gates::{Holding, Meeting, Silent, Stopping, Stops};
-use crate::runs::{EIGHTH, SEVENTH, TWO_PIPELINES, one, run};
-use gate_config::{Config, read_config};
+use crate::runs::{EIGHTH, SEVENTH, TWO_PIPELINES, of_text, one, run};
+use gate_config::Generations;
 use gate_core::report_text;
 use gate_record::{Memory, Queue, Record};
 use gate_run::{FeedStep, Gate, Inbox, Posts, RecordFeed, serve};
@@ -84,18 +84,18 @@ impl RecordFeed for Failing {
 fn report<R: Threads + Wait + Clock + Sync>(
     rt: &R,
     alloc: Global,
-    config: &Config,
+    gens: &Generations,
     feed: Failing,
 ) -> Result<String, Fail>
     requires { feed.faults ≡ 0 }
 {
-    let (_posts, inbox) = Posts::open(alloc, config)?;
+    let (_posts, inbox) = Posts::open(alloc, gens)?;
     let feeds = vec![in alloc; feed]?;
-    if feeds.len() != config.connections().len() {
+    if feeds.len() != gens.first().connections().len() {
         return Err(Fail::from("one connection"));
     }
-    let served = serve(rt, alloc, config, feeds, inbox, &Silent)?;
-    Ok(report_text(alloc, config, &served.report)?)
+    let served = serve(rt, alloc, gens, feeds, inbox, &Silent)?;
+    Ok(report_text(alloc, gens.first(), &served.report)?)
 }
 
 const AFTER: [(u32, &str); 5] = [
@@ -123,9 +123,9 @@ const AFTER: [(u32, &str); 5] = [
 
 #[test]
 fn a_feed_fails_after_each_call(rt: HostRuntime) -> Result<(), Fail> {
-    let config = one(rt.alloc())?;
+    let gens = one(rt.alloc())?;
     for (calls, wanted) in AFTER {
-        fails_after(&rt, rt.alloc(), &config, calls, wanted)?;
+        fails_after(&rt, rt.alloc(), &gens, calls, wanted)?;
     }
     Ok(())
 }
@@ -133,20 +133,20 @@ fn a_feed_fails_after_each_call(rt: HostRuntime) -> Result<(), Fail> {
 fn fails_after<R: Threads + Wait + Clock + Sync>(
     rt: &R,
     alloc: Global,
-    config: &Config,
+    gens: &Generations,
     calls: u32,
     wanted: &str,
 ) -> Result<(), Fail> {
     let feed = Failing::after(alloc, calls, Failure::Fault)?;
-    let text = report(rt, alloc, config, feed)?;
+    let text = report(rt, alloc, gens, feed)?;
     comes_to("a report", text.as_str(), wanted)
 }
 
 #[test]
 fn a_feed_is_refused_memory(rt: HostRuntime) -> Result<(), Fail> {
-    let config = one(rt.alloc())?;
+    let gens = one(rt.alloc())?;
     let feed = Failing::after(rt.alloc(), 2, Failure::Memory)?;
-    let text = report(&rt, rt.alloc(), &config, feed)?;
+    let text = report(&rt, rt.alloc(), &gens, feed)?;
     let none =
         "connection \"gerrit\" accepted 2 memory\npipeline \"main\" \"check\" running\ndone \"main\" \"check\" \"gerrit\"\n";
     let first =
@@ -171,24 +171,24 @@ fn wanted(alloc: Global, accepted: u64, cause: &str) -> Result<String, Fail> {
 fn report_of_many<G: Gate + Sync, R: Threads + Wait + Clock + Sync>(
     rt: &R,
     alloc: Global,
-    config: &Config,
+    gens: &Generations,
     inbox: Inbox,
     gate: &G,
 ) -> Result<(String, u64), Fail>
-    requires inbox { IsInboxFor config.now inbox }
+    requires inbox { IsInboxFor gens.now.first inbox }
 {
     let feeds = vec![in alloc; Feed::repeated(alloc, SEVENTH, 100)?]?;
-    let served = run(rt, alloc, config, feeds, inbox, gate)?;
-    let text = report_text(alloc, config, &served.report)?;
+    let served = run(rt, alloc, gens, feeds, inbox, gate)?;
+    let text = report_text(alloc, gens.first(), &served.report)?;
     let first = served.report.connections.get(0).ok_or("a connection")?;
     Ok((text, first.accepted))
 }
 
 #[test]
 fn a_stop_comes_before_each_action(rt: HostRuntime) -> Result<(), Fail> {
-    let config = one(rt.alloc())?;
+    let gens = one(rt.alloc())?;
     for action in 0..100 {
-        stops_before(&rt, rt.alloc(), &config, action)?;
+        stops_before(&rt, rt.alloc(), &gens, action)?;
     }
     Ok(())
 }
@@ -196,17 +196,17 @@ fn a_stop_comes_before_each_action(rt: HostRuntime) -> Result<(), Fail> {
 fn stops_before<R: Threads + Wait + Clock + Abort + Sync>(
     rt: &R,
     alloc: Global,
-    config: &Config,
+    gens: &Generations,
     action: u32,
 ) -> Result<(), Fail> {
-    let (posts, inbox) = Posts::open(alloc, config)?;
+    let (posts, inbox) = Posts::open(alloc, gens)?;
     let gate = Stops {
         stopping: Mutex::new(Stopping {
             posts,
             left: action,
         }),
     };
-    let (text, accepted) = report_of_many(rt, alloc, config, inbox, &gate)?;
+    let (text, accepted) = report_of_many(rt, alloc, gens, inbox, &gate)?;
     is_either(rt, alloc, text.as_str(), accepted)
 }
 
@@ -220,16 +220,16 @@ fn is_either(rt: &impl Abort, alloc: Global, text: &str, accepted: u64) -> Resul
 
 #[test]
 fn two_pipelines_meet_and_stop(rt: HostRuntime) -> Result<(), Fail> {
-    let config = read_config(rt.alloc(), TWO_PIPELINES.as_bytes())?;
-    let (posts, inbox) = Posts::open(rt.alloc(), &config)?;
+    let gens = of_text(rt.alloc(), TWO_PIPELINES)?;
+    let (posts, inbox) = Posts::open(rt.alloc(), &gens)?;
     let meeting = Meeting::new(2);
     let gate = Holding {
         meeting: &meeting,
         posts: Mutex::new(posts),
     };
     let feeds = vec![in rt.alloc(); Feed::of(rt.alloc(), &[SEVENTH])?]?;
-    let served = run(&rt, rt.alloc(), &config, feeds, inbox, &gate)?;
-    let text = report_text(rt.alloc(), &config, &served.report)?;
+    let served = run(&rt, rt.alloc(), &gens, feeds, inbox, &gate)?;
+    let text = report_text(rt.alloc(), gens.first(), &served.report)?;
     let rest =
         "\npipeline \"main\" \"check\" finished\ndone \"main\" \"check\" \"gerrit\" 0\npipeline \"main\" \"post\" finished\ndone \"main\" \"post\" \"gerrit\" 0\n";
     let ended = format!(in rt.alloc(); "connection \"gerrit\" accepted 1 ended{rest}")?;

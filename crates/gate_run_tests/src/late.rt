@@ -4,7 +4,7 @@ ghost use Rattle.gate_run.specs.Ports.{IsInboxFor};
 use crate::feeds::Feed;
 use crate::gates::{Meeting, Posting, PostsFirst};
 use crate::runs::{SEVENTH, one, run};
-use gate_config::Config;
+use gate_config::Generations;
 use gate_items::{Items, JobResult, Key};
 use gate_record::{ConnId, Text};
 use gate_run::{Inbox, Posts};
@@ -30,14 +30,14 @@ fn succeeded(alloc: Global, posts: Posts) -> Result<Posting, Fail> {
 
 #[test]
 fn a_late_result_is_reported(rt: HostRuntime) -> Result<(), Fail> {
-    let config = one(rt.alloc())?;
-    let (posts, inbox) = Posts::open(rt.alloc(), &config)?;
+    let gens = one(rt.alloc())?;
+    let (posts, inbox) = Posts::open(rt.alloc(), &gens)?;
     let meeting = Meeting::new(2);
     let gate = PostsFirst {
         posting: Mutex::new(succeeded(rt.alloc(), posts)?),
         meeting: &meeting,
     };
-    result_is_reported(&rt, rt.alloc(), &config, inbox, &gate)?;
+    result_is_reported(&rt, rt.alloc(), &gens, inbox, &gate)?;
     assert!(&rt; !meeting.was_missed());
     Ok(())
 }
@@ -45,14 +45,14 @@ fn a_late_result_is_reported(rt: HostRuntime) -> Result<(), Fail> {
 fn result_is_reported<R: Threads + Wait + Clock + Abort + Sync>(
     rt: &R,
     alloc: Global,
-    config: &Config,
+    gens: &Generations,
     inbox: Inbox,
     gate: &PostsFirst<'_>,
 ) -> Result<(), Fail>
-    requires inbox { IsInboxFor config.now inbox }
+    requires inbox { IsInboxFor gens.now.first inbox }
 {
     let feed = Feed::of(alloc, &[SEVENTH])?.ends_after(gate.meeting);
-    let served = run(rt, alloc, config, vec![in alloc; feed]?, inbox, gate)?;
+    let served = run(rt, alloc, gens, vec![in alloc; feed]?, inbox, gate)?;
     let check = served
         .pipelines
         .get(0)

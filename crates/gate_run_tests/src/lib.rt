@@ -10,6 +10,8 @@ mod gates;
 #[cfg(test)]
 mod late;
 #[cfg(test)]
+mod marks;
+#[cfg(test)]
 mod meetings;
 #[cfg(test)]
 mod posts;

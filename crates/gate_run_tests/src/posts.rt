@@ -45,12 +45,12 @@ fn posts_to_pipelines_that_are_there(rt: HostRuntime) -> Result<(), Fail> {
 
 #[test]
 fn a_stop_comes_before_the_first_record(rt: HostRuntime) -> Result<(), Fail> {
-    let config = one(rt.alloc())?;
-    let (mut posts, inbox) = Posts::open(rt.alloc(), &config)?;
+    let gens = one(rt.alloc())?;
+    let (mut posts, inbox) = Posts::open(rt.alloc(), &gens)?;
     assert!(&rt; posts.stop(StopCause::Caller) == Ok(StopCause::Caller));
     let feeds = vec![in rt.alloc(); Feed::of(rt.alloc(), &[SEVENTH])?]?;
-    let served = run(&rt, rt.alloc(), &config, feeds, inbox, &Silent)?;
-    let text = report_text(rt.alloc(), &config, &served.report)?;
+    let served = run(&rt, rt.alloc(), &gens, feeds, inbox, &Silent)?;
+    let text = report_text(rt.alloc(), gens.first(), &served.report)?;
     let wanted =
         "connection \"gerrit\" accepted 0 stopped\npipeline \"main\" \"check\" finished\ndone \"main\" \"check\" \"gerrit\"\n";
     comes_to("a report", text.as_str(), wanted)

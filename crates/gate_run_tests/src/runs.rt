@@ -3,7 +3,7 @@ ghost use Rattle.gate_run.specs.Ports.{IsInboxFor};
 
 use crate::feeds::Feed;
 use crate::gates::Silent;
-use gate_config::{Config, ConfigFault, read_config};
+use gate_config::{ConfigFault, Generations, read_config, read_generations};
 use gate_core::report_text;
 use gate_run::{Gate, Inbox, Posts, Served, serve, serve_over};
 use gate_test_lines::comes_to;
@@ -20,6 +20,10 @@ pub(crate) const ONE: &str =
 // The same with a second pipeline, which selects them too.
 pub(crate) const TWO_PIPELINES: &str =
     r#"{"tenants":[{"name":"main","source":{"gerrit":{"untrusted-projects":["demo"]}}}],"config":{"main":[{"pipeline":{"name":"check","manager":"independent","trigger":{"gerrit":[{"event":"patchset-created"}]}}},{"pipeline":{"name":"post","manager":"independent","trigger":{"gerrit":[{"event":"patchset-created"}]}}}]}}"#;
+
+// The same project, whose new patch sets no rule selects.
+pub(crate) const NEVER: &str =
+    r#"{"tenants":[{"name":"main","source":{"gerrit":{"untrusted-projects":["demo"]}}}],"config":{"main":[{"pipeline":{"name":"check","manager":"independent","trigger":{"gerrit":[]}}},{"project":{"name":"demo","check":{"jobs":["build"]}}}]}}"#;
 
 // Two connections of one tenant, whose pipeline selects new patch sets of either.
 pub(crate) const TWO_CONNECTIONS: &str =
@@ -39,36 +43,50 @@ pub(crate) const EIGHTH: &str =
 pub(crate) fn run<'f, G: Gate + Sync, R: Threads + Wait + Clock + Sync>(
     rt: &R,
     alloc: Global,
-    config: &Config,
+    gens: &Generations,
     feeds: Vec<Feed<'f>>,
     inbox: Inbox,
     gate: &G,
 ) -> Result<Served<Feed<'f>>, Fail>
-    requires inbox { IsInboxFor config.now inbox }
+    requires inbox { IsInboxFor gens.now.first inbox }
 {
-    if feeds.len() != config.connections().len() {
+    if feeds.len() != gens.first().connections().len() {
         return Err(Fail::from("a feed for each connection"));
     }
-    Ok(serve(rt, alloc, config, feeds, inbox, gate)?)
+    Ok(serve(rt, alloc, gens, feeds, inbox, gate)?)
 }
 
 // Runs a configuration over these feeds, with nothing posted, and sees what is reported.
 pub(crate) fn reports<G: Gate + Sync, R: Threads + Wait + Clock + Sync>(
     rt: &R,
     alloc: Global,
-    config: &Config,
+    gens: &Generations,
     feeds: Vec<Feed<'_>>,
     gate: &G,
     wanted: &str,
 ) -> Result<(), Fail> {
-    let (_posts, inbox) = Posts::open(alloc, config)?;
-    let served = run(rt, alloc, config, feeds, inbox, gate)?;
-    let text = report_text(alloc, config, &served.report)?;
+    let (_posts, inbox) = Posts::open(alloc, gens)?;
+    let served = run(rt, alloc, gens, feeds, inbox, gate)?;
+    let text = report_text(alloc, gens.first(), &served.report)?;
     comes_to("a report", text.as_str(), wanted)
 }
 
-pub(crate) fn one(alloc: Global) -> Result<Config, ConfigFault> {
-    read_config(alloc, ONE.as_bytes())
+pub(crate) fn one(alloc: Global) -> Result<Generations, ConfigFault> {
+    of_text(alloc, ONE)
+}
+
+// The configuration that a document says, which stays as it is.
+pub(crate) fn of_text(alloc: Global, document: &str) -> Result<Generations, ConfigFault> {
+    let config = read_config(alloc, document.as_bytes())?;
+    Ok(Generations::of(alloc, config))
+}
+
+// First that configuration, and then the one whose rules select nothing.
+pub(crate) fn one_then_never(alloc: Global) -> Result<Generations, Fail> {
+    let mut documents = Vec::new(alloc);
+    documents.push(ONE.as_bytes().to_vec(alloc)?)?;
+    documents.push(NEVER.as_bytes().to_vec(alloc)?)?;
+    Ok(read_generations(alloc, documents.as_slice())?)
 }
 
 #[test]
@@ -103,33 +121,43 @@ fn two_feeds(alloc: Global, count: u32) -> Result<Vec<Feed<'static>>, Fail> {
 
 #[test]
 fn a_long_run(rt: HostRuntime) -> Result<(), Fail> {
-    let config = read_config(rt.alloc(), TWO_CONNECTIONS.as_bytes())?;
+    let gens = of_text(rt.alloc(), TWO_CONNECTIONS)?;
     let feeds = two_feeds(rt.alloc(), 10_000)?;
     let wanted = wanted_of_two(rt.alloc(), 10_000)?;
-    reports(&rt, rt.alloc(), &config, feeds, &Silent, wanted.as_str())
+    reports(&rt, rt.alloc(), &gens, feeds, &Silent, wanted.as_str())
 }
 
 // Runs a configuration with two places for the records of each connection, so that records are refused often.
 fn run_with_two_places<R: Threads + Wait + Clock + Sync>(
     rt: &R,
     alloc: Global,
-    config: &Config,
+    gens: &Generations,
     feeds: Vec<Feed<'_>>,
     wanted: &str,
 ) -> Result<(), Fail> {
-    if feeds.len() != config.connections().len() {
+    if feeds.len() != gens.first().connections().len() {
         return Err(Fail::from("a feed for each connection"));
     }
-    let (_posts, inbox) = Posts::open(alloc, config)?;
-    let served = serve_over(rt, alloc, 2, config, feeds, inbox, &Silent)?;
-    let text = report_text(alloc, config, &served.report)?;
+    let (_posts, inbox) = Posts::open(alloc, gens)?;
+    let served = serve_over(rt, alloc, 2, gens, feeds, inbox, &Silent)?;
+    let text = report_text(alloc, gens.first(), &served.report)?;
     comes_to("a report", text.as_str(), wanted)
 }
 
 #[test]
 fn full_queues_are_tried_again(rt: HostRuntime) -> Result<(), Fail> {
-    let config = read_config(rt.alloc(), TWO_CONNECTIONS.as_bytes())?;
+    let gens = of_text(rt.alloc(), TWO_CONNECTIONS)?;
     let feeds = two_feeds(rt.alloc(), 2500)?;
     let wanted = wanted_of_two(rt.alloc(), 2500)?;
-    run_with_two_places(&rt, rt.alloc(), &config, feeds, wanted.as_str())
+    run_with_two_places(&rt, rt.alloc(), &gens, feeds, wanted.as_str())
+}
+
+#[test]
+fn the_first_generation_stays_in_force(rt: HostRuntime) -> Result<(), Fail> {
+    let alloc = rt.alloc();
+    let gens = one_then_never(alloc)?;
+    let feeds = vec![in alloc; Feed::of(alloc, &[SEVENTH, EIGHTH])?]?;
+    let wanted =
+        "connection \"gerrit\" accepted 2 ended\npipeline \"main\" \"check\" finished\ndone \"main\" \"check\" \"gerrit\" 0 1\n";
+    reports(&rt, alloc, &gens, feeds, &Silent, wanted)
 }

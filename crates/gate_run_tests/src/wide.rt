@@ -1,8 +1,8 @@
 //! A run of as many pipelines as a tenant may have.
 use crate::feeds::Feed;
 use crate::gates::Silent;
-use crate::runs::{SEVENTH, reports};
-use gate_config::{MAX_PIPELINES, read_config};
+use crate::runs::{SEVENTH, of_text, reports};
+use gate_config::MAX_PIPELINES;
 use std::alloc::Global;
 use std::test::Fail;
 
@@ -40,8 +40,8 @@ fn wide_report(alloc: Global) -> Result<String, Fail> {
 fn all_pipelines_get_one_record(rt: HostRuntime) -> Result<(), Fail> {
     let text = wide_config(rt.alloc())?;
     let wanted = wide_report(rt.alloc())?;
-    let config = read_config(rt.alloc(), text.as_bytes())?;
+    let gens = of_text(rt.alloc(), text.as_str())?;
     let feed = Feed::of(rt.alloc(), &[SEVENTH])?;
     let feeds = vec![in rt.alloc(); feed]?;
-    reports(&rt, rt.alloc(), &config, feeds, &Silent, wanted.as_str())
+    reports(&rt, rt.alloc(), &gens, feeds, &Silent, wanted.as_str())
 }

@@ -1,24 +1,31 @@
 -- What contracts see of a connection's source, and what its calls make of it.
-use Rattle.std.specs.Prelude.{◌≡◌, ◌≤◌, ◌<◌, ◌+◌, ◌^◌, ◌∷◌, ◌++◌, ℕ, List, [], length, None, Result, Ok, Err}
+use Rattle.std.specs.Prelude.{◌≡◌, ◌≤◌, ◌<◌, ◌+◌, ◌^◌, ◌∷◌, ◌++◌, ℕ, List, [], All, true, false, length, None, Result, Ok, Err}
 use Rattle.gate_record.specs.declared.record.Record.{Record}
 use Rattle.gate_record.specs.declared.transit.ConnEntry.{ConnEntry}
 use Rattle.gate_record.specs.declared.transit.ConnEntry.TheVariants as entry
-use Rattle.gate_record.specs.Entries.{entries_of}
+use Rattle.gate_record.specs.Entries.{AreEntriesOf, beside}
 use Rattle.gate_queue.specs.Seats.{SenderSeat, Shape, with_put}
 use Rattle.gate_queue.specs.States.{MayBeFull}
 use Rattle.gate_source.specs.declared.source.OfferFault.{OfferFault}
+use Rattle.gate_source.specs.declared.source.RenewFault.{RenewFault}
+use Rattle.gate_source.specs.declared.source.RenewFault.TheVariants.{Last, Full as NoPlace}
 use Rattle.gate_source.specs.declared.source.OfferFault.TheVariants.{Stopped, Full}
 use Rattle.gate_source.specs.declared.stop.StopCause.{StopCause}
 use Rattle.gate_source.specs.Stops.{Learns, Note}
 
--- the seat in the connection's queue, and how many records were accepted
+-- the seat in the connection's queue, how many records were accepted, and the generation of the configuration in force
 pub record State : Type 0 where
   pub seat : SenderSeat ConnEntry
   pub count : ℕ
+  pub generation : ℕ
 
 -- one more record is put, with the count before it as its number
 abbrev pub accepted : State → Record → State
-accepted source line = record { seat = with_put source.seat (entry.Numbered source.count line); count = source.count + 1 }
+accepted source line = record source { seat = with_put source.seat (entry.Numbered source.count line); count = source.count + 1 }
+
+-- the mark of the next generation is put
+abbrev pub renewed : State → State
+renewed source = record source { seat = with_put source.seat entry.Renew; generation = source.generation + 1 }
 
 -- the fault hands this record back
 abbrev pub HandsBack : Record → OfferFault → Type 0
@@ -42,21 +49,41 @@ abbrev pub IsNeeded : Shape → State → OfferFault → Type 0
 IsNeeded queue source (Full line) = source.count < 2 ^ 62 → IsFull queue source.seat
 IsNeeded queue source (Stopped line) = Unit {0}
 
+-- a renewal fails so: there are only so many generations, or the queue was full
+abbrev pub MayRenewFault : Shape → State → ℕ → RenewFault → Type 0
+MayRenewFault queue source count Last = count ≤ source.generation + 1
+MayRenewFault queue source count NoPlace = (source.generation + 1 < count) × IsFull queue source.seat
+
 -- ---- what was put so far
 
--- from this seat on, a source has accepted these records, one after another
-pub data HasAccepted (seat : SenderSeat ConnEntry) : State → List Record → Type 0 where
-  begins : HasAccepted seat (record { seat = seat; count = 0 }) []
-  accepts : {source : State} {records : List Record} (line : Record) → HasAccepted seat source records → HasAccepted seat (accepted source line) (records ++ line ∷ [])
+-- each number is at most all that follow it
+abbrev pub NeverFalls : List ℕ → Type 0
+NeverFalls [] = Unit {0}
+NeverFalls (n ∷ numbers) = All (λ m. n ≤ m) numbers × NeverFalls numbers
 
--- What a source has put are the records that it accepted, numbered from 0, and its count is their number. The end mark, if it is
--- put, is behind them.
-pub record AreNumbered (seat : SenderSeat ConnEntry) (source : State) (records : List Record) : Type 0 where
-  pub put : source.seat.put ≡ entries_of records
-  pub ended : (with_put source.seat entry.End).put ≡ entries_of records ++ entry.End ∷ []
+-- From this seat on, a source has accepted these records, one after another, and has put the generations behind the first in
+-- force, each when so many records were accepted, of so many generations.
+pub data HasAccepted (seat : SenderSeat ConnEntry) (generations : ℕ) : State → List Record → List ℕ → Type 0 where
+  begins : HasAccepted seat generations (record { seat = seat; count = 0; generation = 0 }) [] []
+  accepts : {source : State} {records : List Record} {renewals : List ℕ} (line : Record) → HasAccepted seat generations source records renewals →
+      HasAccepted seat generations (accepted source line) (records ++ line ∷ []) renewals
+  renews : {source : State} {records : List Record} {renewals : List ℕ} → HasAccepted seat generations source records renewals → source.generation + 1 < generations →
+      HasAccepted seat generations (renewed source) records (renewals ++ length records ∷ [])
+
+-- What a source has put are the records that it accepted, numbered from 0, and the marks of its renewals between them; its count is
+-- the number of the records, and its generation that of the renewals, of which there are fewer than generations. The end mark, if
+-- it is put, is behind them. The renewals never fall, and each stands behind no more records than there are.
+pub record AreNumbered (seat : SenderSeat ConnEntry) (generations : ℕ) (source : State) (records : List Record) (renewals : List ℕ) : Type 0 where
+  pub put : AreEntriesOf source.seat.put (beside renewals records) source.generation false
+  pub ended : AreEntriesOf (with_put source.seat entry.End).put (beside renewals records) source.generation true
   pub count : source.count ≡ length records
+  pub marks : source.generation ≡ length renewals
+  pub rising : NeverFalls renewals
+  pub within : All (λ m. m ≤ length records) renewals
+  pub few : length renewals < generations
   pub queue : source.seat.queue ≡ seat.queue
   pub sender : source.seat.sender ≡ seat.sender
 
 abbrev pub AcceptedAreNumbered : Type 0
-AcceptedAreNumbered = (seat : SenderSeat ConnEntry) (source : State) (records : List Record) → seat.put ≡ [] → HasAccepted seat source records → AreNumbered seat source records
+AcceptedAreNumbered = (seat : SenderSeat ConnEntry) (generations : ℕ) (source : State) (records : List Record) (renewals : List ℕ) → seat.put ≡ [] → 0 < generations →
+    HasAccepted seat generations source records renewals → AreNumbered seat generations source records renewals

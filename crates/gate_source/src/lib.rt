@@ -20,6 +20,6 @@ pub use laws::{
     accepted_records_are_numbered, the_cutting_does_not_matter, the_lines_that_ended_are_given,
 };
 pub use reader_feed::ReaderFeed;
-pub use source::{ClosedSource, MOST_RECORDS, OfferFault, Source};
+pub use source::{ClosedSource, MOST_RECORDS, OfferFault, RenewFault, Source};
 pub use split::LineSplit;
 pub use stop::{StopCause, StopCell, StopNote};

@@ -1,5 +1,5 @@
 //! The way of one connection's records into its queue.
-ghost use Rattle.std.specs.Prelude.{◌≡◌, ◌<◌, ◌^◌, IfErr, IfOk, OnErr};
+ghost use Rattle.std.specs.Prelude.{◌≡◌, ◌<◌, ◌+◌, ◌^◌, IfErr, IfOk, OnErr};
 ghost use Rattle.gate_queue.specs.Seats.{IsTailOf, with_put};
 ghost use Rattle.gate_record.specs.declared.transit.ConnEntry.TheVariants as entry;
 
@@ -21,12 +21,23 @@ pub enum OfferFault {
     Full(Record),
 }
 
-/// The source of one connection: it numbers the records that it accepts, from 0, and puts them into the connection's queue.
-/// Contracts see its seat in the queue, with all that was put, and how many records it accepted.
+/// Why the next generation of the configuration was not put in force.
+#[derive(Debug, Clone, Copy, PartialEq, Eq)]
+pub enum RenewFault {
+    /// There is no later generation.
+    Last,
+    /// The queue was full at some moment of the call.
+    Full,
+}
+
+/// The source of one connection: it numbers the records that it accepts, from 0, and puts them into the connection's queue, and
+/// between them a mark for each generation of the configuration behind the first that it puts in force. Contracts see its seat in
+/// the queue, with all that was put, how many records it accepted, and the generation in force.
 #[derive(Drop)]
 pub struct Source {
     tail: Tail<ConnEntry>,
     count: u64,
+    generation: u32,
 }
 
 impl Model for Source {
@@ -34,7 +45,7 @@ impl Model for Source {
 
     ghost Value = { State };
 
-    ghost view = { λ s. record { seat = s.tail; count = s.count } };
+    ghost view = { λ s. record { seat = s.tail; count = s.count; generation = s.generation } };
 }
 
 /// What is left of a source once its end mark was put.
@@ -48,14 +59,26 @@ pub struct ClosedSource {
 
 impl Source {
     ghost use Rattle.gate_source.specs.Stops.{IsNoteOf};
-    ghost use Rattle.gate_source.specs.Sources.{HandsBack, IsFull, IsNeeded, Tells, accepted};
+    ghost use Rattle.gate_source.specs.Sources.{HandsBack, IsFull, IsNeeded, MayRenewFault, Tells, accepted, renewed};
 
     /// The source of a seat, which accepted nothing yet. It takes no memory.
     pub fn new(tail: Tail<ConnEntry>) -> Source
         ensures seat { result.seat ≡ tail }
         ensures count { result.count ≡ 0 }
+        ensures generation { result.generation ≡ 0 }
     {
-        Source { tail, count: 0 }
+        Source {
+            tail,
+            count: 0,
+            generation: 0,
+        }
+    }
+
+    /// How many records it accepted.
+    pub fn count(&self) -> u64
+        ensures { result ≡ self.now.count }
+    {
+        self.count
     }
 
     /// Offers a record. The answer is its number, the count of those that were accepted before. It takes no memory.
@@ -94,7 +117,39 @@ impl Source {
                 Ok(number)
             }
             Err(Full(ConnEntry::Numbered(_, line))) => Err(OfferFault::Full(line)),
-            Err(Full(ConnEntry::End)) => unreachable!(),
+            Err(Full(ConnEntry::Renew | ConnEntry::End)) => unreachable!(),
+        }
+    }
+
+    /// Puts the next of so many generations of the configuration in force for the records that are offered from then on, by a
+    /// mark behind those that were accepted. The answer is its number. It takes no memory.
+    ///
+    /// `Last` comes first, exactly where there is no later generation. `Full` comes only where the queue was full at some moment
+    /// of the call. Neither changes anything. The seat is one of this queue's.
+    pub fn renew<R: Wait>(
+        &mut self,
+        rt: &R,
+        queue: &EventQueue<ConnEntry>,
+        count: u32,
+    ) -> Result<u32, RenewFault>
+        requires seat { IsTailOf queue.now self.old.seat }
+        ensures renews { IfOk result (λ generation. (generation ≡ self.old.generation + 1) × (generation < count) × (self.new ≡ renewed self.old)) }
+        ensures unchanged { OnErr result (self.new ≡ self.old) }
+        ensures why { IfErr result (MayRenewFault queue.now self.old count) }
+        ensures same { self.new.seat.queue ≡ self.old.seat.queue }
+    {
+        let Some(left) = count.checked_sub(self.generation) else {
+            return Err(RenewFault::Last);
+        };
+        if left <= 1 {
+            return Err(RenewFault::Last);
+        }
+        match queue.put(rt, &mut self.tail, ConnEntry::Renew) {
+            Ok(()) => {
+                self.generation += 1;
+                Ok(self.generation)
+            }
+            Err(_) => Err(RenewFault::Full),
         }
     }
 
@@ -111,10 +166,18 @@ impl Source {
         ensures back { IfErr result (λ back. back ≡ self) }
         ensures full { OnErr result (IsFull queue.now self.seat) }
     {
-        let Source { mut tail, count } = self;
+        let Source {
+            mut tail,
+            count,
+            generation,
+        } = self;
         match queue.put(rt, &mut tail, ConnEntry::End) {
             Ok(()) => Ok(ClosedSource { count, tail }),
-            Err(_) => Err(Source { tail, count }),
+            Err(_) => Err(Source {
+                tail,
+                count,
+                generation,
+            }),
         }
     }
 
@@ -123,7 +186,7 @@ impl Source {
         ensures count { result.0 ≡ self.count }
         ensures seat { result.1 ≡ self.seat }
     {
-        let Source { tail, count } = self;
+        let Source { tail, count, .. } = self;
         (count, tail)
     }
 }

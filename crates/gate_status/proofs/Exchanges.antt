@@ -1,5 +1,5 @@
 -- Answers to lines put one after another are the answers to all of them.
-use Rattle.std.proofs.Common.{◌≡◌, ◌∙◌, ◌++◌, ℕ, List, [], ◌∷◌, map, refl, sym, ap, subst, Option, Some, None, append_assoc, append-nil}
+use Rattle.std.proofs.Common.{◌≡◌, ◌∙◌, ◌++◌, ℕ, List, [], ◌∷◌, length, map, refl, sym, ap, subst, Option, Some, None, append_assoc, append-nil}
 use Rattle.std.specs.Prelude.{All, flat_map, fold}
 use Rattle.std.specs.Io.KnownBytes.{Appends, Consumes}
 use Rattle.std.proofs.lemmas.Grind.{flat_map-append}
@@ -11,8 +11,8 @@ use Rattle.gate_config.specs.declared.config.Config.{Config}
 use Rattle.gate_run.specs.Ports.{PostsView}
 use Rattle.gate_status.specs.declared.fault.SessionEnd.{SessionEnd}
 use Rattle.gate_status.specs.declared.reply.Reply.{Reply}
-use Rattle.gate_status.specs.Replies.{MayReply, NoteAfter, asked_by, end_of, posted_by, reply_text}
-use Rattle.gate_status.specs.Talks.{AreEndedBy, Exchange, GoesOn, MayBe, Talk, post_in, text_of}
+use Rattle.gate_status.specs.Replies.{IsLeft, MayReply, NoteAfter, asked_behind, asked_by, end_of, posted_by, reply_text}
+use Rattle.gate_status.specs.Talks.{AreEndedBy, AreLeft, Exchange, GoesOn, MayBe, Talk, asked_in, post_in, text_of}
 use Rattle.gate_status.specs.Inner.Talks.{AreHeard, Talks}
 
 abbrev lines_of : List Exchange → List Record
@@ -40,6 +40,10 @@ heard_on None front bs xs ys a b = map-append (λ (e : Exchange). e.line) front 
 heard_on (Some how) front bs xs ys a b =
     (b.0, ap (λ zs. zs ++ b.0) (map-append (λ (e : Exchange). e.line) front bs) ∙ append_assoc (lines_of front) (lines_of bs) b.0 ∙ ap (λ zs. zs ++ (lines_of bs ++ b.0)) a ∙ ap (λ zs. xs ++ zs) b.1)
 
+left_on : (later asked : ℕ) (xs ys : List Exchange) → AreLeft later asked xs → AreLeft later (fold asked_in asked xs) ys → AreLeft later asked (xs ++ ys)
+left_on later asked [] ys a b = b
+left_on later asked (x ∷ xs) ys a b = (a.0, left_on later (asked_in asked x) xs ys a.1 b)
+
 module _ {config : Config} {w0 w1 w2 : Option (List ℕ)} {p0 p1 p2 : PostsView} where
   pub talk_on : {how : Option SessionEnd} (xs ys : List Exchange) → Talk config None xs w0 w1 p0 p1 → Talk config how ys w1 w2 p1 p2 → Talk config how (xs ++ ys) w0 w2 p0 p2
   talk_on {how} xs ys a b = record {
@@ -47,6 +51,9 @@ module _ {config : Config} {w0 w1 w2 : Option (List ℕ)} {p0 p1 p2 : PostsView}
     ends = ends_on how xs ys a.ends b.ends;
     texts = subst (Appends w0 w2) (sym (flat_map-append text_of xs ys)) (appends_on w0 w1 w2 (flat_map text_of xs) (flat_map text_of ys) a.texts b.texts);
     posted = b.posted ∙ ap (λ ps. fold post_in ps ys) a.posted ∙ sym (fold-append post_in p0.pipelines xs ys);
+    asked = b.asked ∙ ap (λ n. fold asked_in n ys) a.asked ∙ sym (fold-append asked_in (length p0.asked) xs ys);
+    left = left_on (length p0.cells) (length p0.asked) xs ys a.left (subst (λ later. AreLeft later (fold asked_in (length p0.asked) xs) ys) (ap length a.cells) (subst (λ n. AreLeft (length p1.cells) n ys) a.asked b.left));
+    cells = b.cells ∙ a.cells;
     note = subst (λ n. NoteAfter how n p2.note) a.note b.note;
   }
 
@@ -69,6 +76,9 @@ module _ {config : Config} {p : PostsView} where
     ends = All-nil GoesOn;
     texts = nothing w;
     posted = refl;
+    asked = refl;
+    left = tt {0};
+    cells = refl;
     note = refl;
   }
 
@@ -89,8 +99,8 @@ module _ (line : Record) (reply : Reply) where
   ends_one (Some how) e = ([], record { line = line; reply = reply }, refl, All-nil GoesOn, e)
 
 module _ {config : Config} {w w' : Option (List ℕ)} {p p' : PostsView} (line : Record) (reply : Reply) where
-  pub talks_one : {how : Option SessionEnd} → end_of reply ≡ how → MayReply config (asked_by line) reply → Appends w w' (reply_text reply) → p'.pipelines ≡ posted_by (asked_by line) reply p.pipelines → NoteAfter how p.note p'.note → Talks config (line ∷ []) how w w' p p'
-  talks_one {how} e may texts posted note = record {
+  pub talks_one : {how : Option SessionEnd} → end_of reply ≡ how → MayReply config (asked_by line) reply → Appends w w' (reply_text reply) → p'.pipelines ≡ posted_by (asked_by line) reply p.pipelines → length p'.asked ≡ asked_behind (length p.asked) reply → IsLeft (length p.cells) (length p.asked) reply → p'.cells ≡ p.cells → NoteAfter how p.note p'.note → Talks config (line ∷ []) how w w' p p'
+  talks_one {how} e may texts posted asked left cells note = record {
     exchanges = own line reply;
     heard = heard_one line reply how;
     talk = record {
@@ -98,6 +108,9 @@ module _ {config : Config} {w w' : Option (List ℕ)} {p p' : PostsView} (line :
       ends = ends_one line reply how e;
       texts = subst (Appends w w') (sym (append-nil (reply_text reply))) texts;
       posted = posted;
+      asked = asked;
+      left = (left, tt {0});
+      cells = cells;
       note = note;
     };
   }

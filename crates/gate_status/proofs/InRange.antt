@@ -91,6 +91,7 @@ with_many : (asked : Result Command CommandFault) (posts : List (List PostEnds))
 with_many (Err why) posts = refl
 with_many (Ok command.Status) posts = refl
 with_many (Ok command.Stop) posts = refl
+with_many (Ok command.Renew) posts = refl
 with_many (Ok command.Quit) posts = refl
 with_many (Ok (command.Manage tenant pipeline manage)) posts = all_many tenant.0 pipeline.0 (λ (ends : PostEnds). record ends { management = posted manage ends.management }) posts
 with_many (Ok (command.Result tenant pipeline ended)) posts = all_many tenant.0 pipeline.0 (λ (ends : PostEnds). record ends { results = posted ended ends.results }) posts
@@ -101,6 +102,8 @@ by_many asked reply.Posted posts = with_many asked posts
 by_many asked reply.Full posts = refl
 by_many asked reply.NoPipeline posts = refl
 by_many asked reply.Stopping posts = refl
+by_many asked reply.Renewed posts = refl
+by_many asked reply.Last posts = refl
 by_many asked reply.Bye posts = refl
 by_many asked (reply.Refused why) posts = refl
 

@@ -1,5 +1,5 @@
 -- How a session goes on, and what it has done once it ends.
-use Rattle.std.proofs.Common.{◌≡◌, ◌∙◌, ◌++◌, ◌+◌, ◌<◌, ℕ, List, [], length, map, refl, sym, subst, Option, Some, None, arith, append-nil, inl, inr, ◌≢◌, Ok, Err}
+use Rattle.std.proofs.Common.{◌≡◌, ◌∙◌, ◌++◌, ◌+◌, ◌<◌, ◌≤◌, ℕ, List, [], length, map, refl, sym, subst, Option, Some, None, arith, append-nil, inl, inr, ◌≢◌, Ok, Err}
 use Rattle.std.specs.Prelude.{IfOk, Result}
 use Rattle.std.specs.Io.KnownBytes.{Consumes}
 use Rattle.std.specs.Option.{option_to_list}
@@ -55,6 +55,8 @@ by_reply end.End reply.Stopping e = absurd (cc)
 by_reply end.Quit reply.Stopping e = refl
 by_reply end.Stop reply.Stopping e = refl
 by_reply end.Limit reply.Stopping e = absurd (cc)
+by_reply how reply.Renewed e = absurd (cc)
+by_reply how reply.Last e = absurd (cc)
 by_reply end.End reply.Bye e = absurd (cc)
 by_reply end.Quit reply.Bye e = refl
 by_reply end.Stop reply.Bye e = refl
@@ -64,11 +66,11 @@ by_reply how (reply.Refused why) e = absurd (cc)
 cc_end : {X : Type 0} {x : X} → None ≡ Some x → ⊥
 cc_end e = cc
 
-heard_first : (bytes : List ℕ) (rest : Option (List ℕ)) (lines : List Record) (how : SessionEnd) (r : Reply) → end_of r ≡ Some how → AreFirst bytes rest lines → Heard how bytes rest lines
-heard_first bytes rest lines end.End r e first = absurd (cc_end (by_reply end.End r e))
-heard_first bytes rest lines end.Quit r e first = first
-heard_first bytes rest lines end.Stop r e first = first
-heard_first bytes rest lines end.Limit r e first = absurd (cc_end (by_reply end.Limit r e))
+heard_first : (bytes : List ℕ) (rest : Option (List ℕ)) (lines : List Record) (how : SessionEnd) (r : Reply) → end_of r ≡ Some how → length bytes ≤ longest_session → AreFirst bytes rest lines → Heard how bytes rest lines
+heard_first bytes rest lines end.End r e few first = absurd (cc_end (by_reply end.End r e))
+heard_first bytes rest lines end.Quit r e few first = (few, first)
+heard_first bytes rest lines end.Stop r e few first = (few, first)
+heard_first bytes rest lines end.Limit r e few first = absurd (cc_end (by_reply end.Limit r e))
 
 module _ {config : Config} {split split' : Option (List ℕ)} {room : ℕ} (room' : ℕ) {told told' told'' w w' w'' : Option (List ℕ)} {p p' p'' : PostsView} where
   -- a piece more, whose lines were answered
@@ -91,7 +93,7 @@ module _ {config : Config} {split split' : Option (List ℕ)} {room : ℕ} (room
         bytes = bytes;
         exchanges = both.exchanges;
         read = consumes_on told told' told'' s.bytes h.0 s.read h.3;
-        heard = heard_first bytes told'' (lines_of both.exchanges) how last.reply both.talk.ends.4 (inl (subst (IsPrefixOf (lines_of both.exchanges)) (h.4 s.bytes s.fed).1 both.heard));
+        heard = heard_first bytes told'' (lines_of both.exchanges) how last.reply both.talk.ends.4 (omega (arith, s.left, h.2, length-append s.bytes h.0)) (inl (subst (IsPrefixOf (lines_of both.exchanges)) (h.4 s.bytes s.fed).1 both.heard));
         talk = subst (λ made. Talk config made both.exchanges w w'' p p'') (sym (by_reply how last.reply both.talk.ends.4)) both.talk;
       }
 
@@ -121,7 +123,7 @@ module _ {config : Config} {split split' : Option (List ℕ)} {room : ℕ} (room
         bytes = s.bytes;
         exchanges = both.exchanges;
         read = read_all told told' told'' s.bytes s.read h.1;
-        heard = inr (h.2, subst (IsPrefixOf (lines_of both.exchanges)) (finished last s h.0 ends) both.heard);
+        heard = (omega (arith, s.left), inr (h.2, subst (IsPrefixOf (lines_of both.exchanges)) (finished last s h.0 ends) both.heard));
         talk = both.talk;
       }
   closes end.Stop not_limit some s h ends t =
@@ -130,7 +132,7 @@ module _ {config : Config} {split split' : Option (List ℕ)} {room : ℕ} (room
         bytes = s.bytes;
         exchanges = both.exchanges;
         read = read_all told told' told'' s.bytes s.read h.1;
-        heard = inr (h.2, subst (IsPrefixOf (lines_of both.exchanges)) (finished last s h.0 ends) both.heard);
+        heard = (omega (arith, s.left), inr (h.2, subst (IsPrefixOf (lines_of both.exchanges)) (finished last s h.0 ends) both.heard));
         talk = both.talk;
       }
   closes end.Limit not_limit some s h ends t = absurd (not_limit refl)

@@ -85,7 +85,8 @@ abbrev pub plain_of : List ℕ → Option Command
 plain_of word =
     if bytes_eq word (codes "status") then Some command.Status
     else (if bytes_eq word (codes "stop") then Some command.Stop
-    else (if bytes_eq word (codes "quit") then Some command.Quit else None))
+    else (if bytes_eq word (codes "renew") then Some command.Renew
+    else (if bytes_eq word (codes "quit") then Some command.Quit else None)))
 
 -- a command with fields behind its word
 abbrev pub posted_of : List ℕ → Rest → Result Command CommandFault

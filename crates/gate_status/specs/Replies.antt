@@ -1,5 +1,5 @@
 -- What a session may answer to a line, and what is posted by it.
-use Rattle.std.specs.Prelude.{◌≡◌, ◌≤◌, ◌<◌, ℕ, List, ◌++◌, codes, length, map, Option, Some, None, Result, Ok, Err, string_bytes}
+use Rattle.std.specs.Prelude.{◌≡◌, ◌≤◌, ◌<◌, ℕ, suc, List, ◌++◌, codes, length, map, Option, Some, None, Result, Ok, Err, string_bytes}
 use Rattle.gate_record.specs.declared.record.Record.{Record}
 use Rattle.gate_record.specs.declared.record.Record.TheVariants.{Line, Oversize}
 use Rattle.gate_config.specs.declared.config.Config.{Config}
@@ -34,6 +34,8 @@ reply_text reply.Posted = codes "ok\n"
 reply_text reply.Full = codes "full\n"
 reply_text reply.NoPipeline = codes "no-pipeline\n"
 reply_text reply.Stopping = codes "ok\n"
+reply_text reply.Renewed = codes "ok\n"
+reply_text reply.Last = codes "last\n"
 reply_text reply.Bye = codes "bye\n"
 reply_text (reply.Refused why) = fault_line why
 
@@ -83,14 +85,16 @@ MayRefuse asked fault.Number = asked ≡ Err fault.Number
 MayRefuse asked fault.Memory = MayTakeMemory asked
 
 -- The replies that may be given where this is asked for: the lines of all pipelines with any counts to `status`, `ok` or `full` where
--- the pipeline is there to which something is to be posted and else `no-pipeline`, `ok` to `stop`, `bye` to `quit`, the line's own
--- fault, and `memory`.
+-- the pipeline is there to which something is to be posted and else `no-pipeline`, `ok` to `stop`, `ok` or `last` to `renew`, `bye` to
+-- `quit`, the line's own fault, and `memory`.
 abbrev pub MayReply : Config → Result Command CommandFault → Reply → Type 0
 MayReply config asked (reply.Shown text) = (asked ≡ Ok command.Status) × (board : List (List Progress)) × (string_bytes text ≡ status_text config board ++ codes "ok\n")
 MayReply config asked reply.Posted = IsThere config (addressed asked)
 MayReply config asked reply.Full = IsThere config (addressed asked)
 MayReply config asked reply.NoPipeline = IsMissing config (addressed asked)
 MayReply config asked reply.Stopping = asked ≡ Ok command.Stop
+MayReply config asked reply.Renewed = asked ≡ Ok command.Renew
+MayReply config asked reply.Last = asked ≡ Ok command.Renew
 MayReply config asked reply.Bye = asked ≡ Ok command.Quit
 MayReply config asked (reply.Refused why) = MayRefuse asked why
 
@@ -101,6 +105,7 @@ abbrev pub with_posted : Result Command CommandFault → List (List PostEnds) �
 with_posted (Err why) posts = posts
 with_posted (Ok command.Status) posts = posts
 with_posted (Ok command.Stop) posts = posts
+with_posted (Ok command.Renew) posts = posts
 with_posted (Ok command.Quit) posts = posts
 with_posted (Ok (command.Manage tenant pipeline manage)) posts =
     changed_at tenant.0 pipeline.0 (λ (ends : PostEnds). record ends { management = posted manage ends.management }) posts
@@ -111,6 +116,18 @@ with_posted (Ok (command.Result tenant pipeline ended)) posts =
 abbrev pub posted_by : Result Command CommandFault → Reply → List (List PostEnds) → List (List PostEnds)
 posted_by asked reply.Posted posts = with_posted asked posts
 posted_by asked other posts = posts
+
+-- how many generations were asked for: one more just where `renew` was answered `ok`
+abbrev pub asked_behind : ℕ → Reply → ℕ
+asked_behind asked reply.Renewed = suc asked
+asked_behind asked other = asked
+
+-- Where there are so many later generations, and so many of them were asked for: `renew` is answered `ok` only where one is left, and
+-- `last` only where none is.
+abbrev pub IsLeft : ℕ → ℕ → Reply → Type 0
+IsLeft later asked reply.Renewed = asked < later
+IsLeft later asked reply.Last = asked ≡ later
+IsLeft later asked other = Unit {0}
 
 -- what is known of the cause to stop changes just where the session ends by `stop`: then a cause is known
 abbrev pub NoteAfter : Option SessionEnd → Note → Note → Type 0

@@ -1,6 +1,6 @@
 //! The answer to a line.
-ghost use Rattle.std.specs.Prelude.{◌≡◌, Ok};
-ghost use Rattle.gate_status.specs.Replies.{ArePostsFor, MayReply, NoteAfter, asked_by, end_of, posted_by};
+ghost use Rattle.std.specs.Prelude.{◌≡◌, Ok, length};
+ghost use Rattle.gate_status.specs.Replies.{ArePostsFor, IsLeft, MayReply, NoteAfter, asked_behind, asked_by, end_of, posted_by};
 
 use crate::board::Board;
 use crate::command::{Command, CommandFault, parse_command};
@@ -9,11 +9,12 @@ use crate::status::status_text;
 use gate_config::Config;
 use gate_items::{JobResult, Manage};
 use gate_record::{Memory, PipelineId, Record, TenantId};
-use gate_run::{PostFault, Posts};
+use gate_run::{PostFault, Posts, RenewPostFault};
 use gate_source::StopCause;
 use std::sync::{Mutex, Wait};
 
-/// Does what a line asks for, and gives the answer. Only what is posted changes, and what is known of the cause to stop.
+/// Does what a line asks for, and gives the answer. Only what is posted changes, how many generations were asked for, and what is known
+/// of the cause to stop.
 pub(crate) fn answer<X: AllocGlobal + Wait>(
     rt: &X,
     config: &Config,
@@ -25,6 +26,9 @@ pub(crate) fn answer<X: AllocGlobal + Wait>(
     ensures may { MayReply config.now (asked_by line.now) result }
     ensures posted { posts.new.pipelines ≡ posted_by (asked_by line.now) result posts.old.pipelines }
     ensures note { NoteAfter (end_of result) posts.old.note posts.new.note }
+    ensures asked { length posts.new.asked ≡ asked_behind (length posts.old.asked) result }
+    ensures left { IsLeft (length posts.old.cells) (length posts.old.asked) result }
+    ensures cells { posts.new.cells ≡ posts.old.cells }
 {
     let Record::Line(bytes) = line else {
         return Reply::Refused(CommandFault::Unknown);
@@ -46,6 +50,9 @@ fn carry_out<X: AllocGlobal + Wait>(
     ensures may { MayReply config.now (Ok command) result }
     ensures posted { posts.new.pipelines ≡ posted_by (Ok command) result posts.old.pipelines }
     ensures note { NoteAfter (end_of result) posts.old.note posts.new.note }
+    ensures asked { length posts.new.asked ≡ asked_behind (length posts.old.asked) result }
+    ensures left { IsLeft (length posts.old.cells) (length posts.old.asked) result }
+    ensures cells { posts.new.cells ≡ posts.old.cells }
 {
     match command {
         Command::Status => match shown(rt, config, board) {
@@ -55,6 +62,11 @@ fn carry_out<X: AllocGlobal + Wait>(
         Command::Stop => match posts.stop(StopCause::Port) {
             Ok(_) => Reply::Stopping,
             Err(Memory) => Reply::Refused(CommandFault::Memory),
+        },
+        Command::Renew => match posts.renew() {
+            Ok(_) => Reply::Renewed,
+            Err(RenewPostFault::Last) => Reply::Last,
+            Err(RenewPostFault::Memory) => Reply::Refused(CommandFault::Memory),
         },
         Command::Quit => Reply::Bye,
         Command::Manage(tenant, pipeline, manage) => {
@@ -80,6 +92,9 @@ fn post_manage<X: Wait>(
     ensures may { MayReply config.now (Ok (Command.Manage tenant pipeline manage)) result }
     ensures posted { posts.new.pipelines ≡ posted_by (Ok (Command.Manage tenant pipeline manage)) result posts.old.pipelines }
     ensures note { posts.new.note ≡ posts.old.note }
+    ensures asked { posts.new.asked ≡ posts.old.asked }
+    ensures left { IsLeft (length posts.old.cells) (length posts.old.asked) result }
+    ensures cells { posts.new.cells ≡ posts.old.cells }
     ensures goes_on { end_of result ≡ None }
 {
     match posts.manage(rt, tenant, pipeline, manage) {
@@ -100,6 +115,9 @@ fn post_result<X: Wait>(
     ensures may { MayReply config.now (Ok (Command.Result tenant pipeline ended)) result }
     ensures posted { posts.new.pipelines ≡ posted_by (Ok (Command.Result tenant pipeline ended)) result posts.old.pipelines }
     ensures note { posts.new.note ≡ posts.old.note }
+    ensures asked { posts.new.asked ≡ posts.old.asked }
+    ensures left { IsLeft (length posts.old.cells) (length posts.old.asked) result }
+    ensures cells { posts.new.cells ≡ posts.old.cells }
     ensures goes_on { end_of result ≡ None }
 {
     match posts.result(rt, tenant, pipeline, ended) {

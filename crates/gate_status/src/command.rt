@@ -15,6 +15,8 @@ pub enum Command {
     Status,
     /// The program is to end, once what it has read is done.
     Stop,
+    /// The next generation of the configuration is to be put in force.
+    Renew,
     /// The session is to end.
     Quit,
     /// An item of a pipeline is to be taken out (`dequeue`), or to get a new build set (`reset`).
@@ -38,7 +40,7 @@ pub enum CommandFault {
     Memory,
 }
 
-/// Reads a line: `status`, `stop`, `quit`, or a line `dequeue T P KEY`, `reset T P KEY` or `result T P SET success|failure JOB`
+/// Reads a line: `status`, `stop`, `renew`, `quit`, or a line `dequeue T P KEY`, `reset T P KEY` or `result T P SET success|failure JOB`
 /// of a script, without its line end. The first word decides, and then the fields from left to right; the first that is
 /// missing or wrong is the fault. Whether there is such a tenant, pipeline or connection isn't asked. `Memory` only where a
 /// line that asks for something has texts to copy: those of a ref's key, or the name of a job.
@@ -68,6 +70,9 @@ fn plain_of(word: &[u8]) -> Option<Command>
     }
     if is(word, "stop") {
         return Some(Command::Stop);
+    }
+    if is(word, "renew") {
+        return Some(Command::Renew);
     }
     if is(word, "quit") {
         return Some(Command::Quit);

@@ -18,6 +18,10 @@ pub enum Reply {
     NoPipeline,
     /// The run was asked to stop, and the session ends: `ok`.
     Stopping,
+    /// The next generation of the configuration was asked for: `ok`.
+    Renewed,
+    /// There is no later generation: `last`.
+    Last,
     /// The session ends: `bye`.
     Bye,
     /// The line asks for nothing, or memory was refused for what it asks: `empty`, `unknown`, `arguments`, `number` or `memory`.
@@ -35,6 +39,8 @@ impl Reply {
             Reply::Full => "full\n",
             Reply::NoPipeline => "no-pipeline\n",
             Reply::Stopping => "ok\n",
+            Reply::Renewed => "ok\n",
+            Reply::Last => "last\n",
             Reply::Bye => "bye\n",
             Reply::Refused(fault) => fault_line(fault),
         }
@@ -51,6 +57,8 @@ impl Reply {
             Reply::Posted => None,
             Reply::Full => None,
             Reply::NoPipeline => None,
+            Reply::Renewed => None,
+            Reply::Last => None,
             Reply::Refused(_) => None,
         }
     }

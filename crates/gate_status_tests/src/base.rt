@@ -1,11 +1,11 @@
 //! A configuration, and sessions on it.
 ghost use Rattle.std.specs.Prelude.{◌≡◌};
 
-use gate_config::{Config, ConfigFault, read_config};
+use gate_config::{Generations, read_generations};
 use gate_record::Memory;
 use gate_run::Posts;
 use gate_status::{Board, Counted, SessionEnd, SessionFault, session};
-use std::alloc::Global;
+use std::alloc::{AllocError, Global};
 use std::io::{Read, Write};
 use std::process::Abort;
 use std::sync::{Mutex, Wait};
@@ -17,9 +17,18 @@ const ONE: &str =
 /// What `status` is answered before anything was processed.
 pub(crate) const SHOWN: &str = "pipeline \"main\" \"check\" done 0 items 0 reports 0 running\nok\n";
 
-/// The configuration of the tests.
-pub(crate) fn one(alloc: Global) -> Result<Config, ConfigFault> {
-    read_config(alloc, ONE.as_bytes())
+/// The configuration of the tests, in two generations, which are alike.
+pub(crate) fn two<R: AllocGlobal + Abort>(rt: &R) -> Generations {
+    let documents = given(rt, documents(rt.alloc()));
+    given(rt, read_generations(rt.alloc(), documents.as_slice()))
+}
+
+fn documents(alloc: Global) -> Result<Vec<Vec<u8>>, AllocError> {
+    let mut documents = Vec::new(alloc);
+    for _ in 0..2 {
+        documents.push(ONE.as_bytes().to_vec(alloc)?)?;
+    }
+    Ok(documents)
 }
 
 /// The value of an answer that is one.
@@ -44,21 +53,21 @@ pub(crate) fn talk<X: AllocGlobal + Wait + Abort, R: Read, W: Write>(
     requires no_reads { input.old.faults ≡ 0 }
     requires no_writes { output.old.faults ≡ 0 }
 {
-    let config = given(rt, one(rt.alloc()));
-    talk_on(rt, input, output, &config)
+    let gens = two(rt);
+    talk_on(rt, input, output, &gens)
 }
 
 fn talk_on<X: AllocGlobal + Wait + Abort, R: Read, W: Write>(
     rt: &X,
     input: &mut Counted<R>,
     output: &mut Counted<W>,
-    config: &Config,
+    gens: &Generations,
 ) -> Result<SessionEnd, SessionFault>
     requires no_reads { input.old.faults ≡ 0 }
     requires no_writes { output.old.faults ≡ 0 }
 {
-    let board = Mutex::new(given(rt, Board::new(rt.alloc(), config)));
-    talk_of(rt, input, output, config, &board)
+    let board = Mutex::new(given(rt, Board::new(rt.alloc(), gens.first())));
+    talk_of(rt, input, output, gens, &board)
 }
 
 /// Serves a session with nothing posted before.
@@ -66,14 +75,14 @@ pub(crate) fn talk_of<X: AllocGlobal + Wait + Abort, R: Read, W: Write>(
     rt: &X,
     input: &mut Counted<R>,
     output: &mut Counted<W>,
-    config: &Config,
+    gens: &Generations,
     board: &Mutex<Board>,
 ) -> Result<SessionEnd, SessionFault>
     requires no_reads { input.old.faults ≡ 0 }
     requires no_writes { output.old.faults ≡ 0 }
 {
-    match Posts::open(rt.alloc(), config) {
-        Ok((mut posts, _inbox)) => session(rt, input, output, config, board, &mut posts),
+    match Posts::open(rt.alloc(), gens) {
+        Ok((mut posts, _inbox)) => session(rt, input, output, gens.first(), board, &mut posts),
         Err(Memory) => panic!(rt; "the posts are opened"),
     }
 }

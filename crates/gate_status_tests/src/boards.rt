@@ -1,5 +1,5 @@
 //! What a board says of a configuration.
-use crate::base::{comes_to, given, one};
+use crate::base::{comes_to, given, two};
 use gate_config::Config;
 use gate_record::{PipelineId, TenantId};
 use gate_status::{Board, Progress, status_text};
@@ -25,11 +25,12 @@ fn set(board: &mut Board) {
 
 #[test]
 fn a_board_shows_what_was_set(rt: HostRuntime) {
-    let config = given(&rt, one(rt.alloc()));
-    let mut board = given(&rt, Board::new(rt.alloc(), &config));
+    let gens = two(&rt);
+    let config = gens.first();
+    let mut board = given(&rt, Board::new(rt.alloc(), config));
     let first = "pipeline \"main\" \"check\" done 0 items 0 reports 0 running\n";
-    shows(&rt, &config, &board, first);
+    shows(&rt, config, &board, first);
     set(&mut board);
     let second = "pipeline \"main\" \"check\" done 1 items 1 reports 0 finished\n";
-    shows(&rt, &config, &board, second);
+    shows(&rt, config, &board, second);
 }

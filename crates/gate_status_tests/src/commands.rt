@@ -36,6 +36,7 @@ fn reads_commands(rt: HostRuntime) -> Result<(), Fail> {
     let table = r#"
 status|Status
 stop|Stop
+renew|Renew
 quit|Quit
 dequeue 0 1 change 2 7|Manage(TenantId(0), PipelineId(1), Dequeue(Change { conn: ConnId(2), number: 7 }))
 reset 0 1 change 2 -7|Manage(TenantId(0), PipelineId(1), Reset(Change { conn: ConnId(2), number: -7 }))
@@ -60,6 +61,10 @@ offer 0 x|Unknown
 status |Arguments
 status x|Arguments
 stop |Arguments
+renew |Arguments
+renew x|Arguments
+. renew|Unknown
+renewal|Unknown
 quit 0|Arguments
 dequeue|Arguments
 dequeue |Arguments

@@ -1,7 +1,7 @@
 //! Sessions over memory.
-use crate::base::{comes_to, given, one, talk, text_of};
+use crate::base::{comes_to, given, talk, text_of, two};
 use crate::devices::Pieces;
-use gate_config::Config;
+use gate_config::Generations;
 use gate_record::Memory;
 use gate_run::Posts;
 use gate_source::StopCause;
@@ -72,15 +72,22 @@ fn ends_in_its_way(rt: HostRuntime) {
     plays(&rt, "stop", "ok\nStop");
 }
 
+#[test]
+fn a_renewal_is_asked_for_while_there_is_a_later_generation(rt: HostRuntime) {
+    let lines = "renew\nrenew\nrenew x\nrenew \n renew\nRenew\nrenew\r\nquit\n";
+    let wanted = "ok\nlast\narguments\narguments\nunknown\nunknown\nlast\nbye\nQuit";
+    plays(&rt, lines, wanted);
+}
+
 // Sees that the cause to stop is the port, behind a session that has ended by `stop`.
-fn stops<R: AllocGlobal + Wait + Abort>(rt: &R, config: &Config, board: &Mutex<Board>) {
+fn stops<R: AllocGlobal + Wait + Abort>(rt: &R, gens: &Generations, board: &Mutex<Board>) {
     let mut input = Counted::new(b"stop\n".as_slice());
     let mut output = Counted::new(Vec::new(rt.alloc()));
-    match Posts::open(rt.alloc(), config) {
+    match Posts::open(rt.alloc(), gens) {
         Ok((mut posts, _inbox)) => {
             given(
                 rt,
-                session(rt, &mut input, &mut output, config, board, &mut posts),
+                session(rt, &mut input, &mut output, gens.first(), board, &mut posts),
             );
             assert!(rt; posts.stop(StopCause::Caller) == Ok(StopCause::Port));
         }
@@ -90,7 +97,7 @@ fn stops<R: AllocGlobal + Wait + Abort>(rt: &R, config: &Config, board: &Mutex<B
 
 #[test]
 fn stop_is_the_ports(rt: HostRuntime) {
-    let config = given(&rt, one(rt.alloc()));
-    let board = Mutex::new(given(&rt, Board::new(rt.alloc(), &config)));
-    stops(&rt, &config, &board);
+    let gens = two(&rt);
+    let board = Mutex::new(given(&rt, Board::new(rt.alloc(), gens.first())));
+    stops(&rt, &gens, &board);
 }

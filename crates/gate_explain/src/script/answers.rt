@@ -17,8 +17,14 @@ const NONE_OF_THIS_NUMBER: &str = "there is none of this number";
 pub enum Followed {
     /// It isn't followed.
     Nothing,
+    /// It is a record, which goes by this generation.
+    Judged(u32),
     /// It was taken, and is to be sent to so many tenants.
     Taken(usize),
+    /// It is the mark of this generation, and was put.
+    Put(u32),
+    /// It is the mark of this generation, and was taken.
+    InForce(u32),
     /// It wasn't taken, since what was taken before is to be sent first.
     Held,
     /// It was sent to this tenant.
@@ -36,6 +42,9 @@ pub fn push_answered(
     let whom = Whom { config, asked };
     write!(out, "{whom}: ")?;
     match (answer, followed) {
+        (Answer::Accepted(number), Followed::Judged(g)) => {
+            writeln!(out, "accepted as record {number}, of generation {g}")?;
+        }
         (Answer::Accepted(number), _) => writeln!(out, "accepted as record {number}")?,
         (Answer::Turned(stamp, action, outcome), _) => {
             push_turned(out, config, stamp, action, *outcome)?;
@@ -47,10 +56,17 @@ pub fn push_answered(
         (_, Followed::Taken(0)) => out.push_str("taken, for no tenant\n")?,
         (_, Followed::Taken(1)) => out.push_str("taken, for one tenant\n")?,
         (_, Followed::Taken(count)) => writeln!(out, "taken, for {count} tenants")?,
+        (_, Followed::Put(g)) => writeln!(
+            out,
+            "the mark of generation {g} stands behind its records"
+        )?,
+        (_, Followed::InForce(g)) => {
+            writeln!(out, "taken: from here on generation {g} is in force")?;
+        }
         (_, Followed::Held) => {
             out.push_str("the forwarder still holds what is to be sent first\n")?;
         }
-        (_, Followed::Nothing) => {
+        (_, Followed::Judged(_) | Followed::Nothing) => {
             let said = said(config, asked, answer);
             writeln!(out, "{said}")?;
         }
@@ -71,6 +87,7 @@ fn said(config: &Config, asked: Asked, answer: &Answer) -> &'static str {
 
 fn said_of_idle(asked: Asked) -> &'static str {
     match asked {
+        Asked::Renew(_) => "the last generation is in force, so nothing changed",
         Asked::Take(_) => "nothing waits",
         Asked::Send(_) => "nothing to send",
         Asked::Fetch(_) => {
@@ -87,6 +104,7 @@ fn said_of_moved(asked: Asked) -> &'static str {
     match asked {
         Asked::Offer(_) => "accepted",
         Asked::Close(_) => "closed: the end mark stands behind its records",
+        Asked::Renew(_) => "the mark of the next generation stands behind its records",
         Asked::Take(_) => "taken",
         Asked::Send(_) => "sent",
         Asked::Fetch(_) => "items are gathered",
@@ -99,9 +117,11 @@ fn said_of_moved(asked: Asked) -> &'static str {
 
 fn is_there(config: &Config, asked: Asked) -> bool {
     match asked {
-        Asked::Offer(conn) | Asked::Close(conn) | Asked::Take(conn) | Asked::Send(conn) => {
-            config.connections().get(conn.0 as usize).is_some()
-        }
+        Asked::Offer(conn)
+        | Asked::Close(conn)
+        | Asked::Renew(conn)
+        | Asked::Take(conn)
+        | Asked::Send(conn) => { config.connections().get(conn.0 as usize).is_some() }
         Asked::Fetch(tenant) | Asked::Match(tenant) | Asked::Give(tenant) => {
             config.tenants().get(tenant.0 as usize).is_some()
         }
@@ -226,6 +246,7 @@ impl fmt::Display for Whom<'_> {
         match self.asked {
             Asked::Offer(connection)
             | Asked::Close(connection)
+            | Asked::Renew(connection)
             | Asked::Take(connection)
             | Asked::Send(connection) => write!(f, "{}", ConnectionName { config, connection }),
             Asked::Fetch(tenant) | Asked::Match(tenant) | Asked::Give(tenant) => {

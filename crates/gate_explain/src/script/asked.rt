@@ -6,6 +6,7 @@ use gate_record::{ConnId, PipelineId, TenantId};
 pub enum Asked {
     Offer(ConnId),
     Close(ConnId),
+    Renew(ConnId),
     Take(ConnId),
     Send(ConnId),
     Fetch(TenantId),
@@ -21,6 +22,7 @@ impl Asked {
         match step {
             Step::Offer(conn, _) => Asked::Offer(*conn),
             Step::Close(conn) => Asked::Close(*conn),
+            Step::Renew(conn) => Asked::Renew(*conn),
             Step::Take(conn) => Asked::Take(*conn),
             Step::Send(conn) => Asked::Send(*conn),
             Step::Fetch(tenant, _) => Asked::Fetch(*tenant),

@@ -2,9 +2,9 @@
 use crate::script::reader::{is_number, is_signed, is_text};
 
 /// The first words of a script's lines.
-pub const FIRST_WORDS: [&str; 13] = [
-    "offer", "oversize", "close", "take", "send", "fetch", "match", "give", "dequeue", "reset",
-    "result", "turn", "show",
+pub const FIRST_WORDS: [&str; 14] = [
+    "offer", "oversize", "close", "renew", "take", "send", "fetch", "match", "give", "dequeue",
+    "reset", "result", "turn", "show",
 ];
 
 /// What stands behind the first word of a line, word by word.
@@ -88,7 +88,7 @@ const REF: &[Field] = &[Field::Connection, Field::Revision, Field::Ref];
 pub fn form_of(word: &str) -> Option<Form> {
     let (front, last) = match word {
         "offer" => (CONNECTION, Field::Bytes),
-        "oversize" | "close" | "take" | "send" => (NONE, Field::Connection),
+        "oversize" | "close" | "renew" | "take" | "send" => (NONE, Field::Connection),
         "fetch" => (TENANT, Field::Count),
         "match" | "give" => (NONE, Field::Tenant),
         "turn" | "show" => (TENANT, Field::Pipeline),

@@ -3,7 +3,7 @@ ghost use Rattle.gate_core.specs.Worlds.{AcceptedAtMost, state_of};
 use crate::script::answers::{Followed, push_answered, push_shown};
 use crate::script::asked::Asked;
 use crate::script::ways::{Targets, Way, all_targets, targets_of};
-use gate_config::Config;
+use gate_config::{Config, Generations};
 use gate_core::{Answer, Scripted, Step, World, show_text};
 use gate_record::{ConnId, Memory, PipelineId, Queue, Record, TenantId};
 use std::alloc::Global;
@@ -12,6 +12,8 @@ use std::alloc::Global;
 #[derive(Drop)]
 pub struct Player<'c> {
     alloc: Global,
+    gens: &'c Generations,
+    /// The first generation, whose names are those of all.
     config: &'c Config,
     world: World<'c>,
     /// By connection number.
@@ -24,12 +26,13 @@ pub struct Player<'c> {
 
 impl<'c> Player<'c> {
     /// Nothing was played yet.
-    pub fn new(alloc: Global, config: &'c Config) -> Result<Player<'c>, Memory> {
-        let ways = new_ways(alloc, config)?;
-        let world = World::new(alloc, config)?;
+    pub fn new(alloc: Global, gens: &'c Generations) -> Result<Player<'c>, Memory> {
+        let ways = new_ways(alloc, gens.first())?;
+        let world = World::new(alloc, gens)?;
         Ok(Player {
             alloc,
-            config,
+            gens,
+            config: gens.first(),
             world,
             ways,
             steps: 0,
@@ -79,7 +82,8 @@ impl<'c> Player<'c> {
     fn targets_of(&self, step: &Step) -> Result<Targets, Memory> {
         match step {
             Step::Offer(connection, record) => {
-                targets_of(self.alloc, self.config, *connection, record)
+                let config = self.gens.generation(self.generation(*connection));
+                targets_of(self.alloc, config, *connection, record)
             }
             Step::Close(connection) => all_targets(self.alloc, self.config, *connection),
             _ => Ok(Queue::new(self.alloc)),
@@ -94,11 +98,16 @@ impl<'c> Player<'c> {
         targets: Targets,
     ) -> Result<Followed, Memory> {
         match (asked, answer) {
-            (Asked::Offer(conn), Answer::Accepted(_)) | (Asked::Close(conn), Answer::Moved) => {
+            (Asked::Offer(conn), Answer::Accepted(_)) => {
+                self.wait(conn, targets)?;
+                Ok(self.judged(conn))
+            }
+            (Asked::Close(conn), Answer::Moved) => {
                 self.wait(conn, targets)?;
                 Ok(Followed::Nothing)
             }
-            (Asked::Take(conn), Answer::Moved) => Ok(Followed::Taken(self.take(conn))),
+            (Asked::Renew(conn), Answer::Moved) => self.renew(conn),
+            (Asked::Take(conn), Answer::Moved) => Ok(self.take(conn)),
             (Asked::Take(conn), Answer::Idle) => Ok(self.held(conn)),
             (Asked::Send(conn), Answer::Moved) => Ok(self.send(conn)),
             _ => Ok(Followed::Nothing),
@@ -112,10 +121,34 @@ impl<'c> Player<'c> {
         }
     }
 
-    fn take(&mut self, connection: ConnId) -> usize {
+    fn renew(&mut self, connection: ConnId) -> Result<Followed, Memory> {
+        match self.ways.get_mut(connection.0 as usize) {
+            Some(way) => way.renew(),
+            None => Ok(Followed::Nothing),
+        }
+    }
+
+    // By which generation a record that a connection has just accepted is judged, where there are several.
+    fn judged(&self, connection: ConnId) -> Followed {
+        if self.gens.count() > 1 {
+            Followed::Judged(self.generation(connection))
+        } else {
+            Followed::Nothing
+        }
+    }
+
+    // The generation in force for what a connection accepts next.
+    fn generation(&self, connection: ConnId) -> u32 {
+        match self.ways.get(connection.0 as usize) {
+            Some(way) => way.generation(),
+            None => 0,
+        }
+    }
+
+    fn take(&mut self, connection: ConnId) -> Followed {
         match self.ways.get_mut(connection.0 as usize) {
             Some(way) => way.take(),
-            None => 0,
+            None => Followed::Nothing,
         }
     }
 

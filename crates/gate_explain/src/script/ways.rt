@@ -8,11 +8,22 @@ use std::alloc::Global;
 /// The tenants that something goes to, in the order in which it is sent.
 pub type Targets = Queue<TenantId>;
 
+/// What waits at a connection.
+#[derive(Drop)]
+enum Waiting {
+    /// A record or the end mark, which goes to these tenants.
+    Entry(Targets),
+    /// The mark behind which this generation is in force.
+    Mark(u32),
+}
+
 /// What waits at a connection, and what its forwarder holds.
 #[derive(Drop)]
 pub struct Way {
-    waiting: Queue<Targets>,
+    waiting: Queue<Waiting>,
     held: Targets,
+    /// The generation in force behind all that waits.
+    generation: u32,
 }
 
 impl Way {
@@ -21,24 +32,39 @@ impl Way {
         Way {
             waiting: Queue::new(alloc),
             held: Queue::new(alloc),
+            generation: 0,
         }
     }
 
     /// Something with these targets is behind all that waits.
     pub fn wait(&mut self, targets: Targets) -> Result<(), Memory> {
-        self.waiting.push(targets)?;
+        self.waiting.push(Waiting::Entry(targets))?;
         Ok(())
     }
 
-    /// The forwarder takes the first of what waits. Gives how many tenants it goes to.
-    pub fn take(&mut self) -> usize {
+    /// The mark of the next generation is behind all that waits.
+    pub fn renew(&mut self) -> Result<Followed, Memory> {
+        let next = self.generation.saturating_add(1);
+        self.waiting.push(Waiting::Mark(next))?;
+        self.generation = next;
+        Ok(Followed::Put(next))
+    }
+
+    /// The generation in force behind all that waits.
+    pub fn generation(&self) -> u32 {
+        self.generation
+    }
+
+    /// The forwarder takes the first of what waits.
+    pub fn take(&mut self) -> Followed {
         match self.waiting.pop() {
-            Some(targets) => {
+            Some(Waiting::Entry(targets)) => {
                 let count = targets.len();
                 self.held = targets;
-                count
+                Followed::Taken(count)
             }
-            None => 0,
+            Some(Waiting::Mark(generation)) => Followed::InForce(generation),
+            None => Followed::Nothing,
         }
     }
 

@@ -35,21 +35,20 @@ pub fn push_stanza(
             )
         }
         Some(name) => {
-            push_unlisted(out, config, tenant, place, name)?;
+            push_unlisted(out, tenant, place, name)?;
             push_members(out, alloc, config, tenant, place, stanza)
         }
     }
 }
 
-// A project that the tenant doesn't list.
+// A project that the tenant lists in no generation.
 fn push_unlisted(
     out: &mut String,
-    config: &Config,
     tenant: &Tenant<'_>,
     place: &str,
     name: &str,
 ) -> Result<(), Memory> {
-    if tenant.has_project(config, name) {
+    if tenant.has_project(name) {
         return Ok(());
     }
     let place = Place(place);

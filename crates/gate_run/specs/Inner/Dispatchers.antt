@@ -3,29 +3,29 @@ use Rattle.std.specs.Prelude.{◌≡◌, ◌<◌, ◌++◌, ℕ, List, None, len
 use Rattle.gate_record.specs.declared.transit.PipelineItem.{PipelineItem}
 use Rattle.gate_record.specs.declared.transit.TenantItem.{TenantItem}
 use Rattle.gate_record.specs.Prefixes.{IsPrefixOf}
-use Rattle.gate_config.specs.declared.config.Config.{Config}
+use Rattle.gate_config.specs.declared.generations.Generations.{Generations}
 use Rattle.gate_config.specs.Lookups.{pipelines_of}
 use Rattle.gate_tenant.specs.declared.dispatch.Dispatch.{Dispatch}
 use Rattle.gate_tenant.specs.Dispatching.{chosen}
 use Rattle.gate_tenant.specs.Histories.{Happens, History, items_for}
-use Rattle.gate_tenant.specs.States.{config_of, state_of, tenant_of}
+use Rattle.gate_tenant.specs.States.{gens_of, state_of, tenant_of}
 use Rattle.gate_queue.specs.declared.tagged.Tagged.{Tagged}
 use Rattle.gate_queue.specs.Seats.{IsHeadOf, SenderSeat, Shape, TakerSeat}
 use Rattle.gate_run.specs.Seats.{fresh_head, fresh_tail, values}
 use Rattle.gate_run.specs.Inner.Seats.{seat_in, seat_of}
 
 -- the worker of tenant t can begin: each of its pipelines has a queue, and by its seats nothing was taken or put
-pub record CanDispatch (config : Config) (t : ℕ) (source : Shape) (targets : List Shape) (head : TakerSeat TenantItem) (tails : List (SenderSeat PipelineItem)) : Type 0 where
-  pub pipelines : length targets ≡ length (pipelines_of config t)
+pub record CanDispatch (gens : Generations) (t : ℕ) (source : Shape) (targets : List Shape) (head : TakerSeat TenantItem) (tails : List (SenderSeat PipelineItem)) : Type 0 where
+  pub pipelines : length targets ≡ length (pipelines_of gens.first t)
   pub not_taken : head ≡ fresh_head source
   pub not_put : tails ≡ map (fresh_tail 0) targets
 
 -- The worker of tenant t at work, by its seats: what it took was gathered, and what it put for each pipeline was given
-pub record IsDispatching (config : Config) (t : ℕ) (dispatch : Dispatch) (head : TakerSeat TenantItem) (tails : List (SenderSeat PipelineItem)) : Type 0 where
-  pub by_config : config_of dispatch ≡ config
+pub record IsDispatching (gens : Generations) (t : ℕ) (dispatch : Dispatch) (head : TakerSeat TenantItem) (tails : List (SenderSeat PipelineItem)) : Type 0 where
+  pub by_gens : gens_of dispatch ≡ gens
   pub of_tenant : tenant_of dispatch ≡ t
   pub past : History
-  pub happens : Happens config t past
+  pub happens : Happens gens t past
   pub now : past.state ≡ state_of dispatch
   pub in_hand : past.out ≡ None
   pub place : (state_of dispatch).out ≡ None
@@ -34,18 +34,18 @@ pub record IsDispatching (config : Config) (t : ℕ) (dispatch : Dispatch) (head
 
 -- whatever it did before, it goes on as it should
 abbrev pub Continues : Dispatch → TakerSeat TenantItem → Dispatch → TakerSeat TenantItem → Type 0
-Continues before head now head' = (config : Config) (t : ℕ) (tails : List (SenderSeat PipelineItem)) → IsDispatching config t before head tails → IsDispatching config t now head' tails
+Continues before head now head' = (gens : Generations) (t : ℕ) (tails : List (SenderSeat PipelineItem)) → IsDispatching gens t before head tails → IsDispatching gens t now head' tails
 
 -- What was put for each pipeline is a prefix of what that pipeline gets of what was matched, which is the first of what was taken
 -- from tenant t's queue.
-pub record GivenInOrder (config : Config) (t : ℕ) (taken : List (Tagged TenantItem)) (tails : List (SenderSeat PipelineItem)) : Type 0 where
+pub record GivenInOrder (gens : Generations) (t : ℕ) (taken : List (Tagged TenantItem)) (tails : List (SenderSeat PipelineItem)) : Type 0 where
   pub matched : List TenantItem
   pub unmatched : List TenantItem
   pub took : matched ++ unmatched ≡ values taken
-  pub put : (p : ℕ) (d : SenderSeat PipelineItem) → p < length tails → IsPrefixOf (slice_index_or tails p d).put (chosen config t p matched)
+  pub put : (p : ℕ) (d : SenderSeat PipelineItem) → p < length tails → IsPrefixOf (slice_index_or tails p d).put (chosen gens t p matched)
 
 -- What the worker of tenant t did, by its seats in the tenant's queue and in the trigger queues.
-pub record HasDispatched (config : Config) (t : ℕ) (source : Shape) (targets : List Shape) (head : TakerSeat TenantItem) (tails : List (SenderSeat PipelineItem)) : Type 0 where
+pub record HasDispatched (gens : Generations) (t : ℕ) (source : Shape) (targets : List Shape) (head : TakerSeat TenantItem) (tails : List (SenderSeat PipelineItem)) : Type 0 where
   pub head_of : IsHeadOf source head
   pub seats : map seat_of tails ≡ map (seat_in 0) targets
-  pub given : GivenInOrder config t head.taken tails
+  pub given : GivenInOrder gens t head.taken tails

@@ -3,10 +3,10 @@ use Rattle.std.specs.Prelude.{◌≡◌, ◌<◌, ◌++◌, ℕ, List, None, len
 use Rattle.std.specs.Option.{option_to_list}
 use Rattle.gate_record.specs.declared.transit.ConnEntry.{ConnEntry}
 use Rattle.gate_record.specs.declared.transit.TenantItem.{TenantItem}
-use Rattle.gate_config.specs.declared.config.Config.{Config}
+use Rattle.gate_config.specs.declared.generations.Generations.{Generations}
 use Rattle.gate_config.specs.Lookups.{tenants_of}
 use Rattle.gate_forward.specs.Forwarding.{forwarded}
-use Rattle.gate_forward.specs.Hands.{config_of, conn_of, hand_of}
+use Rattle.gate_forward.specs.Hands.{conn_of, gens_of, hand_of}
 use Rattle.gate_forward.specs.Histories.{Happens, History, items_to}
 use Rattle.gate_queue.specs.declared.tagged.Tagged.{Tagged}
 use Rattle.gate_queue.specs.Seats.{IsHeadOf, SenderSeat, Shape, TakerSeat}
@@ -16,17 +16,17 @@ use Rattle.gate_run.specs.Seats.{fresh_head, fresh_tail, values}
 use Rattle.gate_run.specs.Inner.Seats.{seat_in, seat_of}
 
 -- a forwarder of connection c can begin: by its seats nothing was taken or put
-pub record CanForward (config : Config) (c : ℕ) (source : Shape) (targets : List Shape) (head : TakerSeat ConnEntry) (tails : List (SenderSeat TenantItem)) : Type 0 where
-  pub tenants : length targets ≡ length (tenants_of config)
+pub record CanForward (gens : Generations) (c : ℕ) (source : Shape) (targets : List Shape) (head : TakerSeat ConnEntry) (tails : List (SenderSeat TenantItem)) : Type 0 where
+  pub tenants : length targets ≡ length (tenants_of gens.first)
   pub not_taken : head ≡ fresh_head source
   pub not_put : tails ≡ map (fresh_tail c) targets
 
 -- A forwarder of connection c at work: what it took was loaded, or is kept, and what it put for each tenant was sent
-pub record IsForwarding (config : Config) (c : ℕ) (forwarding : Forwarding) : Type 0 where
-  pub by_config : config_of forwarding.hand ≡ config
+pub record IsForwarding (gens : Generations) (c : ℕ) (forwarding : Forwarding) : Type 0 where
+  pub by_gens : gens_of forwarding.hand ≡ gens
   pub of_conn : conn_of forwarding.hand ≡ c
   pub past : History
-  pub happens : Happens config c past
+  pub happens : Happens gens c past
   pub now : past.hand ≡ hand_of forwarding.hand
   pub in_hand : past.out ≡ None
   pub place : (hand_of forwarding.hand).out ≡ None
@@ -34,11 +34,11 @@ pub record IsForwarding (config : Config) (c : ℕ) (forwarding : Forwarding) : 
   pub put : (t : ℕ) (d : SenderSeat TenantItem) → t < length forwarding.tails.items → (slice_index_or forwarding.tails.items t d).put ≡ items_to t past.sent
 
 -- What was put for each tenant is a prefix of what that tenant gets of all that was taken from connection c's queue.
-abbrev pub PutInOrder : Config → ℕ → List (Tagged ConnEntry) → List (SenderSeat TenantItem) → Type 0
-PutInOrder config c taken tails = (t : ℕ) (d : SenderSeat TenantItem) → t < length tails → IsPrefixOf (slice_index_or tails t d).put (forwarded config t c (values taken))
+abbrev pub PutInOrder : Generations → ℕ → List (Tagged ConnEntry) → List (SenderSeat TenantItem) → Type 0
+PutInOrder gens c taken tails = (t : ℕ) (d : SenderSeat TenantItem) → t < length tails → IsPrefixOf (slice_index_or tails t d).put (forwarded gens t c (values taken))
 
 -- What a forwarder of connection c did, by its seats in the connection's queue and in the tenants'.
-pub record HasForwarded (config : Config) (c : ℕ) (source : Shape) (targets : List Shape) (head : TakerSeat ConnEntry) (tails : List (SenderSeat TenantItem)) : Type 0 where
+pub record HasForwarded (gens : Generations) (c : ℕ) (source : Shape) (targets : List Shape) (head : TakerSeat ConnEntry) (tails : List (SenderSeat TenantItem)) : Type 0 where
   pub head_of : IsHeadOf source head
   pub seats : map seat_of tails ≡ map (seat_in c) targets
-  pub put : PutInOrder config c head.taken tails
+  pub put : PutInOrder gens c head.taken tails

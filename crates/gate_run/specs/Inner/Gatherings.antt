@@ -1,18 +1,20 @@
 -- Beside `Gatherings`: what private contracts and proofs cite.
-use Rattle.std.specs.Prelude.{◌≡◌, true, is_some}
+use Rattle.std.specs.Prelude.{List, fold}
 use Rattle.gate_core.specs.declared.report.ConnectionReport.{ConnectionReport}
 use Rattle.gate_source.specs.Stops.{Note}
 use Rattle.gate_run.specs.declared.reader.ReaderEnd.{ReaderEnd}
 use Rattle.gate_run.specs.declared.worker.WorkerEnd.{WorkerEnd}
+use Rattle.gate_run.specs.Inner.Asked.{longer}
+use Rattle.gate_run.specs.Inner.Readers.{counts_of, notes_of}
 use Rattle.gate_run.specs.Ports.{InboxEnds}
 
--- where the one note knows a cause to stop, the other does
-abbrev pub knows_as_much : Note → Note → Type 0
-knows_as_much note other = is_some note.cause ≡ true → is_some other.cause ≡ true
-
--- how many records were accepted, and why there were no more
+-- how many records were accepted, how many before each renewal, and why there were no more
 abbrev pub report_of_reader : {F : Type 0} → ReaderEnd F → ConnectionReport
-report_of_reader end = record { accepted = end.count; cause = end.cause }
+report_of_reader end = record { accepted = end.count; renewals = counts_of end.renewals.items; cause = end.cause }
+
+-- of the notes of generations that were asked for, those that are the most: these, or those of a reader
+abbrev pub most_asked : {F : Type 0} → List Note → List (ReaderEnd F) → List Note
+most_asked notes ends = fold (λ (most : List Note) (end : ReaderEnd _). longer most (notes_of end.renewals.items)) notes ends
 
 -- where the worker took management events and results
 abbrev pub inbox_back : WorkerEnd → InboxEnds

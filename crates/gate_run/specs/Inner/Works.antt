@@ -3,7 +3,7 @@ use Rattle.std.specs.Prelude.{◌≡◌, ℕ, List, length, map}
 use Rattle.gate_record.specs.declared.transit.ConnEntry.{ConnEntry}
 use Rattle.gate_record.specs.declared.transit.PipelineItem.{PipelineItem}
 use Rattle.gate_record.specs.declared.transit.TenantItem.{TenantItem}
-use Rattle.gate_config.specs.declared.config.Config.{Config}
+use Rattle.gate_config.specs.declared.generations.Generations.{Generations}
 use Rattle.gate_config.specs.Lookups.{connections_of, tenants_of}
 use Rattle.gate_queue.specs.Seats.{TakerSeat}
 use Rattle.gate_run.specs.declared.dispatcher.Dispatcher.{Dispatcher}
@@ -22,47 +22,47 @@ use Rattle.gate_run.specs.Lists.{Pairwise}
 use Rattle.gate_run.specs.Inner.Lists.{EachAt}
 use Rattle.gate_run.specs.Ports.{InboxEnds}
 use Rattle.gate_run.specs.Inner.Readers.{CanRead, HasRead}
-use Rattle.gate_run.specs.Inner.Seatings.{AreWorkersOf, IsDispatcherOf, IsForwarderOf, IsReaderOf}
+use Rattle.gate_run.specs.Inner.Seatings.{AreWorkersOf, Cells, IsDispatcherOf, IsForwarderOf, IsReaderOf}
 use Rattle.gate_run.specs.Inner.Workers.{CanWork, HasWorked}
 
 abbrev pub ReadyToRead : {F : Type 0} → (F → ℕ) → Reader F → Type 0
-ReadyToRead faults w = CanRead w.queue.now w.tail w.cell.now w.note (faults w.feed)
+ReadyToRead faults w = CanRead w.queue.now w.tail w.cell.now w.note w.generations (faults w.feed)
 
 abbrev pub ReadyToForward : Forwarder → Type 0
-ReadyToForward w = CanForward w.config.now w.conn.0 w.source.now w.targets.now w.head w.tails.items
+ReadyToForward w = CanForward w.gens.now w.conn.0 w.source.now w.targets.now w.head w.tails.items
 
 abbrev pub ReadyToDispatch : Dispatcher → Type 0
-ReadyToDispatch w = CanDispatch w.config.now w.tenant.0 w.source.now w.targets.now w.head w.tails.items
+ReadyToDispatch w = CanDispatch w.gens.now w.tenant.0 w.source.now w.targets.now w.head w.tails.items
 
 abbrev pub ReadyToWork : {G : Type 0} → Worker G → Type 0
 ReadyToWork w = CanWork w.config.now w.tenant.0 w.pipeline.0 w.state w.source.now w.head
 
 abbrev pub Read : {F : Type 0} → (F → Told) → (F → ℕ) → Reader F → ReaderEnd F → Type 0
-Read to_come faults w end = HasRead (to_come w.feed) (to_come end.feed) (faults w.feed) (faults end.feed) w.tail end.tail end.count end.cause w.note end.note
+Read to_come faults w end = HasRead (to_come w.feed) (to_come end.feed) (faults w.feed) (faults end.feed) w.tail end.tail w.generations w.cells.now end.count end.renewals.items end.cause w.note end.note
 
 abbrev pub Forwarded : Forwarder → PassedOn (TakerSeat ConnEntry) TenantItem → Type 0
-Forwarded w end = HasForwarded w.config.now w.conn.0 w.source.now w.targets.now end.head end.tails.items
+Forwarded w end = HasForwarded w.gens.now w.conn.0 w.source.now w.targets.now end.head end.tails.items
 
 abbrev pub Dispatched : Dispatcher → PassedOn (TakerSeat TenantItem) PipelineItem → Type 0
-Dispatched w end = HasDispatched w.config.now w.tenant.0 w.source.now w.targets.now end.head end.tails.items
+Dispatched w end = HasDispatched w.gens.now w.tenant.0 w.source.now w.targets.now end.head end.tails.items
 
 abbrev pub Worked : {G : Type 0} → Worker G → WorkerEnd → Type 0
 Worked w end = HasWorked w.config.now w.tenant.0 w.pipeline.0 w.head end.head w.management end.management w.results end.results end.state
 
 -- What the threads of a run handed back, each of them seated between its queues.
-pub record HaveRun {F : Type 0} (G : Type 0) (config : Config) (to_come : F → Told) (faults : F → ℕ) (feeds : List F) (inbox : List (List InboxEnds)) (cell : ℕ) (queues : Queues) (ends : Ends F) : Type 0 where
+pub record HaveRun {F : Type 0} (G : Type 0) (gens : Generations) (to_come : F → Told) (faults : F → ℕ) (feeds : List F) (inbox : List (List InboxEnds)) (cells : Cells) (queues : Queues) (ends : Ends F) : Type 0 where
   pub readers : List (Reader F)
   pub forwarders : List Forwarder
   pub dispatchers : List Dispatcher
   pub workers : List (List (Worker G))
-  pub reader_count : length readers ≡ length (connections_of config)
-  pub forwarder_count : length forwarders ≡ length (connections_of config)
-  pub dispatcher_count : length dispatchers ≡ length (tenants_of config)
-  pub worker_count : length workers ≡ length (tenants_of config)
-  pub are_readers : EachAt (IsReaderOf faults feeds queues.records.items cell) readers
-  pub are_forwarders : EachAt (IsForwarderOf config queues.records.items queues.items.items) forwarders
-  pub are_dispatchers : EachAt (IsDispatcherOf config queues.items.items (map (λ lane. lane.items) queues.triggers.items)) dispatchers
-  pub are_workers : EachAt (AreWorkersOf config (map (λ lane. lane.items) queues.triggers.items) inbox) workers
+  pub reader_count : length readers ≡ length (connections_of gens.first)
+  pub forwarder_count : length forwarders ≡ length (connections_of gens.first)
+  pub dispatcher_count : length dispatchers ≡ length (tenants_of gens.first)
+  pub worker_count : length workers ≡ length (tenants_of gens.first)
+  pub are_readers : EachAt (IsReaderOf faults feeds queues.records.items cells) readers
+  pub are_forwarders : EachAt (IsForwarderOf gens queues.records.items queues.items.items) forwarders
+  pub are_dispatchers : EachAt (IsDispatcherOf gens queues.items.items (map (λ lane. lane.items) queues.triggers.items)) dispatchers
+  pub are_workers : EachAt (AreWorkersOf gens.first (map (λ lane. lane.items) queues.triggers.items) inbox) workers
   pub have_read : Pairwise (Read to_come faults) readers ends.readers.items
   pub have_forwarded : Pairwise Forwarded forwarders ends.forwarders.items
   pub have_dispatched : Pairwise Dispatched dispatchers ends.dispatchers.items

@@ -14,10 +14,10 @@ loop-taken-preserved g c =
       ap (λ head. head.queue) steps.1.0 ∙ of,
       steps.0 ∙ lender,
       ap (λ state. state.out) did.gathers ∙ out,
-      (λ i. has_ended (did.config i) (did.tenant i) (did.gathers i)) ∙ goes_on,
+      (λ i. has_ended (did.gens i).first (did.tenant i) (did.gathers i)) ∙ goes_on,
       subst (λ state. batch_left c.next.new.self ≤ room_of state) (sym did.gathers) (room_left (state_of c.loop-taken.dispatch) c.in-Some.taken.value _ _ left room),
       omega (arith, did.reserved, left, reserved),
-      did.config ∙ conf,
+      did.gens ∙ conf,
       did.tenant ∙ tenant,
-      (λ config t tails was. gathered_one c.gather.new.dispatch (batch_head c.next.new.self) tails (continues config t tails was) did.config did.tenant c.in-Some.taken (ap (λ head. head.taken) steps.1.0) refl (omega (arith, left, room)) goes_on did.gathers),
+      (λ gens t tails was. gathered_one c.gather.new.dispatch (batch_head c.next.new.self) tails (continues gens t tails was) did.gens did.tenant c.in-Some.taken (ap (λ head. head.taken) steps.1.0) refl (omega (arith, left, room)) goes_on did.gathers),
     )

@@ -1,12 +1,15 @@
 use Rattle.std.specs.Prelude.{◌≡◌, ◌++◌, map, vec_items}
 use Rattle.std.specs.Vec.Iter.{into_iter_items}
 use Rattle.gate_source.specs.Stops.{IsNoteOf, Note}
-use Rattle.gate_run.specs.Inner.Gatherings.{knows_as_much, report_of_reader}
+use Rattle.gate_run.specs.Asked.{AreKnown}
+use Rattle.gate_run.specs.Inner.Asked.{knows_as_much}
+use Rattle.gate_run.specs.Inner.Gatherings.{most_asked, report_of_reader}
 use Rattle.gate_run.specs.Inner.Lists.{Each}
+use Rattle.gate_run.specs.Inner.Readers.{notes_of}
 use Rattle.gate_run.proofs.gathering.gather_readers.Given as goal
 
--- what was gathered, with what is left, is all; and a note that knows as much as this one and those that are left knows as much as
--- all
+-- what was gathered, with what is left, is all; a note that knows as much as this one and those that are left knows as much as
+-- all; and the most notes among these and what is left are those among all
 abbrev pub invariant-loop-end : goal.invariant-loop-end
 invariant-loop-end g l =
     let rest = into_iter_items l.end-iterator in
@@ -14,6 +17,9 @@ invariant-loop-end g l =
     (vec_items l.feeds ++ map (λ end. end.feed) rest ≡ map (λ end. end.feed) all)
     × (vec_items l.tails ++ map (λ end. end.tail) rest ≡ map (λ end. end.tail) all)
     × (l.connections ++ map report_of_reader rest ≡ map report_of_reader all)
-    × IsNoteOf l.cell l.note
-    × Each (λ end. IsNoteOf l.cell end.note) rest
-    × ((note : Note) → knows_as_much l.note note → Each (λ end. knows_as_much end.note note) rest → Each (λ end. knows_as_much end.note note) all)
+    × IsNoteOf l.fn.asked.note.cell l.asked.note
+    × Each (λ end. IsNoteOf l.fn.asked.note.cell end.note) rest
+    × ((note : Note) → knows_as_much l.asked.note note → Each (λ end. knows_as_much end.note note) rest → Each (λ end. knows_as_much end.note note) all)
+    × (l.asked.cells ≡ l.fn.asked.cells)
+    × Each (λ end. AreKnown l.fn.asked.cells (notes_of end.renewals.items)) rest
+    × (most_asked l.asked.asked rest ≡ most_asked l.fn.asked.asked all)

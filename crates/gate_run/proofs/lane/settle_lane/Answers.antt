@@ -2,7 +2,7 @@ use Rattle.std.proofs.Common.{rules, ◌≡◌, ◌∙◌, sym, ap, subst, ◌�
 use Rattle.std.specs.Vec.Iter.{into_iter_items}
 use Rattle.gate_run.specs.Inner.Seats.{seat_in, seat_of}
 use Rattle.gate_run.specs.Inner.Stages.{AreSettled}
-use Rattle.gate_run.proofs.Places.{head_same, tail_same}
+use Rattle.gate_run.proofs.Places.{tail_same}
 use Rattle.gate_run.proofs.Seated.{as_many}
 use Rattle.gate_run.proofs.Staged.{lane_settled, none_settled}
 use Rattle.gate_run.proofs.lane.settle_lane.Goals as goal

@@ -9,4 +9,4 @@ invariant-loop-number l =
     (length (vec_items l.dispatchers) ≡ l.number)
     × (into_iter_items l.heads ≡ drop l.number l.fn.heads.items)
     × (into_iter_items l.tails ≡ drop l.number l.fn.tails.items)
-    × EachAt (IsDispatcherOf l.config l.sources (map (λ queues. queues.items) l.targets)) (vec_items l.dispatchers)
+    × EachAt (IsDispatcherOf l.gens l.sources (map (λ queues. queues.items) l.targets)) (vec_items l.dispatchers)

@@ -9,4 +9,4 @@ invariant-loop-number l =
     (length (vec_items l.forwarders) ≡ l.number)
     × (into_iter_items l.heads ≡ drop l.number l.fn.heads.items)
     × (into_iter_items l.tails ≡ drop l.number l.fn.tails.items)
-    × EachAt (IsForwarderOf l.config l.sources l.targets) (vec_items l.forwarders)
+    × EachAt (IsForwarderOf l.gens l.sources l.targets) (vec_items l.forwarders)

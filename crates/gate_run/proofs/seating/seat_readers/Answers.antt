@@ -2,7 +2,7 @@ use Rattle.std.proofs.Common.{rules, ◌≡◌, ◌∙◌, sym, refl, ◌<◌, l
 use Rattle.std.specs.Prelude.{slice_get}
 use Rattle.std.proofs.lemmas.Option.{slice_get_read}
 use Rattle.std.specs.Vec.Iter.{into_iter_items}
-use Rattle.gate_run.specs.Inner.Seatings.{IsReaderOf}
+use Rattle.gate_run.specs.Inner.Seatings.{Cells, IsReaderOf}
 use Rattle.gate_run.proofs.Places.{left_is, next_is}
 use Rattle.gate_run.proofs.Seatings.{one_more, reader_of}
 use Rattle.gate_run.proofs.seating.seat_readers.Goals as goal
@@ -11,6 +11,7 @@ pub loop-number-preserved : goal.loop-number-preserved
 loop-number-preserved g c =
     let (many, fed, seated, each) = c.loop-number.invariant in
     let number = c.loop-number.number in
+    let cells : Cells = record { stop = c.args.cell.now; generations = c.args.generations; later = c.args.cells.now } in
     let feeds = c.args.feeds.items in
     let tails = c.args.tails.items in
     let queues = c.args.queues.now in
@@ -19,7 +20,7 @@ loop-number-preserved g c =
     let tail_step = sym c.next_of-in-loop-number.ensures.next ∙ seated in
     let low : number < length queues = search rules in
     let here : slice_get queues number ≡ Some queue = slice_get_read queues (length queues) number queue refl low (search rules) in
-    let more = one_more (IsReaderOf g.F.RecordFeed.fault_count feeds queues c.args.cell.now) c.loop-number.readers.items c.push-in-loop-number.new.self.items _ number many each
-    (reader_of g.F.RecordFeed.fault_count feeds queues tails c.args.cell.now number _ (next_is feeds number c.next_of.result (into_iter_items c.next_of.new.rest) feed_step) here (next_is tails number c.next_of-in-loop-number.result (into_iter_items c.next_of-in-loop-number.new.rest) tail_step)
-    c.requires.tails c.requires.few refl c.note.ensures.0) c.in_ok-push-2.ensures.items in
+    let more = one_more (IsReaderOf g.F.RecordFeed.fault_count feeds queues cells) c.loop-number.readers.items c.push-in-loop-number.new.self.items _ number many each
+    (reader_of g.F.RecordFeed.fault_count feeds queues tails cells number _ (next_is feeds number c.next_of.result (into_iter_items c.next_of.new.rest) feed_step) here (next_is tails number c.next_of-in-loop-number.result (into_iter_items c.next_of-in-loop-number.new.rest) tail_step)
+    c.requires.tails c.requires.few refl refl refl c.requires.some c.note.ensures.0) c.in_ok-push-2.ensures.items in
     (more.many, left_is feeds number c.next_of.result (into_iter_items c.next_of.new.rest) feed_step, left_is tails number c.next_of-in-loop-number.result (into_iter_items c.next_of-in-loop-number.new.rest) tail_step, more.each)

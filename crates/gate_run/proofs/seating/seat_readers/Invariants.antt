@@ -9,4 +9,4 @@ invariant-loop-number g l =
     (length (vec_items l.readers) ≡ l.number)
     × (into_iter_items l.feeds ≡ drop l.number l.fn.feeds.items)
     × (into_iter_items l.tails ≡ drop l.number l.fn.tails.items)
-    × EachAt (IsReaderOf g.F.RecordFeed.fault_count l.fn.feeds.items l.queues l.cell) (vec_items l.readers)
+    × EachAt (IsReaderOf g.F.RecordFeed.fault_count l.fn.feeds.items l.queues (record { stop = l.cell; generations = l.generations; later = l.cells })) (vec_items l.readers)

@@ -6,7 +6,7 @@ use Rattle.gate_status.proofs.talking.answer_one.Goals as goal
 
 pub returns-clause-talks : goal.returns-clause-talks
 returns-clause-talks g c =
-    talks_one c.args.line.now c.answer-reply.result (sym c.end.ensures) c.answer-reply.ensures.may c.in_ok-say.ensures.says c.answer-reply.ensures.posted
+    talks_one c.args.line.now c.answer-reply.result (sym c.end.ensures) c.answer-reply.ensures.may c.in_ok-say.ensures.says c.answer-reply.ensures.posted c.answer-reply.ensures.asked c.answer-reply.ensures.left c.answer-reply.ensures.cells
     (subst (λ how. NoteAfter how c.args.posts.now.note c.answer-reply.new.posts.note) (sym c.end.ensures) c.answer-reply.ensures.note)
 
 pub returns-clause-for_config : goal.returns-clause-for_config

@@ -7,6 +7,6 @@ use Rattle.gate_run.proofs.dispatcher.DispatcherWorkPassedOnFreeHeadTenantItemPi
 abbrev pub invariant-loop : goal.invariant-loop
 invariant-loop g l =
     ((goal.iterator-loop g).can_next l.iterator' × (goal.iterator-loop g).is_finite l.iterator')
-    × IsDispatching l.fn.self.config.now l.fn.self.tenant.0 l.dispatching.dispatch l.dispatching.head l.dispatching.tails.items
+    × IsDispatching l.fn.self.gens.now l.fn.self.tenant.0 l.dispatching.dispatch l.dispatching.head l.dispatching.tails.items
     × IsHeadOf l.source l.dispatching.head
     × (map seat_of l.dispatching.tails.items ≡ map (seat_in 0) l.targets)

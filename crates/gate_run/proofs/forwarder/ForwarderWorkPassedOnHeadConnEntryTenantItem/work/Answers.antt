@@ -6,7 +6,7 @@ use Rattle.gate_run.proofs.forwarder.ForwarderWorkPassedOnHeadConnEntryTenantIte
 pub loop-init : goal.loop-init
 loop-init g c = (
   (tt, tt),
-  forwarding_begins _ c.args.self.source.now c.args.self.targets.now c.new.ensures.hand c.new.ensures.config c.new.ensures.conn c.requires.not_taken refl c.requires.not_put,
+  forwarding_begins _ c.args.self.source.now c.args.self.targets.now c.new.ensures.hand c.new.ensures.gens c.new.ensures.conn c.requires.not_taken refl c.requires.not_put,
   refl,
   ap (λ head. head.queue) c.requires.not_taken,
   fresh_seats c.args.self.conn.0 c.args.self.tails.items c.args.self.targets.now c.requires.not_put,
@@ -28,4 +28,4 @@ returns-in-Out g c =
     forwarder_ends {f = c.step.new.self} _ _ c.end-in-Out.result.head c.end-in-Out.result.tails.items c.end-in-Out.ensures.head (ap (λ v. v.items) c.end-in-Out.ensures.tails) (c.step.ensures.head ∙ head) (c.step.ensures.seats ∙ seats) (search rules) c.end-in-Out.ensures.put
 
 pub returns-in_default : goal.returns-in_default
-returns-in_default g c = not_forwarded c.args.self.config.now c.args.self.conn.0 c.args.self.source.now c.args.self.targets.now c.args.self.head c.args.self.tails.items c.requires.not_taken c.requires.not_put
+returns-in_default g c = not_forwarded c.args.self.gens.now c.args.self.conn.0 c.args.self.source.now c.args.self.targets.now c.args.self.head c.args.self.tails.items c.requires.not_taken c.requires.not_put

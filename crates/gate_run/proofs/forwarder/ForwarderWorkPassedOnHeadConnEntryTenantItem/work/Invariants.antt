@@ -7,7 +7,7 @@ use Rattle.gate_run.proofs.forwarder.ForwarderWorkPassedOnHeadConnEntryTenantIte
 abbrev pub invariant-loop : goal.invariant-loop
 invariant-loop g l =
     ((goal.iterator-loop g).can_next l.iterator' × (goal.iterator-loop g).is_finite l.iterator')
-    × IsForwarding l.fn.self.config.now l.fn.self.conn.0 l.forwarding
+    × IsForwarding l.fn.self.gens.now l.fn.self.conn.0 l.forwarding
     × (l.forwarding.kept ≡ None)
     × IsHeadOf l.source l.forwarding.head
     × (map seat_of l.forwarding.tails.items ≡ map (seat_in l.fn.self.conn.0) l.targets)

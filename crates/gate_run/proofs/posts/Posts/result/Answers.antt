@@ -17,7 +17,7 @@ returns-in-Err-clause-unchanged g c =
     let same : ends_of record { management = pipeline.management; results = c.put.new.self; worker = pipeline.worker } ≡ ends_of (slice_index_or tenant.items c.args.pipeline.0 pipeline) = (λ i. record { management = pipeline.management; results = c.in-Err.ensures.refused.1 i }) ∙ ap ends_of c.index_mut-posts.ensures.value in
     let inner = set_alike ends_of tenant.items c.args.pipeline.0 _ pipeline low' same ∙ ap (λ v. map ends_of v.items) c.index_mut.ensures.value in
     let whole = set_alike (λ v. map ends_of v.items) c.self.inside.tenants.items c.args.tenant.0 _ tenant low inner in
-    (λ i. record { pipelines = whole i; note = c.self.inside.note }) ∙ c.self.view_is
+    (λ i. record { pipelines = whole i; note = c.self.inside.asked.note; cells = c.self.inside.asked.cells; asked = c.self.inside.asked.asked }) ∙ c.self.view_is
 
 pub returns-in-Err-clause-judges : goal.returns-in-Err-clause-judges
 returns-in-Err-clause-judges g c =
@@ -48,7 +48,7 @@ returns-clause-posts g c =
     let same : ends_of record { management = pipeline.management; results = c.put.new.self; worker = pipeline.worker } ≡ change (ends_of (slice_index_or tenant.items c.args.pipeline.0 pipeline)) = (λ i. record { management = pipeline.management; results = c.in_default.ensures.puts i }) ∙ ap (λ x. change (ends_of x)) c.index_mut-posts.ensures.value in
     let inner = changed ends_of tenant.items c.args.pipeline.0 _ pipeline change low' same ∙ ap (λ v. slice_change c.args.pipeline.0 change (map ends_of v.items)) c.index_mut.ensures.value in
     let whole = changed (λ v. map ends_of v.items) c.self.inside.tenants.items c.args.tenant.0 _ tenant (slice_change c.args.pipeline.0 change) low inner in
-    (λ i. record { pipelines = whole i; note = c.self.inside.note }) ∙ ap (with_result c.args.tenant.0 c.args.pipeline.0 c.args.ended) c.self.view_is
+    (λ i. record { pipelines = whole i; note = c.self.inside.asked.note; cells = c.self.inside.asked.cells; asked = c.self.inside.asked.asked }) ∙ ap (with_result c.args.tenant.0 c.args.pipeline.0 c.args.ended) c.self.view_is
 
 pub returns-clause-judges : goal.returns-clause-judges
 returns-clause-judges g c =

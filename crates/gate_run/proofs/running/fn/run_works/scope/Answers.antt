@@ -1,12 +1,27 @@
+use Rattle.std.proofs.Common.{List, map, subst}
 use denote.Param.Send.{IsSync, sendable}
+use Rattle.gate_run.specs.declared.dispatcher.Dispatcher.{Dispatcher}
+use Rattle.gate_run.specs.declared.forwarder.Forwarder.{Forwarder}
+use Rattle.gate_run.specs.declared.reader.Reader.{Reader}
+use Rattle.gate_run.specs.declared.worker.Worker.{Worker}
+use Rattle.gate_run.specs.Lists.{Pairwise}
+use Rattle.gate_run.specs.Inner.Works.{Dispatched, Forwarded, Read, Worked}
 use Rattle.gate_run.proofs.Sendings.{dispatcher_send, forwarder_send, worker_send}
 use Rattle.gate_run.proofs.running.fn.run_works.scope.Goals as goal
 
 pub start_all-requires-2-send-W : goal.start_all-requires-2-send-W
-start_all-requires-2-send-W g c κs within = let s = c.config_crosses.ensures.sync in search (sendable, forwarder_send)
+start_all-requires-2-send-W g c κs within = let s = c.generations_cross.ensures.sync in search (sendable, forwarder_send)
 
 pub start_all-requires-3-send-W : goal.start_all-requires-3-send-W
-start_all-requires-3-send-W g c κs within = let s = c.config_crosses.ensures.sync in search (sendable, dispatcher_send)
+start_all-requires-3-send-W g c κs within = let s = c.generations_cross.ensures.sync in search (sendable, dispatcher_send)
 
 pub start_lists-requires-send-W : goal.start_lists-requires-send-W
 start_lists-requires-send-W g c κs within = let s = c.config_crosses.ensures.sync in let y : IsSync g.row.G = record { shared = c.is_shared.ensures.shared } in search (sendable, worker_send)
+
+pub returns : goal.returns
+returns g c = record {
+  readers = subst (λ (ws : List (Reader _)). Pairwise (Read g.F.RecordFeed.to_come g.F.RecordFeed.fault_count) ws c.in_ok-join_all.field-0.items) c.in_ok-readers.ensures c.in_ok-join_all.ensures;
+  forwarders = subst (λ (ws : List Forwarder). Pairwise Forwarded ws c.in_ok-join_all-2.field-0.items) c.in_ok-forwarders.ensures c.in_ok-join_all-2.ensures;
+  dispatchers = subst (λ (ws : List Dispatcher). Pairwise Dispatched ws c.in_ok-join_all-3.field-0.items) c.in_ok-dispatchers.ensures c.in_ok-join_all-3.ensures;
+  workers = subst (λ (ws : List (List (Worker _))). Pairwise (Pairwise Worked) ws (map (λ list. list.items) c.in_ok-join_lists.field-0.items)) c.in_ok-workers.ensures c.in_ok-join_lists.ensures;
+}

@@ -1,0 +1,23 @@
+use Rattle.std.proofs.Common.{rules, ◌∙◌, sym, ap, subst, is_some}
+use Rattle.gate_run.specs.Asked.{AskedView}
+use Rattle.gate_run.specs.Inner.Asked.{knows_as_much}
+use Rattle.gate_run.specs.Inner.Gatherings.{report_of_reader}
+use Rattle.gate_run.specs.Inner.Lists.{Each}
+use Rattle.gate_run.proofs.Paired.{moved_on}
+use Rattle.gate_run.proofs.gathering.gather_readers.Goals as goal
+
+pub loop-end-preserved : goal.loop-end-preserved
+loop-end-preserved g c =
+    let before = c.loop-end.invariant in
+    let next = c.in-Some.ensures.steps.0 in
+    let kept = ap (λ (v : AskedView). is_some v.note.cause) c.take_asked.ensures in (
+      moved_on (λ end. end.feed) _ _ c.in-Some.end _ _ _ before.0 next c.in_ok-push.ensures.items,
+      moved_on (λ end. end.tail) _ _ c.in-Some.end _ _ _ before.1 next c.in_ok-push-2.ensures.items,
+      moved_on report_of_reader _ _ c.in-Some.end _ _ _ before.2 next (c.in_ok-push-3.ensures ∙ search rules),
+      search rules,
+      search rules,
+      (λ note more rest. before.5 note (λ known. more (kept ∙ c.take_stop.ensures.knew known)) (subst (Each (λ end. knows_as_much end.note note)) (sym next) ((λ known. more (kept ∙ c.take_stop.ensures.knows known)), rest))),
+      search rules,
+      search rules,
+      search rules,
+    )

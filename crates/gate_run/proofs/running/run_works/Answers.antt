@@ -1,0 +1,19 @@
+use Rattle.std.proofs.Common.{rules}
+use Rattle.gate_run.proofs.running.run_works.Goals as goal
+
+pub scoped-requires : goal.scoped-requires
+scoped-requires g c = record {
+  at = λ a. (
+    c.requires.readers,
+    (
+      c.requires.forwarders,
+      (
+        c.requires.dispatchers,
+        (
+          c.requires.workers,
+          (search rules, record { shared = c.type_bounds.sync-G.shared }, record { shared = c.type_bounds.sync-R.shared }),
+        ),
+      ),
+    ),
+  );
+}
