@@ -33,24 +33,27 @@ class Counts:
 
 
 def report_of(text):
-    """The connections of a report with count and cause, its pipelines with their last word, and its done lines with their numbers."""
-    connections, pipelines, done = {}, {}, {}
+    """The connections of a report with count and cause, its pipelines with their last word, its done lines with their numbers, and the
+    connections that have renewals with their numbers."""
+    connections, pipelines, done, renewed = {}, {}, {}, {}
     for line in text.splitlines():
         if match := re.fullmatch(r'connection ("\w+") accepted (\d+) (\w+)', line):
             connections[match[1]] = int(match[2]), match[3]
+        elif match := re.fullmatch(r'renewed ("\w+")((?: \d+)+)', line):
+            renewed[match[1]] = match[2].split()
         elif match := re.fullmatch(r'pipeline ("\w+" "\w+") (finished|running)', line):
             pipelines[match[1]] = match[2]
         elif match := re.fullmatch(r'done ("\w+" "\w+") ("\w+")((?: \d+)*)', line):
             done[match[1], match[2]] = match[3].split()
         else:
             raise ValueError(f"a line that no report has: {line}")
-    return connections, pipelines, done
+    return connections, pipelines, done, renewed
 
 
 def partial_faults(found, whole, causes):
     """Why this is no report of a run that gave up, of which the other is the whole one, and these are the causes that it may have."""
     try:
-        (connections, pipelines, done), (all_connections, all_pipelines, all_done) = report_of(found), report_of(whole)
+        (connections, pipelines, done, renewed), (all_connections, all_pipelines, all_done, all_renewed) = report_of(found), report_of(whole)
     except ValueError as error:
         return [str(error)]
     if [list(part) for part in (connections, pipelines, done)] != [list(part) for part in (all_connections, all_pipelines, all_done)]:
@@ -61,6 +64,9 @@ def partial_faults(found, whole, causes):
             told.append(f"connection {name} has the cause {cause}")
         if accepted > all_connections[name][0] or cause == "ended" and accepted != all_connections[name][0]:
             told.append(f"connection {name} accepted {accepted} {cause}")
+    for name, numbers in renewed.items():
+        if numbers != all_renewed.get(name, [])[: len(numbers)]:
+            told.append(f"renewed {name} {numbers}")
     for (pipeline, name), numbers in done.items():
         if numbers != all_done[pipeline, name][: len(numbers)] or any(int(n) >= connections[name][0] for n in numbers):
             told.append(f"done {pipeline} {name} {numbers}")
