@@ -1,6 +1,8 @@
 //! Configurations, read or refused, what they say, and their generations.
-use gate_config::{Config, GenerationFault, check_text, read_generations};
-use gate_refusing::{Elsewhere, Log, PLAIN, WHOLE, made, read_twice, say};
+use gate_config::{Config, check_text};
+use gate_refusing::{
+    Elsewhere, Log, PLAIN, WHOLE, WHOLE_LATER, documents_of, made, read_all_twice, read_twice, say,
+};
 use std::alloc::Global;
 
 // A document with a hole at `@`.
@@ -60,29 +62,21 @@ pub(crate) fn run(log: &mut Log, alloc: Global) -> Result<(), Elsewhere> {
     read_all(log, alloc, RULES, FAULTY_RULES)?;
     read_all(log, alloc, TENANTS, FAULTY_TENANTS)?;
     read_all(log, alloc, ITEMS, FAULTY_ITEMS)?;
-    read_both(log, alloc, WHOLE, WHOLE)?;
-    read_both(log, alloc, PLAIN, WHOLE)?;
-    read_both(log, alloc, PLAIN, "[]")
+    read_together(log, alloc, &[WHOLE, WHOLE_LATER, WHOLE])?;
+    read_together(log, alloc, &[PLAIN, WHOLE])?;
+    read_together(log, alloc, &[PLAIN, "[]"])?;
+    read_together(log, alloc, &[])
 }
 
-// Two documents as the generations of a configuration.
-fn read_both(log: &mut Log, alloc: Global, first: &str, second: &str) -> Result<(), Elsewhere> {
-    let mut documents = Vec::new(alloc);
-    documents.push(first.as_bytes().to_vec(alloc)?)?;
-    documents.push(second.as_bytes().to_vec(alloc)?)?;
+// Documents as the generations of a configuration.
+fn read_together(log: &mut Log, alloc: Global, documents: &[&str]) -> Result<(), Elsewhere> {
+    let documents = documents_of(alloc, documents)?;
     tell_generations(log, alloc, documents.as_slice());
     Ok(())
 }
 
 fn tell_generations(log: &mut Log, alloc: Global, documents: &[Vec<u8>]) {
-    let call = "gate_config read_generations";
-    let read = made!(
-        log,
-        call,
-        GenerationFault::Memory,
-        read_generations(alloc, documents)
-    );
-    match read {
+    match read_all_twice(log, alloc, documents) {
         Ok(gens) => say!(log.told, "{} generations\n", gens.count()),
         Err(fault) => say!(log.told, "{fault}\n"),
     }

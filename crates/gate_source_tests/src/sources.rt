@@ -5,7 +5,7 @@ ghost use Rattle.gate_source.specs.Stops.{IsNoteOf};
 
 use gate_queue::{EventQueue, Head, Tagged, open};
 use gate_record::{ConnEntry, Record};
-use gate_source::{OfferFault, Source, StopCause, StopCell, StopNote};
+use gate_source::{OfferFault, RenewFault, Source, StopCause, StopCell, StopNote};
 use gate_test_lines::{is_line, record_of};
 use std::alloc::Global;
 use std::process::Abort;
@@ -29,10 +29,11 @@ fn back(record: &Record, line: &str, why: &'static str) -> Result<u64, &'static 
     }
 }
 
-// Whether this is the entry of a record with this number and this line, or, where the line is `end`, the end mark.
+// Whether this is the entry of a record with this number and this line, or, where the line is `end` or `renew`, such a mark.
 fn is_entry(entry: &ConnEntry, wanted: u64, line: &str) -> bool {
     match entry {
         ConnEntry::Numbered(number, record) => *number == wanted && is_line(record, line),
+        ConnEntry::Renew => line == "renew",
         ConnEntry::End => line == "end",
     }
 }
@@ -81,7 +82,7 @@ fn offer<R: Wait + Abort>(
     Ok(())
 }
 
-// Sees that what is taken is this line with this number, `end` or `nothing`.
+// Sees that what is taken is this line with this number, `end`, `renew` or `nothing`.
 fn take<R: Wait + Abort>(
     rt: &R,
     queue: &EventQueue<ConnEntry>,
@@ -234,6 +235,64 @@ fn a_source_may_leave_without_an_end_mark(rt: HostRuntime) -> Result<(), Fail> {
     let (queue, source, mut head) = opened(rt.alloc(), 2)?;
     leave(&rt, rt.alloc(), &queue, source)?;
     take(&rt, &queue, &mut head, 0, "a");
+    take(&rt, &queue, &mut head, 0, "nothing");
+    Ok(())
+}
+
+// Sees what the next of so many generations comes to.
+fn renew<R: Wait + Abort>(
+    rt: &R,
+    queue: &EventQueue<ConnEntry>,
+    source: &mut Source,
+    count: u32,
+    wanted: Result<u32, RenewFault>,
+)
+    requires { IsTailOf queue.now source.old.seat }
+    ensures { IsTailOf queue.now source.new.seat }
+{
+    assert!(rt; source.renew(rt, queue, count) == wanted, "of {count}");
+}
+
+#[test]
+fn a_mark_is_put_for_a_later_generation(rt: HostRuntime) -> Result<(), Fail> {
+    let (queue, mut source, mut head) = opened(rt.alloc(), 1)?;
+    renew(&rt, &queue, &mut source, 1, Err(RenewFault::Last));
+    renew(&rt, &queue, &mut source, 2, Ok(1));
+    renew(&rt, &queue, &mut source, 2, Err(RenewFault::Last));
+    renew(&rt, &queue, &mut source, 3, Err(RenewFault::Full));
+    take(&rt, &queue, &mut head, 0, "renew");
+    renew(&rt, &queue, &mut source, 2, Err(RenewFault::Last));
+    renew(&rt, &queue, &mut source, 3, Ok(2));
+    take(&rt, &queue, &mut head, 0, "renew");
+    take(&rt, &queue, &mut head, 0, "nothing");
+    Ok(())
+}
+
+// Offers a record before a mark and one behind it.
+fn offer_around<R: Wait + Abort>(
+    rt: &R,
+    alloc: Global,
+    queue: &EventQueue<ConnEntry>,
+    source: &mut Source,
+) -> Result<(), Fail>
+    requires { IsTailOf queue.now source.old.seat }
+{
+    let cell = StopCell::new(alloc);
+    let mut note = cell.note();
+    offer(rt, alloc, queue, &cell, &mut note, source, "a", Ok(0))?;
+    renew(rt, queue, source, 16, Ok(1));
+    offer(rt, alloc, queue, &cell, &mut note, source, "b", Ok(1))?;
+    assert!(rt; source.count() == 2);
+    Ok(())
+}
+
+#[test]
+fn a_mark_is_no_record(rt: HostRuntime) -> Result<(), Fail> {
+    let (queue, mut source, mut head) = opened(rt.alloc(), 3)?;
+    offer_around(&rt, rt.alloc(), &queue, &mut source)?;
+    take(&rt, &queue, &mut head, 0, "a");
+    take(&rt, &queue, &mut head, 0, "renew");
+    take(&rt, &queue, &mut head, 1, "b");
     take(&rt, &queue, &mut head, 0, "nothing");
     Ok(())
 }
