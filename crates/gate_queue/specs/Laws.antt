@@ -1,9 +1,12 @@
 -- That the two ways to say the rule of a queue agree.
-use Rattle.std.specs.Prelude.{◌≡◌, ◌≤◌, ℕ, List, [], length}
+use Rattle.std.specs.Prelude.{◌≡◌, ◌≤◌, ℕ, List, [], ◌∷◌, length, map}
+use Rattle.std.specs.List.{range_with_len}
 use mathlib.Core.Option.{some}
 use lib.ListN.{get_elem?}
 use Rattle.gate_queue.specs.declared.tagged.Tagged.{Tagged}
+use Rattle.gate_queue.specs.declared.known.Got.{Got}
 use Rattle.gate_queue.specs.declared.known.Known.{Known}
+use Rattle.gate_queue.specs.declared.known.Put.{Put}
 use Rattle.gate_queue.specs.declared.known.Known.TheVariants.{Sender, Taker, Nothing}
 use Rattle.gate_queue.specs.Seats.{Shape}
 use Rattle.gate_queue.specs.Sharing.{Shares}
@@ -21,6 +24,17 @@ module _ {T : Type 0} where
   abbrev pub state_in : (items : List (Tagged T)) (views : List (Known T)) → Shares items views → State T
   state_in items views shares = record { put = λ k. values_of k shares.all; taken = shares.taken; waiting = items }
 
+  -- what a sender's seat knows in this state, and what the taker's does before any seat is joined to it
+  abbrev pub sender_in : Shape → State T → ℕ → Put T
+  sender_in queue s k = record { sender = k; senders = queue.name.senders; put = s.put k }
+
+  abbrev pub taker_in : Shape → State T → Got T
+  taker_in queue s = record { senders = queue.name.senders; made = queue.name.senders; taken = s.taken; joined = [] }
+
+  -- all seats of a queue, the taker's first
+  abbrev pub seats_in : Shape → State T → List (Known T)
+  seats_in queue s = Taker (taker_in queue s) ∷ map (λ k. Sender (sender_in queue s k)) (range_with_len 0 queue.name.senders)
+
 -- What threads keep among them by the protocol is a state that the rule of the queue allows, as long as no more waits than there
 -- are places, and each seat knows what is so in that state.
 abbrev pub ProtocolKeepsTheRule : Type 0 → Type 0
@@ -28,7 +42,7 @@ ProtocolKeepsTheRule T = (queue : Shape) (items : List (Tagged T)) (views : List
     shares.senders ≡ queue.name.senders → length items ≤ queue.capacity →
     Allows queue (state_in items views shares) × ((pass : ℕ) (v : Known T) → get_elem? views pass ≡ some v → Knows (state_in items views shares) v)
 
--- Each state that the rule allows is one that the protocol can keep.
+-- Each state that the rule allows is one that the protocol can keep, with a seat for each sender and the taker's.
 abbrev pub RuleIsTheProtocols : Type 0 → Type 0
 RuleIsTheProtocols T = (queue : Shape) (s : State T) → Allows queue s →
-    (shares : Shares s.waiting []) × (shares.senders ≡ queue.name.senders) × (shares.taken ≡ s.taken) × ((k : ℕ) → values_of k shares.all ≡ s.put k)
+    (shares : Shares s.waiting (seats_in queue s)) × (shares.senders ≡ queue.name.senders) × (shares.taken ≡ s.taken) × ((k : ℕ) → values_of k shares.all ≡ s.put k)

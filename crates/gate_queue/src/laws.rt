@@ -5,7 +5,7 @@ pub fn the_protocol_keeps_the_rule<T>()
     ensures { ProtocolKeepsTheRule T }
 {}
 
-/// Each state that a queue's rule allows is one that threads can keep among them.
+/// Each state that a queue's rule allows is one that threads can keep among them, each with its seat.
 pub fn the_rule_is_the_protocols<T>()
     ensures { RuleIsTheProtocols T }
 {}

@@ -48,7 +48,7 @@ use Rattle.gate_run.specs.Ports.{InboxEnds, InboxView, at_pipeline, pipeline_cou
 use Rattle.gate_run.specs.Readers.{Means, is_closed}
 use Rattle.gate_run.specs.Seats.{values}
 use Rattle.gate_run.specs.Inner.Seats.{seat_in, seat_of}
-use Rattle.gate_run.specs.Asked.{AreKnown}
+use Rattle.gate_run.specs.Asked.{AreKnown, KnowsStill}
 use Rattle.gate_run.specs.Inner.Asked.{knows_as_much}
 use Rattle.gate_run.specs.Inner.Readers.{counts_of, notes_of}
 use Rattle.gate_run.specs.Inner.Seatings.{AreWorkersOf, Cells, IsReaderOf}
@@ -516,8 +516,8 @@ module _ {F G : Type 0} {gens : Generations} {to_come : F → Told} {faults : F 
 
   pub serves : EntriesHaveGenerations → RecordsHaveGenerations → TakenIsProcessed → EachWayDelivers → (feeds' : List F) (before after : InboxView) (report : RunReport) (pipelines : List (List State)) → before.pipelines ≡ inbox →
       feeds' ≡ back → report.connections ≡ counted → report.pipelines ≡ reported → pipelines ≡ kept → after.pipelines ≡ inbox_kept → after.note.cell ≡ before.note.cell →
-      Each (λ (end : ReaderEnd F). knows_as_much end.note after.note) E.reader_ends → after.cells ≡ before.cells → after.asked ≡ most_asked before.asked E.reader_ends → AreKnown after.cells after.asked → Serves gens to_come faults feeds feeds' before after report pipelines
-  serves entries records law ways feeds' before after report pipelines was fed connections done states inboxes cell knows cells asked known = record {
+      Each (λ (end : ReaderEnd F). knows_as_much end.note after.note) E.reader_ends → after.cells ≡ before.cells → after.asked ≡ most_asked before.asked E.reader_ends → AreKnown after.cells after.asked → KnowsStill before.note after.note → Serves gens to_come faults feeds feeds' before after report pipelines
+  serves entries records law ways feeds' before after report pipelines was fed connections done states inboxes cell knows cells asked known still = record {
     lines = lines;
     connections = subst (λ xs. HaveEnded gens to_come faults feeds xs lines report.connections after) (sym fed) (subst (λ xs. HaveEnded gens to_come faults feeds back lines xs after) (sym connections)
         (have_ended after knows (each_enough before.asked E.reader_ends after.asked (subst (λ xs. length (most_asked before.asked E.reader_ends) ≤ length xs) (sym asked) (omega arith)))));
@@ -530,6 +530,7 @@ module _ {F G : Type 0} {gens : Generations} {to_come : F → Told} {faults : F 
     counts = ap (map length) states ∙ pipelines_counted;
     inbox_for = ap (map length) inboxes ∙ inbox_counted;
     cell = cell;
+    still = still;
     cells = cells;
     known = known;
     no_fewer = subst (λ xs. length before.asked ≤ length xs) (sym asked) (most_no_fewer before.asked E.reader_ends);

@@ -11,6 +11,10 @@ pub record AskedView : Type 0 where
   pub cells : List ℕ
   pub asked : List Note
 
+-- the later of two notes knows the cause that the earlier one knew, if it knew one
+abbrev pub KnowsStill : Note → Note → Type 0
+KnowsStill before after = is_some before.cause ≡ true → after.cause ≡ before.cause
+
 -- Notes of the first of these cells, in order, each of which knows its cause: that generation was asked for.
 pub record AreKnown (cells : List ℕ) (notes : List Note) : Type 0 where
   pub of_first : map (λ (note : Note). note.cell) notes ≡ take (length notes) cells

@@ -18,7 +18,7 @@ use Rattle.gate_core.specs.declared.report.RunReport.{RunReport}
 use Rattle.gate_core.specs.History.{asked_among, numbers_from, wanted}
 use Rattle.gate_source.specs.Feeds.{AreFirst, Told}
 use Rattle.gate_source.specs.Sources.{NeverFalls}
-use Rattle.gate_run.specs.Asked.{AreKnown}
+use Rattle.gate_run.specs.Asked.{AreKnown, KnowsStill}
 use Rattle.gate_run.specs.Gatherings.{report_of_pipeline}
 use Rattle.gate_run.specs.Ports.{InboxEnds, InboxView, IsInboxFor, at_pipeline, pipeline_counts}
 use Rattle.gate_run.specs.Readers.{Means, is_closed}
@@ -85,6 +85,8 @@ pub record Serves {F : Type 0} (gens : Generations) (to_come : F → Told) (faul
   pub counts : map length pipelines ≡ pipeline_counts gens.first
   pub inbox_for : IsInboxFor gens.first inbox'
   pub cell : inbox'.note.cell ≡ inbox.note.cell
+  -- a cause to stop that the inbox knew is known still
+  pub still : KnowsStill inbox.note inbox'.note
   -- the cells of the generations behind the first are the same, and what the inbox has of them are notes of the first, no fewer than
   -- before, which all know that the generation was asked for
   pub cells : inbox'.cells ≡ inbox.cells

@@ -1,5 +1,5 @@
 //! What a run is asked for from outside: to stop, and to put later generations of its configuration in force.
-ghost use Rattle.std.specs.Prelude.{◌≡◌, ◌<◌, ◌+◌, IfErr, IfOk, None, OnErr, length};
+ghost use Rattle.std.specs.Prelude.{◌≡◌, ◌<◌, ◌+◌, IfErr, IfOk, None, OnErr, is_some, length};
 
 use gate_record::{Memory, Sequence, Shared};
 use gate_source::{StopCause, StopCell, StopNote};
@@ -21,13 +21,15 @@ pub enum RenewPostFault {
 pub(crate) struct Asked {
     stop: Shared<StopCell>,
     note: StopNote,
+    // Whether the note knows a cause.
+    knows: bool,
     cells: Shared<Sequence<StopCell>>,
     // Of the first of these cells, in order; each knows that its generation was asked for.
     known: Vec<StopNote>,
 }
 
 impl Model for Asked {
-    ghost use Rattle.std.specs.Prelude.{◌<◌, length};
+    ghost use Rattle.std.specs.Prelude.{◌≡◌, ◌<◌, is_some, length};
     ghost use Rattle.gate_config.specs.Limits.{most_generations};
     ghost use Rattle.gate_source.specs.Stops.{IsNoteOf};
     ghost use Rattle.gate_run.specs.Asked.{AreKnown, AskedView};
@@ -36,7 +38,7 @@ impl Model for Asked {
 
     ghost view = { λ a. record { note = a.note; cells = a.cells; asked = a.known.items } };
 
-    ghost invariant = { λ a. IsNoteOf a.stop a.note × (length a.cells < most_generations) × AreKnown a.cells a.known.items };
+    ghost invariant = { λ a. IsNoteOf a.stop a.note × (a.knows ≡ is_some a.note.cause) × (length a.cells < most_generations) × AreKnown a.cells a.known.items };
 }
 
 // So many cells that nobody has asked yet.
@@ -53,7 +55,7 @@ fn open_cells(alloc: Global, count: usize) -> Result<Sequence<StopCell>, Memory>
 impl Asked {
     ghost use Rattle.gate_config.specs.Limits.{most_generations};
     ghost use Rattle.gate_source.specs.Stops.{IsNoteOf, Learns};
-    ghost use Rattle.gate_run.specs.Asked.{AreKnown, AsksForNext, MayNotAsk};
+    ghost use Rattle.gate_run.specs.Asked.{AreKnown, AsksForNext, KnowsStill, MayNotAsk};
     ghost use Rattle.gate_run.specs.Inner.Asked.{AreSides, knows_as_much, longer, nothing_asked};
 
     /// Both sides of a run that was asked for nothing yet, and that can be asked for so many later generations. `Memory` where
@@ -81,6 +83,7 @@ impl Asked {
         Asked {
             stop,
             note,
+            knows: false,
             cells,
             known: Vec::new(alloc),
         }
@@ -93,7 +96,16 @@ impl Asked {
         ensures cells { self.new.cells ≡ self.old.cells }
         ensures asked { self.new.asked ≡ self.old.asked }
     {
-        self.stop.get().request(&mut self.note, cause)
+        let held = self.stop.get().request(&mut self.note, cause)?;
+        self.knows = true;
+        Ok(held)
+    }
+
+    /// Whether it knows a cause to stop.
+    pub(crate) fn stopped(&self) -> bool
+        ensures { result ≡ is_some self.now.note.cause }
+    {
+        self.knows
     }
 
     /// Asks for the next generation: the answer is its number.
@@ -139,18 +151,21 @@ impl Asked {
         let _known = &self.known;
     }
 
-    /// Takes over another note of the cell of the cause to stop, if that knows a cause.
+    /// Takes over another note of the cell of the cause to stop, if that knows a cause. It is the one that is known, if one is.
     pub(crate) fn take_stop(&mut self, note: StopNote)
         requires { IsNoteOf self.old.note.cell note }
         ensures of_cell { self.new.note.cell ≡ self.old.note.cell }
         ensures knows { knows_as_much note self.new.note }
         ensures knew { knows_as_much self.old.note self.new.note }
+        ensures still { KnowsStill self.old.note self.new.note }
         ensures cells { self.new.cells ≡ self.old.cells }
         ensures asked { self.new.asked ≡ self.old.asked }
     {
         let mut note = note;
         if self.stop.get().seen(&mut note).is_some() {
+            self.note.agree(&mut note);
             self.note = note;
+            self.knows = true;
         }
     }
 

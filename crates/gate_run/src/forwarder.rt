@@ -23,7 +23,7 @@ use std::sync::Wait;
 use std::thread::Threads;
 use std::time::Clock;
 
-// After so many entries a forwarder wakes its reader: a quarter of a queue's places.
+// After so many entries a forwarder gives the wake-ups that it owes: a quarter of a queue's places.
 const MANY_TAKEN: usize = PLACES / 4;
 
 /// A connection's forwarder before it begins, with its seats.
@@ -229,7 +229,7 @@ impl<'c> Forwarding<'c> {
 #[derive(Drop)]
 struct Debts {
     conn: ConnId,
-    // How many entries were taken since the reader was woken.
+    // How many entries were taken since the reader was woken. Tenants' workers wait for no more of them than that.
     taken: usize,
     items: Owed,
 }
@@ -247,7 +247,7 @@ impl Debts {
     fn took(&mut self, signals: &Signals) {
         self.taken = self.taken.saturating_add(1);
         if self.taken >= MANY_TAKEN {
-            self.wake_reader(signals);
+            self.pay(signals);
         }
     }
 

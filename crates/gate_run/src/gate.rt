@@ -1,4 +1,4 @@
-use gate_pipeline::Pipeline;
+use gate_pipeline::{Pipeline, Processed};
 use gate_record::{PipelineId, TenantId};
 use std::sync::Wait;
 
@@ -7,6 +7,17 @@ use std::sync::Wait;
 pub trait Gate {
     /// Before an action is processed.
     fn before<R: Wait>(&self, rt: &R, tenant: TenantId, pipeline: PipelineId, state: &Pipeline);
+
+    /// Behind an action that was processed, with what came of it; not where memory was refused for it. The pipeline's next action comes
+    /// after the call.
+    fn after<R: Wait>(
+        &self,
+        _rt: &R,
+        _tenant: TenantId,
+        _pipeline: PipelineId,
+        _state: &Pipeline,
+        _processed: &Processed,
+    ) {}
 
     /// Once, as the pipeline's worker returns.
     fn last<R: Wait>(&self, rt: &R, tenant: TenantId, pipeline: PipelineId, state: &Pipeline);

@@ -2,7 +2,7 @@
 ghost use Rattle.std.specs.Prelude.{◌≡◌, ◌++◌, ◌∷◌, [], IfOk, OnOk, map};
 ghost use Rattle.gate_source.specs.Stops.{IsNoteOf};
 ghost use Rattle.gate_run.specs.Gatherings.{report_of_pipeline};
-ghost use Rattle.gate_run.specs.Asked.{AreKnown};
+ghost use Rattle.gate_run.specs.Asked.{AreKnown, KnowsStill};
 ghost use Rattle.gate_run.specs.Inner.Asked.{knows_as_much};
 ghost use Rattle.gate_run.specs.Inner.Gatherings.{inbox_back, most_asked, report_of_reader};
 ghost use Rattle.gate_run.specs.Inner.Lists.{Each};
@@ -58,6 +58,7 @@ pub(crate) fn gather_readers<F: Drop>(
     ensures connections { IfOk result (λ back. back.connections ≡ map report_of_reader ends.items) }
     ensures note { IfOk result (λ back. IsNoteOf asked.note.cell back.asked.note) }
     ensures knows { IfOk result (λ back. Each (λ end. knows_as_much end.note back.asked.note) ends.items) }
+    ensures still { IfOk result (λ back. KnowsStill asked.note back.asked.note) }
     ensures cells { IfOk result (λ back. back.asked.cells ≡ asked.cells) }
     ensures asked { IfOk result (λ back. back.asked.asked ≡ most_asked asked.asked ends.items) }
     ensures known { IfOk result (λ back. AreKnown back.asked.cells back.asked.asked) }

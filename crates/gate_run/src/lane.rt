@@ -4,7 +4,7 @@ ghost use Rattle.gate_queue.specs.Seats.{IsHeadOf};
 ghost use Rattle.gate_queue.specs.States.{AreFrom};
 ghost use Rattle.gate_run.specs.Seats.{fresh_head, fresh_tail};
 ghost use Rattle.gate_run.specs.Inner.Seats.{seat_in, seat_of};
-ghost use Rattle.gate_run.specs.Inner.Stages.{IsOpenStage, IsSettled, IsStageSettled};
+ghost use Rattle.gate_run.specs.Inner.Stages.{HavePlaces, IsOpenStage, IsSettled, IsStageSettled};
 
 use crate::lists::next_of;
 use gate_queue::{EventQueue, Head, Tail, open};
@@ -27,7 +27,8 @@ pub(crate) fn open_lane<T: Drop>(
     count: usize,
 ) -> Result<Lane<T>, Memory>
     requires places { 0 < places }
-    ensures { IfOk result (λ lane. IsOpenStage count 1 lane.queues.items lane.heads.items (lane.tails.items ∷ [])) }
+    ensures opened { IfOk result (λ lane. IsOpenStage count 1 lane.queues.items lane.heads.items (lane.tails.items ∷ [])) }
+    ensures places { IfOk result (λ lane. HavePlaces places lane.queues.items) }
 {
     let mut queues = Vec::new(alloc);
     let mut heads = Vec::new(alloc);

@@ -3,6 +3,9 @@
 //! Whoever puts something for a thread that may be parked has to wake it. Where many values are put one after another, a wake-up for
 //! each costs more than all else, so a thread notes whom it owes one, and gives them when much was put and before it parks or
 //! returns. It never waits for anything while it owes, so none stays out.
+//!
+//! Nor is one given late without bound: a forwarder gives what it owes once it put 256 values or took 1,024 entries, whatever became of
+//! these, and a tenant's worker before it takes its next batch.
 
 use crossbeam_utils::sync::Unparker;
 use gate_record::Memory;

@@ -1,5 +1,5 @@
 //! The queues of management events and results: what is posted from outside, and taken by the pipelines' workers.
-ghost use Rattle.std.specs.Prelude.{◌≡◌, ◌<◌, ◌+◌, [], IfErr, IfNone, IfOk, IfSome, OnErr, OnOk, length, map};
+ghost use Rattle.std.specs.Prelude.{◌≡◌, ◌<◌, ◌+◌, [], IfErr, IfNone, IfOk, IfSome, OnErr, OnOk, is_some, length, map};
 ghost use Rattle.gate_queue.specs.Seats.{IsHeadOf, IsTailOf, with_taken};
 ghost use Rattle.gate_run.specs.Lists.{Pairwise};
 ghost use Rattle.gate_run.specs.PipelineEnds.{ends_of, inbox_of};
@@ -314,6 +314,13 @@ impl Posts {
         ensures asked { self.new.asked ≡ self.old.asked }
     {
         self.asked.stop(cause)
+    }
+
+    /// Whether a stop was asked for, as far as these posts know: whether they have asked for it themselves.
+    pub fn stopped(&self) -> bool
+        ensures { result ≡ is_some self.now.note.cause }
+    {
+        self.asked.stopped()
     }
 
     /// Asks `serve` to put the next generation in force on each connection, behind the last one that these posts asked for, or

@@ -4,7 +4,7 @@ ghost use Rattle.gate_config.specs.Lookups.{connections_of, tenants_of};
 ghost use Rattle.gate_run.specs.Ports.{pipeline_counts};
 ghost use Rattle.gate_run.specs.Inner.Queues.{AreOpen};
 ghost use Rattle.gate_run.specs.Seats.{fresh_head, fresh_tail};
-ghost use Rattle.gate_run.specs.Inner.Stages.{IsOpenStage};
+ghost use Rattle.gate_run.specs.Inner.Stages.{HavePlaces, IsOpenStage};
 
 use crate::lane::{Lane, open_lane};
 use crate::stage::{Stage, open_stage};
@@ -42,7 +42,8 @@ pub(crate) fn open_queues(
     config: &Config,
 ) -> Result<(Queues, QueueSeats), Memory>
     requires places { 0 < places }
-    ensures { IfOk result (λ opened. AreOpen config.now opened.0 opened.1) }
+    ensures open { IfOk result (λ opened. AreOpen config.now opened.0 opened.1) }
+    ensures places { IfOk result (λ opened. HavePlaces places opened.0.records.items) }
 {
     let Lane {
         queues: records,
@@ -86,7 +87,8 @@ struct Lanes<T: Drop> {
 // A queue for each connection, into which its reader puts.
 fn open_records(alloc: Global, places: usize, config: &Config) -> Result<Lane<ConnEntry>, Memory>
     requires places { 0 < places }
-    ensures { IfOk result (λ lane. IsOpenStage (length (connections_of config.now)) 1 lane.queues.items lane.heads.items (lane.tails.items ∷ [])) }
+    ensures opened { IfOk result (λ lane. IsOpenStage (length (connections_of config.now)) 1 lane.queues.items lane.heads.items (lane.tails.items ∷ [])) }
+    ensures places { IfOk result (λ lane. HavePlaces places lane.queues.items) }
 {
     open_lane(alloc, places, config.connections().len())
 }

@@ -77,6 +77,7 @@ impl<'a, F: RecordFeed + Drop> Work<ReaderEnd<F>> for Reader<'a, F> {
             renewals: Vec::new(alloc),
             parker,
         };
+        signals.wait_to_begin(rt, &reading.parker);
         let mut naps = Naps::none();
         for _ in rt.forever() {
             if let Some(cause) = reading.look(rt, queue, cell, generations, cells, signals) {
@@ -97,7 +98,8 @@ impl<'a, F: RecordFeed + Drop> Work<ReaderEnd<F>> for Reader<'a, F> {
                         return reading.end(rt, queue, signals, feed, cause);
                     }
                 }
-                FeedStep::Pending => naps.nap(rt),
+                FeedStep::Pending if feed.is_idle() => naps.nap(rt),
+                FeedStep::Pending => naps = Naps::none(),
                 FeedStep::Ended => return reading.end(rt, queue, signals, feed, EndCause::Ended),
                 FeedStep::Fault => return reading.end(rt, queue, signals, feed, EndCause::Failed),
                 FeedStep::Memory => {

@@ -99,6 +99,7 @@ pub(crate) fn run_between<
         gate,
     )?;
     let signals = Signals {
+        begun: AtomicBool::new(false),
         halted: AtomicBool::new(false),
         readers: reader_wakers,
         forwarders: forwarder_wakers,
@@ -116,9 +117,9 @@ pub(crate) fn run_between<
     )
 }
 
-// Starts a thread for each of these works, and waits for all of them: what they handed back. `Thread` where one can't be started, and
-// `Memory` where there is no room for a thread's handle or for what threads hand back; then those that run are told to halt, and are
-// waited for.
+// Starts a thread for each of these works, and waits for all of them: what they handed back. No reader reads before all are started.
+// `Thread` where one can't be started, and `Memory` where there is no room for a thread's handle or for what threads hand back; then
+// those that run are told to halt, and are waited for.
 fn run_works<'a, F: RecordFeed + Drop + Send, G: Gate + Sync, R: Threads + Wait + Clock + Sync>(
     rt: &R,
     alloc: Global,
@@ -153,10 +154,11 @@ fn run_works<'a, F: RecordFeed + Drop + Send, G: Gate + Sync, R: Threads + Wait 
             config_crosses();
             generations_cross();
             is_shared::<G>();
-            let readers = start_all(scope, rt, alloc, signals, readers)?;
-            let forwarders = start_all(scope, rt, alloc, signals, forwarders)?;
-            let dispatchers = start_all(scope, rt, alloc, signals, dispatchers)?;
             let workers = start_lists(scope, rt, alloc, signals, workers)?;
+            let dispatchers = start_all(scope, rt, alloc, signals, dispatchers)?;
+            let forwarders = start_all(scope, rt, alloc, signals, forwarders)?;
+            let readers = start_all(scope, rt, alloc, signals, readers)?;
+            signals.begin();
             Ok(Ends {
                 readers: join_all(rt, signals, readers)?,
                 forwarders: join_all(rt, signals, forwarders)?,

@@ -4,7 +4,7 @@ ghost use Rattle.std.specs.List.{range_with_len};
 ghost use Rattle.gate_config.specs.Lookups.{connections_of};
 ghost use Rattle.gate_source.specs.Stops.{IsNoteOf};
 ghost use Rattle.gate_run.specs.Gatherings.{report_of_pipeline};
-ghost use Rattle.gate_run.specs.Asked.{AreKnown};
+ghost use Rattle.gate_run.specs.Asked.{AreKnown, KnowsStill};
 ghost use Rattle.gate_run.specs.Inner.Asked.{knows_as_much};
 ghost use Rattle.gate_run.specs.Inner.Gatherings.{inbox_back, most_asked, report_of_reader};
 ghost use Rattle.gate_run.specs.Inner.Lists.{Each};
@@ -39,7 +39,8 @@ use std::time::Clock;
 /// What a run hands back.
 #[derive(Drop)]
 pub struct Served<F> {
-    /// How many records of each connection were accepted and why there were no more, and what each pipeline has processed.
+    /// How many records of each connection were accepted, how many of them before each renewal, and why there were no more; and what
+    /// each pipeline has processed.
     pub report: RunReport,
     /// The pipelines, by tenant number and pipeline number.
     pub pipelines: Vec<Vec<Pipeline>>,
@@ -152,6 +153,7 @@ pub(crate) fn finish<F: Drop, R: Wait>(
     ensures inbox { IfOk result (λ served. served.inbox.pipelines ≡ map (λ list. map inbox_back list.items) ends.workers.items) }
     ensures cell { IfOk result (λ served. IsNoteOf asked.note.cell served.inbox.note) }
     ensures knows { IfOk result (λ served. Each (λ end. knows_as_much end.note served.inbox.note) ends.readers.items) }
+    ensures still { IfOk result (λ served. KnowsStill asked.note served.inbox.note) }
     ensures cells { IfOk result (λ served. served.inbox.cells ≡ asked.cells) }
     ensures asked { IfOk result (λ served. served.inbox.asked ≡ most_asked asked.asked ends.readers.items) }
     ensures known { IfOk result (λ served. AreKnown served.inbox.cells served.inbox.asked) }

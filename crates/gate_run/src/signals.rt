@@ -1,22 +1,25 @@
-//! What threads tell each other besides what goes through queues: that all are to halt, since memory was refused to one of them, and
-//! that there may be something to do. No contract speaks of it: whatever is told, or isn't, what is promised of the queues holds.
+//! What threads tell each other besides what goes through queues: that all are started, that all are to halt, since memory or a thread
+//! was refused, and that there may be something to do. No contract speaks of it: whatever is told, or isn't, what is promised of the queues holds.
 //!
 //! A thread parks only once it found nothing to do, and a wake-up that comes between its last look and its parking makes it look
 //! again. So none is left parked while something waits for it, where whoever put that wakes it afterwards:
 //!
+//! - Readers begin once all threads are started, and are woken then. So a start that is refused waits for no stream.
 //! - A reader wakes its forwarder at each record, since it can't know whether its feed will wait for the next.
-//! - A forwarder wakes its reader, which parks on a full queue alone, once it took many records, and before it parks or returns.
-//!   What it found full is taken by then.
+//! - A forwarder wakes its reader, which parks on a full queue alone once it has begun, when it took many records, and before it parks
+//!   or returns. What it found full is taken by then.
 //! - A forwarder wakes tenants' workers, and these those of pipelines, as `Owed` says.
 
 use crate::owed::Owed;
-use crossbeam_utils::sync::Unparker;
+use crossbeam_utils::sync::{Parker, Unparker};
 use gate_record::{ConnId, TenantId};
+use std::sync::Wait;
 use std::sync::atomic::{AtomicBool, Ordering};
 
-/// The halt flag, and what wakes each thread.
+/// The flags that threads look at, and what wakes each thread.
 #[derive(Drop)]
 pub(crate) struct Signals {
+    pub(crate) begun: AtomicBool,
     pub(crate) halted: AtomicBool,
     /// By connection number.
     pub(crate) readers: Vec<Unparker>,
@@ -28,6 +31,22 @@ pub(crate) struct Signals {
 }
 
 impl Signals {
+    /// Tells readers that all threads are started, and wakes them.
+    pub(crate) fn begin(&self) {
+        self.begun.store(true, Ordering::SeqCst);
+        wake_all(&self.readers);
+    }
+
+    /// Waits until all threads are started, or are to return. The parker is that of a reader.
+    pub(crate) fn wait_to_begin<R: Wait>(&self, rt: &R, parker: &Parker) {
+        for _ in rt.forever() {
+            if self.begun.load(Ordering::SeqCst) || self.is_halted() {
+                return;
+            }
+            parker.park(rt);
+        }
+    }
+
     /// Tells all threads to return, and wakes them.
     pub(crate) fn halt(&self) {
         self.halted.store(true, Ordering::SeqCst);

@@ -178,7 +178,12 @@ impl Working {
         }
         self.empty = 0;
         match self.state.took(config, given) {
-            Ok(_) => Went::On,
+            Ok(Some(processed)) => {
+                gate.after(rt, self.tenant, self.pipeline, &self.state, &processed);
+                Went::On
+            }
+            // The end mark, which is no action.
+            Ok(None) => Went::On,
             Err(Memory) => {
                 signals.halt();
                 Went::Out

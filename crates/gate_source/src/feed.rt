@@ -10,7 +10,7 @@ use std::sync::Wait;
 pub enum FeedStep {
     /// The next record.
     Got(Record),
-    /// None yet: the feed is asked again after a while.
+    /// None yet: the feed is asked again, after a while where it is idle.
     Pending,
     /// No record follows.
     Ended,
@@ -34,6 +34,12 @@ pub trait RecordFeed {
         requires few { fault_count self.old < 2 ^ 64 - 1 }
         ensures steps { Steps (to_come self.old) result (to_come self.new) }
         ensures faults { fault_count self.new ≡ faults_after result (fault_count self.old) };
+
+    /// After `Pending`: whether it had nothing at all, so that it is asked again after a while. One that got a part of a record is asked
+    /// again at once.
+    fn is_idle(&self) -> bool {
+        true
+    }
 
     /// How many faults it has answered.
     fn faults(&self) -> u64

@@ -126,6 +126,11 @@ impl<R: Read + Drop> RecordFeed for ReaderFeed<R> {
         self.read()
     }
 
+    // `Pending` comes of a read that gave bytes.
+    fn is_idle(&self) -> bool {
+        false
+    }
+
     fn faults(&self) -> u64 {
         self.faults
     }

@@ -1,5 +1,5 @@
 -- Beside `Sharing`: what private contracts and proofs cite.
-use Rattle.std.specs.Prelude.{◌≡◌, ℕ, ◌+◌, ◌-◌, ◌<◌, List, [], ◌∷◌, ◌++◌, length, slice_index_or}
+use Rattle.std.specs.Prelude.{◌≡◌, ℕ, ◌+◌, ◌<◌, List, [], ◌∷◌, ◌++◌, length, slice_index_or}
 use Rattle.gate_queue.specs.declared.tagged.Tagged.{Tagged}
 use Rattle.gate_queue.specs.declared.known.Put.{Put}
 use Rattle.gate_queue.specs.declared.known.Got.{Got}
@@ -8,7 +8,7 @@ use Rattle.gate_queue.specs.declared.known.Known.TheVariants.{Sender, Taker, Not
 use Rattle.gate_queue.specs.Tagged.{values_of}
 use Rattle.gate_queue.specs.States.{AreFrom}
 use Rattle.gate_queue.specs.Inner.Views.{with_more}
-use Rattle.gate_queue.specs.Sharing.{joined, joined_number}
+use Rattle.gate_queue.specs.Sharing.{joined_number}
 
 module _ {T : Type 0} where
   -- the taker of a new queue, when so many senders are planned and so many of them have their seat

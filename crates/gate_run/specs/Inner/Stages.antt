@@ -12,6 +12,10 @@ use Rattle.gate_run.specs.Inner.Seats.{seat_in}
 abbrev pub seats_in : Shape → List (QueueName × ℕ)
 seats_in queue = map (λ s. seat_in s queue) (range_with_len 0 queue.name.senders)
 
+-- these queues have so many places each
+abbrev pub HavePlaces : ℕ → List Shape → Type 0
+HavePlaces places queues = map (λ (queue : Shape). queue.capacity) queues ≡ map (λ (queue : Shape). places) queues
+
 module _ {T : Type 0} where
   -- So many new queues, each of so many senders: their takers' seats, and by sender its seat in each. By none of them anything
   -- was put or taken.

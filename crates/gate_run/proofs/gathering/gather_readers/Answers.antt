@@ -10,7 +10,8 @@ pub loop-end-preserved : goal.loop-end-preserved
 loop-end-preserved g c =
     let before = c.loop-end.invariant in
     let next = c.in-Some.ensures.steps.0 in
-    let kept = ap (λ (v : AskedView). is_some v.note.cause) c.take_asked.ensures in (
+    let kept = ap (λ (v : AskedView). is_some v.note.cause) c.take_asked.ensures in
+    let same = ap (λ (v : AskedView). v.note.cause) c.take_asked.ensures in (
       moved_on (λ end. end.feed) _ _ c.in-Some.end _ _ _ before.0 next c.in_ok-push.ensures.items,
       moved_on (λ end. end.tail) _ _ c.in-Some.end _ _ _ before.1 next c.in_ok-push-2.ensures.items,
       moved_on report_of_reader _ _ c.in-Some.end _ _ _ before.2 next (c.in_ok-push-3.ensures ∙ search rules),
@@ -20,4 +21,5 @@ loop-end-preserved g c =
       search rules,
       search rules,
       search rules,
+      (λ known. same ∙ c.take_stop.ensures.still (ap is_some (before.9 known) ∙ known) ∙ before.9 known),
     )

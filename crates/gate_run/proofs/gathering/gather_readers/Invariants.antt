@@ -1,7 +1,7 @@
 use Rattle.std.specs.Prelude.{◌≡◌, ◌++◌, map, vec_items}
 use Rattle.std.specs.Vec.Iter.{into_iter_items}
 use Rattle.gate_source.specs.Stops.{IsNoteOf, Note}
-use Rattle.gate_run.specs.Asked.{AreKnown}
+use Rattle.gate_run.specs.Asked.{AreKnown, KnowsStill}
 use Rattle.gate_run.specs.Inner.Asked.{knows_as_much}
 use Rattle.gate_run.specs.Inner.Gatherings.{most_asked, report_of_reader}
 use Rattle.gate_run.specs.Inner.Lists.{Each}
@@ -23,3 +23,4 @@ invariant-loop-end g l =
     × (l.asked.cells ≡ l.fn.asked.cells)
     × Each (λ end. AreKnown l.fn.asked.cells (notes_of end.renewals.items)) rest
     × (most_asked l.asked.asked rest ≡ most_asked l.fn.asked.asked all)
+    × KnowsStill l.fn.asked.note l.asked.note

@@ -1,4 +1,5 @@
 use Rattle.std.proofs.Common.{◌∙◌, sym, ap, subst, length, map}
+use Rattle.gate_run.specs.Asked.{KnowsStill}
 use Rattle.gate_run.specs.Gatherings.{report_of_pipeline}
 use Rattle.gate_run.specs.Inner.Gatherings.{inbox_back, most_asked}
 use Rattle.gate_run.specs.Inner.Queues.{AreOpen}
@@ -20,38 +21,38 @@ run_between-requires-clause-inbox g c κs within =
     ∙ c.requires.inbox
 
 pub finish-requires-clause-notes : goal.finish-requires-clause-notes
-finish-requires-clause-notes g c = notes g.row.G.Denot c.args.gens.now g.F.RecordFeed.to_come g.F.RecordFeed.fault_count c.args.feeds.items (map (λ row. map inbox_of row.items) c.inbox.inside.tenants.items) c.inbox.inside.asked c.in_ok-queues.queues c.in_ok-queues.seats c.in_ok-ends.ends (subst (λ config. AreOpen config c.in_ok-queues.queues c.in_ok-queues.seats) c.first.ensures c.in_ok-queues.ensures) c.in_ok-ends.ensures
+finish-requires-clause-notes g c = notes g.row.G.Denot c.args.gens.now g.F.RecordFeed.to_come g.F.RecordFeed.fault_count c.args.feeds.items (map (λ row. map inbox_of row.items) c.inbox.inside.tenants.items) c.inbox.inside.asked c.in_ok-queues.queues c.in_ok-queues.seats c.in_ok-ends.ends (subst (λ config. AreOpen config c.in_ok-queues.queues c.in_ok-queues.seats) c.first.ensures c.in_ok-queues.ensures.open) c.in_ok-ends.ensures
 
 pub finish-requires-clause-known : goal.finish-requires-clause-known
-finish-requires-clause-known g c = known g.row.G.Denot c.args.gens.now g.F.RecordFeed.to_come g.F.RecordFeed.fault_count c.args.feeds.items (map (λ row. map inbox_of row.items) c.inbox.inside.tenants.items) c.inbox.inside.asked c.in_ok-queues.queues c.in_ok-queues.seats c.in_ok-ends.ends (subst (λ config. AreOpen config c.in_ok-queues.queues c.in_ok-queues.seats) c.first.ensures c.in_ok-queues.ensures) c.in_ok-ends.ensures
+finish-requires-clause-known g c = known g.row.G.Denot c.args.gens.now g.F.RecordFeed.to_come g.F.RecordFeed.fault_count c.args.feeds.items (map (λ row. map inbox_of row.items) c.inbox.inside.tenants.items) c.inbox.inside.asked c.in_ok-queues.queues c.in_ok-queues.seats c.in_ok-ends.ends (subst (λ config. AreOpen config c.in_ok-queues.queues c.in_ok-queues.seats) c.first.ensures c.in_ok-queues.ensures.open) c.in_ok-ends.ensures
 
 pub finish-requires-clause-record_heads : goal.finish-requires-clause-record_heads
-finish-requires-clause-record_heads g c = record_heads g.row.G.Denot c.args.gens.now g.F.RecordFeed.to_come g.F.RecordFeed.fault_count c.args.feeds.items (map (λ row. map inbox_of row.items) c.inbox.inside.tenants.items) c.inbox.inside.asked c.in_ok-queues.queues c.in_ok-queues.seats c.in_ok-ends.ends (subst (λ config. AreOpen config c.in_ok-queues.queues c.in_ok-queues.seats) c.first.ensures c.in_ok-queues.ensures) c.in_ok-ends.ensures
+finish-requires-clause-record_heads g c = record_heads g.row.G.Denot c.args.gens.now g.F.RecordFeed.to_come g.F.RecordFeed.fault_count c.args.feeds.items (map (λ row. map inbox_of row.items) c.inbox.inside.tenants.items) c.inbox.inside.asked c.in_ok-queues.queues c.in_ok-queues.seats c.in_ok-ends.ends (subst (λ config. AreOpen config c.in_ok-queues.queues c.in_ok-queues.seats) c.first.ensures c.in_ok-queues.ensures.open) c.in_ok-ends.ensures
 
 pub finish-requires-clause-record_tails : goal.finish-requires-clause-record_tails
-finish-requires-clause-record_tails g c = record_tails g.row.G.Denot c.args.gens.now g.F.RecordFeed.to_come g.F.RecordFeed.fault_count c.args.feeds.items (map (λ row. map inbox_of row.items) c.inbox.inside.tenants.items) c.inbox.inside.asked c.in_ok-queues.queues c.in_ok-queues.seats c.in_ok-ends.ends (subst (λ config. AreOpen config c.in_ok-queues.queues c.in_ok-queues.seats) c.first.ensures c.in_ok-queues.ensures) c.in_ok-ends.ensures
+finish-requires-clause-record_tails g c = record_tails g.row.G.Denot c.args.gens.now g.F.RecordFeed.to_come g.F.RecordFeed.fault_count c.args.feeds.items (map (λ row. map inbox_of row.items) c.inbox.inside.tenants.items) c.inbox.inside.asked c.in_ok-queues.queues c.in_ok-queues.seats c.in_ok-ends.ends (subst (λ config. AreOpen config c.in_ok-queues.queues c.in_ok-queues.seats) c.first.ensures c.in_ok-queues.ensures.open) c.in_ok-ends.ensures
 
 pub finish-requires-clause-item_senders : goal.finish-requires-clause-item_senders
-finish-requires-clause-item_senders g c = item_senders g.row.G.Denot c.args.gens.now g.F.RecordFeed.to_come g.F.RecordFeed.fault_count c.args.feeds.items (map (λ row. map inbox_of row.items) c.inbox.inside.tenants.items) c.inbox.inside.asked c.in_ok-queues.queues c.in_ok-queues.seats c.in_ok-ends.ends (subst (λ config. AreOpen config c.in_ok-queues.queues c.in_ok-queues.seats) c.first.ensures c.in_ok-queues.ensures) c.in_ok-ends.ensures
+finish-requires-clause-item_senders g c = item_senders g.row.G.Denot c.args.gens.now g.F.RecordFeed.to_come g.F.RecordFeed.fault_count c.args.feeds.items (map (λ row. map inbox_of row.items) c.inbox.inside.tenants.items) c.inbox.inside.asked c.in_ok-queues.queues c.in_ok-queues.seats c.in_ok-ends.ends (subst (λ config. AreOpen config c.in_ok-queues.queues c.in_ok-queues.seats) c.first.ensures c.in_ok-queues.ensures.open) c.in_ok-ends.ensures
 
 pub finish-requires-clause-item_heads : goal.finish-requires-clause-item_heads
-finish-requires-clause-item_heads g c = item_heads g.row.G.Denot c.args.gens.now g.F.RecordFeed.to_come g.F.RecordFeed.fault_count c.args.feeds.items (map (λ row. map inbox_of row.items) c.inbox.inside.tenants.items) c.inbox.inside.asked c.in_ok-queues.queues c.in_ok-queues.seats c.in_ok-ends.ends (subst (λ config. AreOpen config c.in_ok-queues.queues c.in_ok-queues.seats) c.first.ensures c.in_ok-queues.ensures) c.in_ok-ends.ensures
+finish-requires-clause-item_heads g c = item_heads g.row.G.Denot c.args.gens.now g.F.RecordFeed.to_come g.F.RecordFeed.fault_count c.args.feeds.items (map (λ row. map inbox_of row.items) c.inbox.inside.tenants.items) c.inbox.inside.asked c.in_ok-queues.queues c.in_ok-queues.seats c.in_ok-ends.ends (subst (λ config. AreOpen config c.in_ok-queues.queues c.in_ok-queues.seats) c.first.ensures c.in_ok-queues.ensures.open) c.in_ok-ends.ensures
 
 pub finish-requires-clause-item_tails : goal.finish-requires-clause-item_tails
-finish-requires-clause-item_tails g c = item_tails g.row.G.Denot c.args.gens.now g.F.RecordFeed.to_come g.F.RecordFeed.fault_count c.args.feeds.items (map (λ row. map inbox_of row.items) c.inbox.inside.tenants.items) c.inbox.inside.asked c.in_ok-queues.queues c.in_ok-queues.seats c.in_ok-ends.ends (subst (λ config. AreOpen config c.in_ok-queues.queues c.in_ok-queues.seats) c.first.ensures c.in_ok-queues.ensures) c.in_ok-ends.ensures
+finish-requires-clause-item_tails g c = item_tails g.row.G.Denot c.args.gens.now g.F.RecordFeed.to_come g.F.RecordFeed.fault_count c.args.feeds.items (map (λ row. map inbox_of row.items) c.inbox.inside.tenants.items) c.inbox.inside.asked c.in_ok-queues.queues c.in_ok-queues.seats c.in_ok-ends.ends (subst (λ config. AreOpen config c.in_ok-queues.queues c.in_ok-queues.seats) c.first.ensures c.in_ok-queues.ensures.open) c.in_ok-ends.ensures
 
 pub finish-requires-clause-trigger_heads : goal.finish-requires-clause-trigger_heads
-finish-requires-clause-trigger_heads g c = trigger_heads g.row.G.Denot c.args.gens.now g.F.RecordFeed.to_come g.F.RecordFeed.fault_count c.args.feeds.items (map (λ row. map inbox_of row.items) c.inbox.inside.tenants.items) c.inbox.inside.asked c.in_ok-queues.queues c.in_ok-queues.seats c.in_ok-ends.ends (subst (λ config. AreOpen config c.in_ok-queues.queues c.in_ok-queues.seats) c.first.ensures c.in_ok-queues.ensures) c.in_ok-ends.ensures
+finish-requires-clause-trigger_heads g c = trigger_heads g.row.G.Denot c.args.gens.now g.F.RecordFeed.to_come g.F.RecordFeed.fault_count c.args.feeds.items (map (λ row. map inbox_of row.items) c.inbox.inside.tenants.items) c.inbox.inside.asked c.in_ok-queues.queues c.in_ok-queues.seats c.in_ok-ends.ends (subst (λ config. AreOpen config c.in_ok-queues.queues c.in_ok-queues.seats) c.first.ensures c.in_ok-queues.ensures.open) c.in_ok-ends.ensures
 
 pub finish-requires-clause-trigger_tails : goal.finish-requires-clause-trigger_tails
-finish-requires-clause-trigger_tails g c = trigger_tails g.row.G.Denot c.args.gens.now g.F.RecordFeed.to_come g.F.RecordFeed.fault_count c.args.feeds.items (map (λ row. map inbox_of row.items) c.inbox.inside.tenants.items) c.inbox.inside.asked c.in_ok-queues.queues c.in_ok-queues.seats c.in_ok-ends.ends (subst (λ config. AreOpen config c.in_ok-queues.queues c.in_ok-queues.seats) c.first.ensures c.in_ok-queues.ensures) c.in_ok-ends.ensures
+finish-requires-clause-trigger_tails g c = trigger_tails g.row.G.Denot c.args.gens.now g.F.RecordFeed.to_come g.F.RecordFeed.fault_count c.args.feeds.items (map (λ row. map inbox_of row.items) c.inbox.inside.tenants.items) c.inbox.inside.asked c.in_ok-queues.queues c.in_ok-queues.seats c.in_ok-ends.ends (subst (λ config. AreOpen config c.in_ok-queues.queues c.in_ok-queues.seats) c.first.ensures c.in_ok-queues.ensures.open) c.in_ok-ends.ensures
 
 pub returns : goal.returns
 returns g c =
     let served = c.in_ok-served.served in
     let known_now = c.in_ok-served.ensures in
     let lists = c.in_ok-ends.ends.workers.items in
-    serves (evidence g.row.G.Denot c.args.gens.now g.F.RecordFeed.to_come g.F.RecordFeed.fault_count c.args.feeds.items (map (λ row. map inbox_of row.items) c.inbox.inside.tenants.items) c.inbox.inside.asked c.in_ok-queues.queues c.in_ok-queues.seats c.in_ok-ends.ends (subst (λ config. AreOpen config c.in_ok-queues.queues c.in_ok-queues.seats) c.first.ensures c.in_ok-queues.ensures) c.in_ok-ends.ensures c.requires.feeds known_now.records known_now.items known_now.triggers)
+    serves (evidence g.row.G.Denot c.args.gens.now g.F.RecordFeed.to_come g.F.RecordFeed.fault_count c.args.feeds.items (map (λ row. map inbox_of row.items) c.inbox.inside.tenants.items) c.inbox.inside.asked c.in_ok-queues.queues c.in_ok-queues.seats c.in_ok-ends.ends (subst (λ config. AreOpen config c.in_ok-queues.queues c.in_ok-queues.seats) c.first.ensures c.in_ok-queues.ensures.open) c.in_ok-ends.ensures c.requires.feeds known_now.records known_now.items known_now.triggers)
     c.entries_have_generations.ensures c.records_have_generations.ensures c.what_was_taken_is_processed.ensures c.each_way_delivers.ensures served.feeds.items c.args.inbox served.inbox served.report (map (λ row. row.items) served.pipelines.items)
     (ap (λ (view : InboxView). view.pipelines) (sym c.inbox.view_is))
     known_now.feeds known_now.connections
@@ -63,6 +64,7 @@ returns g c =
     (known_now.cells ∙ ap (λ (view : InboxView). view.cells) c.inbox.view_is)
     (known_now.asked ∙ ap (λ (view : InboxView). most_asked view.asked c.in_ok-ends.ends.readers.items) c.inbox.view_is)
     known_now.known
+    (subst (λ (view : InboxView). KnowsStill view.note served.inbox.note) c.inbox.view_is known_now.still)
 
 pub run_between-requires-clause-seats : goal.run_between-requires-clause-seats
-run_between-requires-clause-seats g c κs within = subst (λ config. AreOpen config c.in_ok-queues.queues c.in_ok-queues.seats) c.first.ensures c.in_ok-queues.ensures
+run_between-requires-clause-seats g c κs within = subst (λ config. AreOpen config c.in_ok-queues.queues c.in_ok-queues.seats) c.first.ensures c.in_ok-queues.ensures.open
