@@ -1,11 +1,11 @@
 use crate::board::Board;
 use crate::progress::Progress;
-use gate_pipeline::Pipeline;
+use gate_pipeline::{Pipeline, Processed};
 use gate_record::{PipelineId, TenantId};
 use gate_run::Gate;
 use std::sync::{Mutex, Wait};
 
-/// A gate that keeps a board: it says there how far a pipeline is before each of its actions, and once its worker returns.
+/// A gate that keeps a board: it says there how far a pipeline is behind each of its actions, and once its worker returns.
 /// A call waits for the board's lock; it takes no memory, and its time doesn't grow with what the pipeline has.
 #[derive(Drop)]
 pub struct BoardGate<'a> {
@@ -26,7 +26,22 @@ impl<'a> BoardGate<'a> {
 }
 
 impl<'a> Gate for BoardGate<'a> {
-    fn before<R: Wait>(&self, rt: &R, tenant: TenantId, pipeline: PipelineId, state: &Pipeline) {
+    fn before<R: Wait>(
+        &self,
+        _rt: &R,
+        _tenant: TenantId,
+        _pipeline: PipelineId,
+        _state: &Pipeline,
+    ) {}
+
+    fn after<R: Wait>(
+        &self,
+        rt: &R,
+        tenant: TenantId,
+        pipeline: PipelineId,
+        state: &Pipeline,
+        _processed: &Processed,
+    ) {
         self.note(rt, tenant, pipeline, state);
     }
 

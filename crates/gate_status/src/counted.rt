@@ -1,7 +1,10 @@
 //! Readers and writers whose errors are counted.
+//!
+//! A call of `read`, `read_exact`, `write`, `flush` or `write_all` that answers an error counts once, whatever it tried again within.
+//! The calls that read to the end can't have a body of their own: of them each `read` that they make counts.
 ghost use Rattle.std.specs.Prelude.{◌≡◌, ℕ, List, Option, OnOk, length};
 ghost use Rattle.std.specs.Io.{ReadsAtMost, WritesAtMost};
-ghost use Rattle.std.specs.Io.KnownBytes.{Appends, Keeps, ReadConsumes, WriteAppends};
+ghost use Rattle.std.specs.Io.KnownBytes.{Appends, Consumes, Keeps, ReadConsumes, WriteAppends};
 ghost use Rattle.gate_status.specs.Counts.{counted};
 
 use std::io;
@@ -68,6 +71,14 @@ impl<R: Read> Read for Counted<R> {
         ensures faults { self.new.faults ≡ counted result self.old.faults }
     {
         let answer = self.device.read(buf);
+        self.count(answer)
+    }
+
+    fn read_exact(&mut self, buf: &mut [u8]) -> io::Result<()>
+        ensures bytes { OnOk result (Consumes (R.remaining self.old.device) (R.remaining self.new.device) buf.new) }
+        ensures faults { self.new.faults ≡ counted result self.old.faults }
+    {
+        let answer = self.device.read_exact(buf);
         self.count(answer)
     }
 }
