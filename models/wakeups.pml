@@ -1,0 +1,495 @@
+/* Who wakes whom among the threads of a run: one connection, one tenant, two pipelines and a port. `bin/model` has spin try every schedule.
+   It is written by hand: docs/ARCHITECTURE.md, "Who wakes whom", says which function each part stands for.
+
+   Waking a thread sets its token; parking waits for the token and takes it away (crossbeam's Parker). Each step, and each `atomic`, looks at
+   or changes one thing that threads share, once, and so in an order that all threads agree on: that is what the code asks for of its
+   flags, and of what was put before a wake-up. A put and a take are one step each, and `Full` and `None` come only where the queue was
+   full or empty then: gate_queue's contracts say so of some moment of the call. That a call sees what was put before it is for tests.
+
+   Left out: what records say and rules select, but for who gets something; the lock of the board; time. A nap in which nothing comes to
+   the reader's eyes is no step, so a feed that has nothing for ever is a reader that stands still; and a run can't go round in a circle,
+   but with ENDLESS. A thread that is refused memory is so where it looks whether it is to halt: from there to each place where the code
+   asks for memory it does nothing that others see, or only what they see without a refusal, too. */
+
+/* Sizes. A worker never takes as many values in a row as end a phase (256), so taking doesn't. */
+#ifndef PLACES
+#define PLACES 2                /* of a queue with a bound */
+#endif
+#define ROOM 2                  /* of a batch: MAX_GATHERED of gate_tenant */
+#define MANY 2                  /* puts for which a wake-up is due: MANY of owed.rt */
+#ifndef MANY_TAKEN
+#define MANY_TAKEN 4            /* takings for which all are due: MANY_TAKEN of forwarder.rt */
+#endif
+
+/* Variants. */
+#ifndef RECORDS
+#define RECORDS 1               /* as many as the feed has at most */
+#endif
+#ifndef ENDLESS
+#define ENDLESS 0               /* it always has one more, and at most RECORDS go to the tenant */
+#endif
+#ifndef WORKERS
+#define WORKERS 1
+#endif
+#ifndef STOPS
+#define STOPS 0                 /* the port may ask for a stop */
+#endif
+#ifndef MARKS
+#define MARKS 0                 /* so many generations may be asked for */
+#endif
+#ifndef POSTS
+#define POSTS 0                 /* so many management events, and as many results, may be posted */
+#endif
+#ifndef HALTS
+#define HALTS 0                 /* a thread may be refused memory */
+#endif
+#ifndef STARTS
+#define STARTS 0                /* threads are started one by one, and a start may be refused; else all at once */
+#endif
+
+/* The wake-ups. With -DLEFT_OUT=NAME that one isn't given. */
+#ifndef LEFT_OUT
+#define LEFT_OUT none
+#endif
+mtype:wakeup = { none,
+    by_record, by_mark, by_end,
+    due_to_dispatcher, many_to_reader, many_to_dispatcher,
+    parking_to_reader, parking_to_dispatcher, returning_to_reader, returning_to_dispatcher,
+    to_workers,
+    by_manage, by_result,
+    begun_to_reader,
+    halt_to_reader, halt_to_forwarder, halt_to_dispatcher, halt_to_workers };
+
+#define READER 0
+#define FORWARDER 1
+#define DISPATCHER 2
+#define WORKER 3                /* and the other one WORKER + 1 */
+#define THREADS 5
+
+bit token[THREADS];
+bit asleep[THREADS];            /* it found nothing to do, and parks */
+bit returned[THREADS];
+byte running;                   /* threads that were started and haven't returned */
+bit begun, halted, stopped;
+byte asked;                     /* generations that were asked for */
+
+mtype:value = { event, mark, end };
+chan records = [PLACES] of { mtype:value };
+chan items = [RECORDS + 1] of { mtype:value };
+chan triggers[2] = [RECORDS + 1] of { mtype:value };
+chan manages = [PLACES] of { mtype:value };
+chan results = [PLACES] of { mtype:value };
+
+/* The token of a thread that has returned is nobody's. */
+inline wake(why, whom) {
+    token[whom] = token[whom] | (why != LEFT_OUT && !returned[whom])
+}
+
+inline park() {
+    atomic { token[me] -> token[me] = 0; asleep[me] = 0 }
+}
+
+inline leave() {
+    atomic { returned[me] = 1; token[me] = 0; running-- }
+}
+
+/* Signals::halt, once the flag is set. A second one would change nothing. */
+inline wake_all() {
+    wake(halt_to_reader, READER);
+    wake(halt_to_forwarder, FORWARDER);
+    wake(halt_to_dispatcher, DISPATCHER);
+    wake(halt_to_workers, WORKER);
+    wake(halt_to_workers, WORKER + 1)
+}
+
+#define refused_here :: atomic { !halted -> halted = 1 }; wake_all(); goto out
+
+#if HALTS
+#define unless_halted if :: halted -> goto out :: !halted fi;
+#define unless_halted_or_refused if :: halted -> goto out refused_here :: !halted fi;
+#else
+#define unless_halted
+#define unless_halted_or_refused
+#endif
+
+#if STOPS
+#define unless_stopped if :: stopped -> goto close :: !stopped fi;
+#else
+#define unless_stopped
+#endif
+
+/* ---- reader.rt and reading.rt, over source.rt */
+
+proctype reader(byte me) {
+    byte left = RECORDS, marks;
+    bit line;                   /* it has a record to offer */
+
+#if STARTS
+    do
+    :: halted -> goto out
+    :: !halted ->
+        if
+        :: begun -> break
+        :: atomic { !begun -> asleep[me] = 1 }; park()
+        fi
+    od;
+#endif
+
+look:
+    unless_halted_or_refused
+    unless_stopped
+next_mark:
+#if MARKS
+    if
+    :: asked > marks -> goto renew
+    :: asked == marks
+    fi;
+#endif
+    if
+    :: line -> goto offer
+    /* What the feed answers: Got, so that it looks again before it offers; Pending; Ended or Fault. */
+#if ENDLESS
+    :: !line -> line = 1; goto look
+#else
+    :: !line && left > 0 -> left--; line = 1; goto look
+    :: !line -> left = 0; goto nap
+    :: !line -> goto close
+#endif
+    fi;
+
+nap:
+    stopped || halted || asked > marks;
+    goto look;
+
+#if MARKS
+renew:
+    unless_halted
+    unless_stopped
+    if
+    :: atomic { records ! mark -> marks++ }; wake(by_mark, FORWARDER); goto next_mark
+    :: atomic { full(records) -> asleep[me] = 1 }; park(); goto renew
+    fi;
+#endif
+
+offer:
+    unless_stopped
+    if
+    :: atomic { records ! event -> line = 0 }; wake(by_record, FORWARDER); goto look
+    :: atomic { full(records) -> asleep[me] = 1 }; unless_halted park(); goto offer
+    fi;
+
+close:
+    if
+    :: records ! end -> wake(by_end, FORWARDER); goto out
+    :: atomic { full(records) -> asleep[me] = 1 }; unless_halted park(); goto close
+    fi;
+
+out:
+    leave()
+}
+
+/* ---- forwarder.rt */
+
+/* Debts::pay */
+inline pay(to_reader, to_dispatcher) {
+    if
+    :: taken > 0 -> atomic { taken = 0; wake(to_reader, READER) }
+    :: taken == 0
+    fi;
+    if
+    :: puts > 0 -> atomic { puts = 0; wake(to_dispatcher, DISPATCHER) }
+    :: puts == 0
+    fi
+}
+
+proctype forwarder(byte me) {
+    mtype:value entry;          /* in its hand */
+    bit ended;
+    byte taken, puts;           /* since it paid for them */
+#if ENDLESS
+    byte left = RECORDS;
+#endif
+
+step:
+    unless_halted_or_refused
+    if
+    :: entry ->
+        atomic {
+            items ! entry;
+            /* No more wait for a dispatcher that sleeps. */
+            assert(!asleep[DISPATCHER] || token[DISPATCHER] || len(items) <= MANY);
+            ended = (entry == end);
+            entry = 0;
+            puts++;
+            if
+            :: puts >= MANY
+            :: puts < MANY -> goto step
+            fi
+        };
+        atomic { puts = 0; wake(due_to_dispatcher, DISPATCHER) };
+        goto step
+    :: !entry && ended ->
+        pay(returning_to_reader, returning_to_dispatcher);
+        goto out
+    :: !entry && !ended
+    fi;
+    if
+    :: atomic {
+            records ? entry ->
+            /* No more are free for a reader that sleeps. */
+            assert(!asleep[READER] || token[READER] || PLACES - len(records) <= MANY_TAKEN);
+            taken++;
+            /* The tenant gets an event, or doesn't; the end mark it gets. */
+            if
+#if ENDLESS
+            :: entry == event && left > 0 -> left--
+#else
+            :: entry == event
+#endif
+            :: entry != end -> entry = 0
+            :: entry == end
+            fi;
+            if
+            :: taken >= MANY_TAKEN
+            :: taken < MANY_TAKEN -> goto step
+            fi
+        };
+        pay(many_to_reader, many_to_dispatcher)
+    :: atomic { empty(records) -> asleep[me] = 1 };
+        pay(parking_to_reader, parking_to_dispatcher);
+        park()
+    fi;
+    goto step;
+
+out:
+    leave()
+}
+
+/* ---- dispatcher.rt */
+
+inline give(to) {
+    atomic {
+        nfull(triggers[to]);
+        if
+        :: ended && hand[to] == 1 -> triggers[to] ! end
+        :: !(ended && hand[to] == 1) -> triggers[to] ! event
+        fi;
+        hand[to]--;
+        owed[to] = 1
+    }
+}
+
+inline pay_worker(number) {
+    if
+    :: owed[number] -> atomic { owed[number] = 0; wake(to_workers, WORKER + number) }
+    :: !owed[number]
+    fi
+}
+
+inline gather() {
+    if
+    :: entry == event -> gathered++
+    :: entry == end -> has_end = 1
+    fi;
+    entry = 0
+}
+
+/* How many of the gathered events a pipeline selects; and each gets the end mark. */
+inline match(to) {
+    if
+    :: to < WORKERS && gathered > 1 -> hand[to] = 2
+    :: to < WORKERS && gathered > 0 -> hand[to] = 1
+    :: true
+    fi;
+    hand[to] = hand[to] + (has_end && to < WORKERS)
+}
+
+proctype dispatcher(byte me) {
+    mtype:value entry;
+    byte gathered, hand[2];
+    bit has_end, ended, owed[2];
+
+step:
+    unless_halted_or_refused
+    if
+    :: hand[0] > 0 -> give(0); goto step
+    :: hand[0] == 0 && hand[1] > 0 -> give(1); goto step
+    :: hand[0] == 0 && hand[1] == 0
+    fi;
+    pay_worker(0);
+    pay_worker(1);
+    if
+    :: ended -> goto out
+    :: !ended && gathered + has_end < ROOM ->
+        if
+        :: atomic { items ? entry -> gather() };
+            /* As many more in one step as it likes: a block may end anywhere. */
+            atomic {
+                do
+                :: gathered + has_end < ROOM && nempty(items) -> items ? entry; gather()
+                :: break
+                od
+            };
+            goto step
+        :: atomic { empty(items) -> asleep[me] = (gathered + has_end == 0) }
+        fi
+    :: !ended && gathered + has_end == ROOM
+    fi;
+    if
+    :: gathered + has_end == 0 -> park()
+    :: atomic { gathered + has_end > 0 -> match(0); match(1); gathered = 0; ended = has_end; has_end = 0 }
+    fi;
+    goto step;
+
+out:
+    leave()
+}
+
+/* ---- worker.rt */
+
+#if POSTS
+#define QUEUES 3
+#else
+#define QUEUES 1                /* the others would always be found empty */
+#endif
+
+#define take(queue, number) \
+    :: atomic { phase == number && nempty(queue) -> queue ? entry; missed = 0 } \
+    :: atomic { phase == number && empty(queue) -> \
+            phase = (phase + 1) % QUEUES; missed++; asleep[me] = (missed == QUEUES) }
+
+proctype worker(byte me) {
+    mtype:value entry;
+    byte phase, missed;         /* missed: queues found empty in a row */
+
+step:
+    unless_halted_or_refused
+    if
+    take(triggers[me - WORKER], 0)
+#if POSTS
+    take(manages, 1)
+    take(results, 2)
+#endif
+    fi;
+    if
+    :: entry == end -> goto out
+    :: atomic { entry == event -> entry = 0 }
+    :: !entry && missed == QUEUES -> missed = 0; park()
+    :: !entry && missed < QUEUES
+    fi;
+    goto step;
+
+out:
+    leave()
+}
+
+/* ---- posts.rt, in the hands of gate_main's sessions.rt: posts go to one worker, and it may do no more at any time. */
+
+#define post(queue, count, why) \
+    :: atomic { count < POSTS && nfull(queue) -> queue ! event; count++ }; wake(why, WORKER) \
+    :: atomic { count < POSTS && full(queue) -> count++ }
+
+active proctype port() {
+#if POSTS
+    byte manage, result;
+#endif
+
+    do
+#if POSTS
+    post(manages, manage, by_manage)
+    post(results, result, by_result)
+#endif
+#if MARKS
+    :: asked < MARKS -> asked++
+#endif
+#if STOPS
+    :: stopped = 1; break
+#endif
+    :: break
+    od
+}
+
+/* ---- running.rt and works.rt: the thread that starts all others, and waits for them. */
+
+#if STARTS
+#define may_be_refused refused_here
+#else
+#define may_be_refused
+#endif
+
+#define start(work, number) \
+    if \
+    :: atomic { true -> running++; run work(number) } \
+    may_be_refused \
+    fi
+
+active proctype starter() {
+#if STARTS
+    start(worker, WORKER);
+#if WORKERS == 2
+    start(worker, WORKER + 1);
+#endif
+    start(dispatcher, DISPATCHER);
+    start(forwarder, FORWARDER);
+    start(reader, READER);
+    /* the reader of another connection */
+    if
+    :: true
+    may_be_refused
+    fi;
+    begun = 1;
+    wake(begun_to_reader, READER);
+#else
+    atomic {
+        start(worker, WORKER);
+#if WORKERS == 2
+        start(worker, WORKER + 1);
+#endif
+        start(dispatcher, DISPATCHER);
+        start(forwarder, FORWARDER);
+        start(reader, READER);
+        begun = 1
+    };
+#endif
+    /* what they hand back may find no room */
+    unless_halted_or_refused
+out:
+    skip
+}
+
+/* ---- what is checked
+
+   Sooner or later, in every schedule, nothing waits for a thread; and once threads are to return, because memory was refused, a stop was
+   asked for or the feed has ended, all have. With ENDLESS that asks for weak fairness, by which each thread that can go on does. A reader
+   that parks waits for all to be started, and for a place. */
+
+#define ALL_RETURNED ((begun || halted) && running == 0)
+#define TO_RETURN (halted || stopped || returned[READER])
+
+#define WAITS(number, queue) (!returned[number] && len(queue) > 0)
+#if ENDLESS
+/* there is always a record in its queue, or may be */
+#define FORWARDER_WAITS (asleep[FORWARDER] && len(records) > 0)
+#else
+#define FORWARDER_WAITS WAITS(FORWARDER, records)
+#endif
+#define SOMETHING_WAITS ( \
+    (asleep[READER] && begun && len(records) < PLACES) || \
+    FORWARDER_WAITS || \
+    WAITS(DISPATCHER, items) || \
+    WAITS(WORKER, triggers[0]) || WAITS(WORKER, manages) || WAITS(WORKER, results) || \
+    WAITS(WORKER + 1, triggers[1]))
+
+#define SETTLED (ALL_RETURNED || (!TO_RETURN && !SOMETHING_WAITS))
+
+/* A run that is against it: from some moment on it is never settled. */
+never {
+    do
+    :: true
+    :: !SETTLED -> break
+    od;
+accept:
+    do
+    :: !SETTLED
+    od
+}
