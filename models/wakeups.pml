@@ -190,15 +190,15 @@ out:
 
 /* ---- forwarder.rt */
 
-/* Debts::pay */
+/* Debts::pay. What isn't paid stays owed. */
 inline pay(to_reader, to_dispatcher) {
     if
-    :: taken > 0 -> atomic { taken = 0; wake(to_reader, READER) }
-    :: taken == 0
+    :: taken > 0 && to_reader != LEFT_OUT -> atomic { taken = 0; wake(to_reader, READER) }
+    :: else
     fi;
     if
-    :: puts > 0 -> atomic { puts = 0; wake(to_dispatcher, DISPATCHER) }
-    :: puts == 0
+    :: puts > 0 && to_dispatcher != LEFT_OUT -> atomic { puts = 0; wake(to_dispatcher, DISPATCHER) }
+    :: else
     fi
 }
 
@@ -220,10 +220,10 @@ step:
             assert(!asleep[DISPATCHER] || token[DISPATCHER] || len(items) <= MANY);
             ended = (entry == end);
             entry = 0;
-            puts++;
+            puts = (puts < MANY -> puts + 1 : MANY);
             if
-            :: puts >= MANY
-            :: puts < MANY -> goto step
+            :: puts >= MANY && due_to_dispatcher != LEFT_OUT
+            :: else -> goto step
             fi
         };
         atomic { puts = 0; wake(due_to_dispatcher, DISPATCHER) };
@@ -238,7 +238,7 @@ step:
             records ? entry ->
             /* No more are free for a reader that sleeps. */
             assert(!asleep[READER] || token[READER] || PLACES - len(records) <= MANY_TAKEN);
-            taken++;
+            taken = (taken < MANY_TAKEN -> taken + 1 : MANY_TAKEN);
             /* The tenant gets an event, or doesn't; the end mark it gets. */
             if
 #if ENDLESS
@@ -251,7 +251,7 @@ step:
             fi;
             if
             :: taken >= MANY_TAKEN
-            :: taken < MANY_TAKEN -> goto step
+            :: else -> goto step
             fi
         };
         pay(many_to_reader, many_to_dispatcher)
