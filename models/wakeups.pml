@@ -26,7 +26,13 @@
 #define RECORDS 1               /* as many as the feed has at most */
 #endif
 #ifndef ENDLESS
-#define ENDLESS 0               /* it always has one more, and at most RECORDS go to the tenant */
+#define ENDLESS 0               /* it always has one more */
+#endif
+#ifdef SELECTED                 /* so many at most go to the tenant; else any */
+#define IS_LIMITED 1
+#else
+#define IS_LIMITED 0
+#define SELECTED RECORDS
 #endif
 #ifndef WORKERS
 #define WORKERS 1
@@ -75,8 +81,8 @@ byte asked;                     /* generations that were asked for */
 
 mtype:value = { event, mark, end };
 chan records = [PLACES] of { mtype:value };
-chan items = [RECORDS + 1] of { mtype:value };
-chan triggers[2] = [RECORDS + 1] of { mtype:value };
+chan items = [SELECTED + 1] of { mtype:value };
+chan triggers[2] = [SELECTED + 1] of { mtype:value };
 chan manages = [PLACES] of { mtype:value };
 chan results = [PLACES] of { mtype:value };
 
@@ -206,8 +212,8 @@ proctype forwarder(byte me) {
     mtype:value entry;          /* in its hand */
     bit ended;
     byte taken, puts;           /* since it paid for them */
-#if ENDLESS
-    byte left = RECORDS;
+#if IS_LIMITED
+    byte left = SELECTED;
 #endif
 
 step:
@@ -241,7 +247,7 @@ step:
             taken = (taken < MANY_TAKEN -> taken + 1 : MANY_TAKEN);
             /* The tenant gets an event, or doesn't; the end mark it gets. */
             if
-#if ENDLESS
+#if IS_LIMITED
             :: entry == event && left > 0 -> left--
 #else
             :: entry == event
