@@ -1,15 +1,16 @@
-/* Who wakes whom among the threads of a run: one connection, one tenant, two pipelines and a port. `bin/model` has spin try every schedule.
+/* Who wakes whom among the threads of a run: one connection, one tenant, two pipelines and a port. `bin/model` has spin try each schedule.
    It is written by hand: docs/ARCHITECTURE.md, "Who wakes whom", says which function each part stands for.
 
-   Waking a thread sets its token; parking waits for the token and takes it away (crossbeam's Parker). Each step, and each `atomic`, looks at
-   or changes one thing that threads share, once, and so in an order that all threads agree on: that is what the code asks for of its
-   flags, and of what was put before a wake-up. A put and a take are one step each, and `Full` and `None` come only where the queue was
-   full or empty then: gate_queue's contracts say so of some moment of the call. That a call sees what was put before it is for tests.
+   Waking a thread sets its token; parking waits for the token and takes it away (crossbeam's Parker). Each step, and each `atomic`, looks
+   at or changes one thing that threads share, in an order on which all threads agree: the code asks for that order of its flags, and a
+   wake-up makes what was put before it seen. A put and a take are one step each, and `Full` and `None` come only where the queue was full
+   or empty in that step: the contracts of gate_queue say so of some moment of the call. That a call sees what was put before it began is
+   what tests show.
 
-   Left out: what records say and rules select, but for who gets something; the lock of the board; time. A nap in which nothing comes to
-   the reader's eyes is no step, so a feed that has nothing for ever is a reader that stands still; and a run can't go round in a circle,
-   but with ENDLESS. A thread that is refused memory is so where it looks whether it is to halt: from there to each place where the code
-   asks for memory it does nothing that others see, or only what they see without a refusal, too. */
+   Left out are what records say and rules select, but for who gets something; the lock of the board; and time. A nap at whose end the
+   reader sees nothing new is no step, so a feed that has nothing for ever is a reader that stands still, and no run goes round in a circle
+   but with ENDLESS. A thread is refused memory where it looks whether it is to halt. Where the code asks for it elsewhere, the look before
+   or the one behind stands for that: between them are only steps of its own, and wake-ups that a halt gives, too. */
 
 /* Sizes. A worker never takes as many values in a row as end a phase (256), so taking doesn't. */
 #ifndef PLACES
@@ -153,7 +154,7 @@ next_mark:
 #endif
     if
     :: line -> goto offer
-    /* What the feed answers: Got, so that it looks again before it offers; Pending; Ended or Fault. */
+    /* what the feed answers: Got, so that it looks again before it offers; Pending; Ended or Fault */
 #if ENDLESS
     :: !line -> line = 1; goto look
 #else
@@ -222,7 +223,7 @@ step:
     :: entry ->
         atomic {
             items ! entry;
-            /* No more wait for a dispatcher that sleeps. */
+            /* for a dispatcher that sleeps no more than MANY wait */
             assert(!asleep[DISPATCHER] || token[DISPATCHER] || len(items) <= MANY);
             ended = (entry == end);
             entry = 0;
@@ -242,10 +243,10 @@ step:
     if
     :: atomic {
             records ? entry ->
-            /* No more are free for a reader that sleeps. */
+            /* for a reader that sleeps no more than MANY_TAKEN places are free */
             assert(!asleep[READER] || token[READER] || PLACES - len(records) <= MANY_TAKEN);
             taken = (taken < MANY_TAKEN -> taken + 1 : MANY_TAKEN);
-            /* The tenant gets an event, or doesn't; the end mark it gets. */
+            /* the tenant gets an event, or doesn't; the end mark it gets */
             if
 #if IS_LIMITED
             :: entry == event && left > 0 -> left--
@@ -329,7 +330,7 @@ step:
     :: !ended && gathered + has_end < ROOM ->
         if
         :: atomic { items ? entry -> gather() };
-            /* As many more in one step as it likes: a block may end anywhere. */
+            /* some more in one step, or none: a block may end anywhere */
             atomic {
                 do
                 :: gathered + has_end < ROOM && nempty(items) -> items ? entry; gather()
@@ -488,7 +489,7 @@ out:
 
 #define SETTLED (ALL_RETURNED || (!TO_RETURN && !SOMETHING_WAITS))
 
-/* A run that is against it: from some moment on it is never settled. */
+/* A run that is against it: from some moment on it is never settled. Steps that change nothing of that may come in between. */
 never {
     do
     :: true
