@@ -5,6 +5,7 @@ mod address;
 mod fault;
 mod port;
 mod program;
+mod retrying;
 mod serving;
 mod sessions;
 mod sources;

@@ -1,4 +1,5 @@
 use crate::address::Address;
+use crate::retrying::read_again;
 use std::fs::File;
 use std::io;
 use std::io::Read;
@@ -6,7 +7,7 @@ use std::net::{Net, TcpStream};
 use std::os::unix::net::UnixStream;
 use std::rt::Files;
 
-/// Where the bytes of a connection's stream are read from.
+/// Where the bytes of a connection's stream are read from. A read that is interrupted is tried again.
 #[derive(Drop)]
 pub enum Stream {
     /// A file, which may be a folder: then the first read fails.
@@ -34,9 +35,9 @@ impl Stream {
 impl Read for Stream {
     fn read(&mut self, buf: &mut [u8]) -> io::Result<usize> {
         match self {
-            Stream::File(file) => file.read(buf),
-            Stream::Tcp(socket) => socket.read(buf),
-            Stream::Unix(socket) => socket.read(buf),
+            Stream::File(file) => read_again(file, buf),
+            Stream::Tcp(socket) => read_again(socket, buf),
+            Stream::Unix(socket) => read_again(socket, buf),
         }
     }
 }
