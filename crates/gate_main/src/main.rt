@@ -2,6 +2,7 @@
 #![tactic(auto)]
 
 mod address;
+mod deadline;
 mod fault;
 mod port;
 mod program;
@@ -12,6 +13,7 @@ mod sources;
 mod stream;
 #[cfg(test)]
 mod tests;
+mod timed;
 mod words;
 
 use std::process::ExitCode;

@@ -3,12 +3,12 @@ ghost use Rattle.gate_status.specs.Replies.{ArePostsFor};
 
 use crate::fault::Fault;
 use crate::port::Port;
+use crate::timed::{LineReader, ReplyWriter, TimedRead, TimedWrite};
 use gate_config::Generations;
 use gate_record::Shared;
 use gate_run::{Posts, generations_cross};
 use gate_status::{Board, Counted, SessionEnd, SessionFault, session};
 use std::alloc::Global;
-use std::io::{Read, Write};
 use std::sync::{Mutex, Wait};
 use std::thread::{JoinHandle, Threads};
 use std::time::{Clock, Duration};
@@ -26,6 +26,9 @@ pub struct Sessions {
 
 // For how many milliseconds the port is left alone where it had no session to give.
 const PAUSE: u64 = 100;
+
+// How many seconds a session has for each line that it sends, and as many for reading the reply.
+const SECONDS: u64 = 60;
 
 impl Sessions {
     /// The sessions that a port will have.
@@ -72,7 +75,7 @@ impl Sessions {
     }
 
     // Waits for a session, and serves it.
-    fn next<X: Wait + AllocGlobal>(
+    fn next<X: Wait + Clock + AllocGlobal>(
         &mut self,
         rt: &X,
     ) -> io::Result<Result<SessionEnd, SessionFault>> {
@@ -88,14 +91,15 @@ impl Sessions {
         }
     }
 
-    fn talk<X: Wait + AllocGlobal, R: Read + Drop, W: Write + Drop>(
+    fn talk<X: Wait + Clock + AllocGlobal, R: TimedRead + Drop, W: TimedWrite + Drop>(
         &mut self,
         rt: &X,
         input: R,
         output: W,
     ) -> Result<SessionEnd, SessionFault> {
-        let mut input = Counted::new(input);
-        let mut output = Counted::new(output);
+        let time = Duration::from_secs(SECONDS);
+        let mut input = Counted::new(LineReader::new(rt, input, time));
+        let mut output = Counted::new(ReplyWriter::new(rt, output, time));
         session(
             rt,
             &mut input,

@@ -2,6 +2,7 @@
 //! rows/README.md says how they are compared.
 mod files;
 mod streams;
+mod waiting;
 
 use crate::program::run_words;
 use std::alloc::{AllocError, Global};

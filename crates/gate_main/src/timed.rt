@@ -1,0 +1,136 @@
+//! The reader and the writer of a session, which have so much time for each line and for each reply.
+use crate::deadline::Deadline;
+use crate::retrying::read_again;
+use std::io;
+use std::io::{Read, Write};
+use std::net::TcpStream;
+use std::os::unix::net::UnixStream;
+use std::time::{Clock, Duration};
+
+/// A reader that is told how long it may wait.
+pub trait TimedRead: Read {
+    /// From here on a read that waits so long answers an error. The time isn't 0.
+    fn set_read_time(&mut self, time: Duration) -> io::Result<()>;
+}
+
+/// A writer that is told how long it may wait.
+pub trait TimedWrite: Write {
+    /// From here on a write that waits so long answers an error. The time isn't 0.
+    fn set_write_time(&mut self, time: Duration) -> io::Result<()>;
+}
+
+impl TimedRead for &TcpStream {
+    fn set_read_time(&mut self, time: Duration) -> io::Result<()> {
+        self.set_read_timeout(Some(time))
+    }
+}
+
+impl TimedRead for &UnixStream {
+    fn set_read_time(&mut self, time: Duration) -> io::Result<()> {
+        self.set_read_timeout(Some(time))
+    }
+}
+
+impl TimedWrite for &TcpStream {
+    fn set_write_time(&mut self, time: Duration) -> io::Result<()> {
+        self.set_write_timeout(Some(time))
+    }
+}
+
+impl TimedWrite for &UnixStream {
+    fn set_write_time(&mut self, time: Duration) -> io::Result<()> {
+        self.set_write_timeout(Some(time))
+    }
+}
+
+// A device of which each call waits no longer than what is left of a time.
+#[derive(Drop)]
+struct InTime<C, D> {
+    clock: C,
+    device: D,
+    deadline: Deadline,
+}
+
+impl<C: Clock, R: TimedRead> Read for InTime<C, R> {
+    fn read(&mut self, buf: &mut [u8]) -> io::Result<usize> {
+        let left = self.deadline.left(&self.clock)?;
+        self.device.set_read_time(left)?;
+        self.device.read(buf)
+    }
+}
+
+impl<C: Clock, W: TimedWrite> Write for InTime<C, W> {
+    fn write(&mut self, buf: &[u8]) -> io::Result<usize> {
+        let left = self.deadline.left(&self.clock)?;
+        self.device.set_write_time(left)?;
+        self.device.write(buf)
+    }
+
+    fn flush(&mut self) -> io::Result<()> {
+        self.device.flush()
+    }
+}
+
+/// Reads what has so much time for each line: it passes from when a line is waited for until a line feed has come, and once it is over
+/// a read answers an error. A read that is interrupted is tried again, in what is left of the time.
+#[derive(Drop)]
+pub struct LineReader<C, R> {
+    reader: InTime<C, R>,
+}
+
+impl<C: Clock, R: TimedRead> LineReader<C, R> {
+    /// A reader of which nothing was read. It takes no memory.
+    pub fn new(clock: C, device: R, time: Duration) -> LineReader<C, R> {
+        let deadline = Deadline::new(time);
+        LineReader {
+            reader: InTime {
+                clock,
+                device,
+                deadline,
+            },
+        }
+    }
+}
+
+impl<C: Clock, R: TimedRead> Read for LineReader<C, R> {
+    fn read(&mut self, buf: &mut [u8]) -> io::Result<usize> {
+        let count = read_again(&mut self.reader, buf)?;
+        if buf[..count].contains(&b'\n') {
+            self.reader.deadline.renew();
+        }
+        Ok(count)
+    }
+}
+
+/// Writes what has so much time for each reply: it passes from the first write until all is flushed, and once it is over a write
+/// answers an error.
+#[derive(Drop)]
+pub struct ReplyWriter<C, W> {
+    writer: InTime<C, W>,
+}
+
+impl<C: Clock, W: TimedWrite> ReplyWriter<C, W> {
+    /// A writer to which nothing was written. It takes no memory.
+    pub fn new(clock: C, device: W, time: Duration) -> ReplyWriter<C, W> {
+        let deadline = Deadline::new(time);
+        ReplyWriter {
+            writer: InTime {
+                clock,
+                device,
+                deadline,
+            },
+        }
+    }
+}
+
+impl<C: Clock, W: TimedWrite> Write for ReplyWriter<C, W> {
+    fn write(&mut self, buf: &[u8]) -> io::Result<usize> {
+        self.writer.write(buf)
+    }
+
+    fn flush(&mut self) -> io::Result<()> {
+        self.writer.flush()?;
+        self.writer.deadline.renew();
+        Ok(())
+    }
+}
