@@ -9,6 +9,7 @@ mod program;
 mod retrying;
 mod serving;
 mod sessions;
+mod socket_file;
 mod sources;
 mod stream;
 #[cfg(test)]

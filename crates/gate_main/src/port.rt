@@ -1,12 +1,14 @@
 //! The status port.
 use crate::address::Address;
 use crate::fault::Fault;
+use crate::socket_file::SocketFile;
+use std::fs::File;
+use std::io;
 use std::io::ErrorKind;
 use std::net::{Net, TcpListener, TcpStream};
-use std::os::unix::fs::FileTypeExt;
-use std::os::unix::net::{UnixListener, UnixStream};
+use std::os::unix::net::UnixListener;
 use std::rt::Files;
-use std::{fs, io};
+use std::time::Clock;
 
 /// Reads the word STATUS: where the port is to be, if there is to be one. `Usage` for a word of another form.
 pub fn port_address(word: &str) -> Result<Option<Address<'_>>, Fault> {
@@ -26,46 +28,32 @@ pub enum Port {
     Unix(UnixListener),
 }
 
-impl Port {
-    /// Listens. A Unix socket on which nobody listens any longer is replaced; any other file at its path stays, and is an error.
-    pub fn listen<X: Files + Net<Stream = TcpStream, Listener = TcpListener>>(
-        rt: &X,
-        address: Address<'_>,
-    ) -> io::Result<Port> {
+/// A port that is listened on, and its file, if it has one.
+#[derive(Drop)]
+pub struct Listening<'a> {
+    pub port: Port,
+    pub file: Option<SocketFile<'a>>,
+}
+
+impl<'a> Listening<'a> {
+    /// Listens at an address: `SocketFile::listen` has what becomes of a Unix socket's file.
+    pub fn at<X>(rt: &X, address: Address<'a>) -> io::Result<Listening<'a>>
+    where
+        X: Files<File = File> + Net<Stream = TcpStream, Listener = TcpListener> + Clock,
+    {
         match address {
-            Address::Tcp(place) => Ok(Port::Tcp(TcpListener::bind(rt, place)?)),
-            Address::Unix(path) => Ok(Port::Unix(listen_at(rt, path)?)),
+            Address::Tcp(place) => Ok(Listening {
+                port: Port::Tcp(TcpListener::bind(rt, place)?),
+                file: None,
+            }),
+            Address::Unix(path) => {
+                let (listener, file) = SocketFile::listen(rt, path)?;
+                Ok(Listening {
+                    port: Port::Unix(listener),
+                    file: Some(file),
+                })
+            }
             Address::File(_) => Err(io::Error::from(ErrorKind::InvalidInput)),
         }
-    }
-}
-
-// The system would take an empty path for a wish for a name of its own, which nobody could connect to.
-fn listen_at<X: Files + Net>(rt: &X, path: &str) -> io::Result<UnixListener> {
-    if path.is_empty() {
-        return Err(io::Error::from(ErrorKind::InvalidInput));
-    }
-    match UnixListener::bind(rt, path) {
-        Err(error) if error.kind() == ErrorKind::AddrInUse && is_abandoned(rt, path) => {
-            fs::remove_file(rt, path)?;
-            UnixListener::bind(rt, path)
-        }
-        answer => answer,
-    }
-}
-
-// Whether the file is a socket on which nobody listens.
-fn is_abandoned<X: Files + Net>(rt: &X, path: &str) -> bool {
-    is_socket(rt, path)
-        && match UnixStream::connect(rt, path) {
-            Ok(_) => false,
-            Err(error) => error.kind() == ErrorKind::ConnectionRefused,
-        }
-}
-
-fn is_socket<X: Files>(rt: &X, path: &str) -> bool {
-    match fs::symlink_metadata(rt, path) {
-        Ok(metadata) => metadata.file_type().is_socket(),
-        Err(_) => false,
     }
 }

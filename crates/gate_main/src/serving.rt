@@ -5,8 +5,9 @@ ghost use Rattle.gate_run.specs.Ports.{IsInboxFor};
 
 use crate::address::Address;
 use crate::fault::Fault;
-use crate::port::{Port, port_address};
+use crate::port::{Listening, Port, port_address};
 use crate::sessions::Sessions;
+use crate::socket_file::SocketFile;
 use crate::sources::{open_feeds, sources_of};
 use crate::stream::Stream;
 use gate_config::{Config, Generations, read_generations};
@@ -17,12 +18,12 @@ use gate_status::{Board, BoardGate};
 use std::alloc::Global;
 use std::fs::File;
 use std::io::ErrorKind;
+use std::mem;
 use std::net::{Net, TcpListener, TcpStream};
 use std::rt::Files;
 use std::sync::{Mutex, Wait};
 use std::thread::{JoinHandle, Threads};
 use std::time::Clock;
-use std::{fs, mem};
 
 /// Runs the configuration of these documents, a generation each, over the streams of these words, with a port where STATUS asks for
 /// one, and gives the report.
@@ -51,29 +52,32 @@ where
     let gens = read_generations(alloc, documents)?;
     let address = port_address(status)?;
     let sources = sources_of(alloc, gens.first(), words)?;
-    let port = listen(rt, status, address)?;
+    let (port, file) = listen(rt, status, address)?;
     let ran = match open_feeds(rt, gens.first(), sources.as_slice()) {
         Ok(feeds) => run(rt, gens, feeds, port),
         Err(fault) => Err(fault),
     };
     // While it is listened on, nobody else takes the socket for an abandoned one.
-    if let Some(Address::Unix(path)) = address {
-        let _ = fs::remove_file(rt, path);
+    if let Some(file) = file {
+        let _ = file.remove(rt);
     }
     let (report, _port) = ran?;
     Ok(report)
 }
 
-fn listen<X: Files + Net<Stream = TcpStream, Listener = TcpListener> + AllocGlobal>(
+fn listen<'a, X>(
     rt: &X,
     word: &str,
-    address: Option<Address<'_>>,
-) -> Result<Option<Port>, Fault> {
+    address: Option<Address<'a>>,
+) -> Result<(Option<Port>, Option<SocketFile<'a>>), Fault>
+where
+    X: Files<File = File> + Net<Stream = TcpStream, Listener = TcpListener> + Clock + AllocGlobal,
+{
     let Some(address) = address else {
-        return Ok(None);
+        return Ok((None, None));
     };
-    match Port::listen(rt, address) {
-        Ok(port) => Ok(Some(port)),
+    match Listening::at(rt, address) {
+        Ok(Listening { port, file }) => Ok((Some(port), file)),
         Err(error) if error.kind() == ErrorKind::OutOfMemory => Err(Fault::Memory),
         Err(_) => Err(Fault::Listen(String::from_str(rt.alloc(), word)?)),
     }
