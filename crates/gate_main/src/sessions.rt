@@ -48,8 +48,8 @@ impl Sessions {
         }
     }
 
-    /// Serves them in a thread of their own, one after the other, until one has ended by `stop`; then the thread hands the port back, on
-    /// which it has listened all the while. `Thread` where none can be started.
+    /// Serves them in a thread of their own, one after the other, until a stop was asked for in one, however that session ends; then the
+    /// thread hands the port back, on which it has listened all the while. `Thread` where none can be started.
     pub fn start<X: Threads + Wait + Clock + Copy + Send + 'static>(
         self,
         rt: &X,
@@ -66,7 +66,7 @@ impl Sessions {
     fn serve<X: Wait + Clock + AllocGlobal>(mut self, rt: &X) -> Port {
         for _ in rt.forever() {
             match self.next(rt) {
-                Ok(Ok(SessionEnd::Stop)) => return self.port,
+                Ok(_) if self.posts.stopped() => return self.port,
                 Ok(_) => {}
                 Err(_) => thread::sleep(rt, Duration::from_millis(PAUSE)),
             }
