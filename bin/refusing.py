@@ -29,7 +29,17 @@ class Counts:
     def read(self):
         """How many calls there were, and how many were refused."""
         counts = self.file.read_bytes() if self.file.exists() else b""
-        return struct.unpack("QQ", counts) if len(counts) == 16 else (0, 0)
+        return struct.unpack("QQQ", counts)[:2] if len(counts) == 24 else (0, 0)
+
+    def without_thread(self, thread):
+        """The variables by which a program is refused this thread. The counts begin anew."""
+        self.file.unlink(missing_ok=True)
+        return self.env | {"REFUSE_THREAD": str(thread)}
+
+    def threads(self):
+        """How many threads were asked for."""
+        counts = self.file.read_bytes() if self.file.exists() else b""
+        return struct.unpack("QQQ", counts)[2] if len(counts) == 24 else 0
 
 
 def report_of(text):
