@@ -286,3 +286,51 @@ fn many_pass_in_batches(rt: HostRuntime) -> Result<(), Fail> {
     }
     Ok(())
 }
+
+// Puts these values, and takes as many by as many batches of at most `k`: how many came.
+fn taken_in_batches<R: Wait>(
+    rt: &R,
+    alloc: Global,
+    queue: &FreeQueue<u64>,
+    tail: FreeTail<u64>,
+    mut head: FreeHead<u64>,
+    all: &[u64],
+    k: usize,
+) -> Result<usize, Fail>
+    requires { IsTailOf queue.now tail × IsHeadOf queue.now head }
+{
+    if !put_all(rt, queue, tail, all) {
+        return Err(Fail::from("memory"));
+    }
+    let got = gather(rt, alloc, queue, &mut head, k, all.len(), all.len() as u64)?;
+    Ok(got.len())
+}
+
+// Sees that each batch gives one value at the least while any of so many waits.
+fn no_batch_is_empty<R: Wait + Abort>(
+    rt: &R,
+    alloc: Global,
+    waits: u64,
+    k: usize,
+) -> Result<(), Fail> {
+    let all: Vec<u64> = (0..waits).collect(alloc)?;
+    let (queue, mut tails, head) = open_free(alloc, 1)?;
+    match tails.pop() {
+        Some(tail) => {
+            let got = taken_in_batches(rt, alloc, &queue, tail, head, all.as_slice(), k)?;
+            assert!(rt; got == all.len(), "{waits} in batches of {k}");
+            Ok(())
+        }
+        None => Err(Fail::from("a seat")),
+    }
+}
+
+#[test]
+fn a_batch_gives_something_while_anything_waits(rt: HostRuntime) -> Result<(), Fail> {
+    for waits in [1, 30, 31, 32, 62, 63, 64] {
+        for k in [1, 2, 31, 32, 64] {
+            no_batch_is_empty(&rt, rt.alloc(), waits, k)?;
+        }
+    }
+    Ok(())
+}

@@ -4,6 +4,8 @@
 #[cfg(test)]
 mod cuttings;
 #[cfg(test)]
+mod feeds;
+#[cfg(test)]
 mod sources;
 #[cfg(test)]
 mod stops;

@@ -3,11 +3,12 @@ ghost use Rattle.gate_run.specs.Ports.{IsInboxFor};
 
 use crate::base::{comes_to, given, talk_of, text_of, two};
 use crate::feeds::{Feed, SEVENTH};
-use gate_config::Generations;
+use gate_config::{Config, Generations, read_config};
+use gate_items::{Action, Discard, Key, Manage, Outcome};
 use gate_pipeline::Pipeline;
-use gate_record::{Memory, PipelineId, TenantId};
+use gate_record::{ConnId, Memory, PipelineId, TenantId};
 use gate_run::{Gate, Inbox, Posts, serve};
-use gate_status::{Board, BoardGate, Counted, Progress};
+use gate_status::{Board, BoardGate, Counted, Progress, status_text};
 use std::process::Abort;
 use std::sync::{Mutex, Wait};
 use std::thread::Threads;
@@ -54,7 +55,11 @@ fn a_session_shows_how_far_a_run_went(rt: HostRuntime) {
     shows(&rt, &gens, &board, wanted);
 }
 
-// Says on a board that the only pipeline is far.
+// One tenant with two pipelines.
+const PIPELINES: &str =
+    r#"{"tenants":[{"name":"main","source":{"gerrit":{"untrusted-projects":["demo"]}}}],"config":{"main":[{"pipeline":{"name":"check","manager":"independent"}},{"pipeline":{"name":"post","manager":"independent"}}]}}"#;
+
+// Says on a board that both are far.
 fn far(board: &mut Board) {
     let progress = Progress {
         done: 3,
@@ -63,16 +68,35 @@ fn far(board: &mut Board) {
         finished: true,
     };
     board.set(TenantId(0), PipelineId(0), progress);
+    board.set(TenantId(0), PipelineId(1), progress);
+}
+
+// Tells a gate of an action of the second pipeline, and that the first is about to do one.
+fn tells<R: AllocGlobal + Wait>(rt: &R, config: &Config, board: &Mutex<Board>) {
+    let pipeline = Pipeline::new(rt.alloc(), config, TenantId(0), PipelineId(1));
+    let manage = Manage::Dequeue(Key::Change {
+        conn: ConnId(0),
+        number: 7,
+    });
+    let processed = (
+        None,
+        Action::Manage(manage),
+        Outcome::Discarded(Discard::NoItem),
+    );
+    let gate = BoardGate::new(board);
+    gate.before(rt, TenantId(0), PipelineId(0), &pipeline);
+    gate.after(rt, TenantId(0), PipelineId(1), &pipeline, &processed);
 }
 
 #[test]
-fn a_board_is_told_before_each_action(rt: HostRuntime) {
-    let gens = two(&rt);
-    let mut board = given(&rt, Board::new(rt.alloc(), gens.first()));
+fn a_board_is_told_behind_each_action(rt: HostRuntime) {
+    let config = given(&rt, read_config(rt.alloc(), PIPELINES.as_bytes()));
+    let mut board = given(&rt, Board::new(rt.alloc(), &config));
     far(&mut board);
     let board = Mutex::new(board);
-    let pipeline = Pipeline::new(rt.alloc(), gens.first(), TenantId(0), PipelineId(0));
-    BoardGate::new(&board).before(&rt, TenantId(0), PipelineId(0), &pipeline);
-    let wanted = "pipeline \"main\" \"check\" done 0 items 0 reports 0 running\nok\nEnd";
-    shows(&rt, &gens, &board, wanted);
+    tells(&rt, &config, &board);
+    let text = given(&rt, status_text(rt.alloc(), &config, &board.lock(&rt)));
+    let wanted =
+        "pipeline \"main\" \"check\" done 3 items 2 reports 1 finished\npipeline \"main\" \"post\" done 0 items 0 reports 0 running\n";
+    comes_to(&rt, text.as_str(), wanted);
 }

@@ -16,33 +16,63 @@ impl<'a> Read for Pieces<'a> {
     }
 }
 
-/// A reader whose first read gives a line, and each later one an error.
+/// A reader of lines, one a read, that fails behind so many reads.
 #[derive(Drop)]
-pub(crate) struct Breaks {
-    pub(crate) was_read: bool,
+pub(crate) struct Lines<'a> {
+    lines: &'a [&'a str],
+    count: usize,
+    fails_behind: usize,
 }
 
-impl Read for Breaks {
+impl<'a> Lines<'a> {
+    pub(crate) fn new(lines: &'a [&'a str], fails_behind: usize) -> Lines<'a> {
+        Lines {
+            lines,
+            count: 0,
+            fails_behind,
+        }
+    }
+}
+
+impl<'a> Read for Lines<'a> {
     fn read(&mut self, buf: &mut [u8]) -> io::Result<usize> {
-        if self.was_read {
+        if self.count >= self.fails_behind {
             return Err(io::Error::from(ErrorKind::ConnectionReset));
         }
-        self.was_read = true;
-        let mut line = b"foo\n".as_slice();
+        let Some(line) = self.lines.get(self.count) else {
+            return Ok(0);
+        };
+        self.count = self.count.saturating_add(1);
+        let mut line = line.as_bytes();
         line.read(buf)
     }
 }
 
-/// A writer to which nothing can be written.
+/// A writer into memory that fails behind so many calls, flushes among them.
 #[derive(Drop)]
-pub(crate) struct Closed;
+pub(crate) struct Failing {
+    pub(crate) written: Vec<u8>,
+    pub(crate) left: usize,
+}
 
-impl Write for Closed {
-    fn write(&mut self, _buf: &[u8]) -> io::Result<usize> {
-        Err(io::Error::from(ErrorKind::BrokenPipe))
+impl Failing {
+    // Counts a call, unless it is to fail.
+    fn count(&mut self) -> io::Result<()> {
+        let Some(left) = self.left.checked_sub(1) else {
+            return Err(io::Error::from(ErrorKind::BrokenPipe));
+        };
+        self.left = left;
+        Ok(())
+    }
+}
+
+impl Write for Failing {
+    fn write(&mut self, buf: &[u8]) -> io::Result<usize> {
+        self.count()?;
+        self.written.write(buf)
     }
 
     fn flush(&mut self) -> io::Result<()> {
-        Ok(())
+        self.count()
     }
 }

@@ -1,0 +1,101 @@
+//! That a reader doesn't sleep while a long line comes in pieces.
+use crate::base::one;
+use gate_pipeline::Pipeline;
+use gate_record::{PipelineId, TenantId};
+use gate_run::{Gate, Inbox, ReaderFeed, serve};
+use std::alloc::Global;
+use std::io;
+use std::io::Read;
+use std::sync::Wait;
+use std::sync::atomic::{AtomicU32, Ordering};
+use std::test::Fail;
+use std::thread::Threads;
+use std::time::{Clock, Duration};
+
+// A reader of a line of so many pieces.
+#[derive(Drop)]
+struct Long {
+    pieces: u32,
+}
+
+impl Read for Long {
+    fn read(&mut self, buf: &mut [u8]) -> io::Result<usize> {
+        let Some(left) = self.pieces.checked_sub(1) else {
+            return Ok(0);
+        };
+        self.pieces = left;
+        let mut piece = b"a piece of a line, ".as_slice();
+        piece.read(buf)
+    }
+}
+
+// A host that counts how often a thread sleeps.
+#[derive(Drop)]
+struct Counting<'a, X> {
+    host: X,
+    sleeps: &'a AtomicU32,
+}
+
+impl<'a, X: Wait> Wait for Counting<'a, X> {}
+
+impl<'a, X: Threads> Threads for Counting<'a, X> {}
+
+impl<'a, X: Clock> Clock for Counting<'a, X> {
+    fn monotonic(&self) -> io::Result<Duration> {
+        self.host.monotonic()
+    }
+
+    fn since_1970(&self) -> io::Result<Duration> {
+        self.host.since_1970()
+    }
+
+    fn sleep(&self, _duration: Duration) {
+        self.sleeps.fetch_add(1, Ordering::SeqCst);
+    }
+}
+
+// A gate that does nothing.
+#[derive(Drop)]
+struct Silent;
+
+impl Gate for Silent {
+    fn before<R: Wait>(
+        &self,
+        _rt: &R,
+        _tenant: TenantId,
+        _pipeline: PipelineId,
+        _state: &Pipeline,
+    ) {}
+
+    fn last<R: Wait>(&self, _rt: &R, _tenant: TenantId, _pipeline: PipelineId, _state: &Pipeline) {}
+}
+
+#[test]
+fn a_long_line_is_read_without_a_sleep(rt: HostRuntime) -> Result<(), Fail> {
+    let sleeps = AtomicU32::new(0);
+    let alloc = rt.alloc();
+    let counting = Counting {
+        host: &rt,
+        sleeps: &sleeps,
+    };
+    let accepted = accepted_of(&counting, alloc, Long { pieces: 200 })?;
+    assert!(&rt; (accepted, sleeps.load(Ordering::SeqCst)) == (1, 0));
+    Ok(())
+}
+
+// How many records come of a reader.
+fn accepted_of<R: Threads + Wait + Clock + Sync>(
+    rt: &R,
+    alloc: Global,
+    reader: Long,
+) -> Result<u64, Fail> {
+    let gens = one(alloc)?;
+    let inbox = Inbox::without_posts(alloc, gens.first())?;
+    let feeds = vec![in alloc; ReaderFeed::new(alloc, reader)?]?;
+    if feeds.len() != gens.first().connections().len() {
+        return Err(Fail::from("one connection"));
+    }
+    let served = serve(rt, alloc, &gens, feeds, inbox, &Silent)?;
+    let connection = served.report.connections.get(0).ok_or("a connection")?;
+    Ok(connection.accepted)
+}
