@@ -6,7 +6,11 @@ _gate() {
     *.1.*)
         words='check replay serve explain help --help --version'
         ;;
-    *.*.[:=])
+    serve.*.=)
+        compopt -o nospace
+        words='file: unix: tcp:'
+        ;;
+    *.*.:)
         ;;
     serve.3.*)
         compopt -o nospace
