@@ -167,7 +167,7 @@ fn wanted(alloc: Global, accepted: u64, cause: &str) -> Result<String, Fail> {
     Ok(text)
 }
 
-// The report of a run of so many records whose gate asks for a stop, and how many were accepted.
+// The report of a run of 100 different records whose gate asks for a stop, and how many were accepted.
 fn report_of_many<G: Gate + Sync, R: Threads + Wait + Clock + Sync>(
     rt: &R,
     alloc: Global,
@@ -177,7 +177,7 @@ fn report_of_many<G: Gate + Sync, R: Threads + Wait + Clock + Sync>(
 ) -> Result<(String, u64), Fail>
     requires inbox { IsInboxFor gens.now.first inbox }
 {
-    let feeds = vec![in alloc; Feed::repeated(alloc, SEVENTH, 100)?]?;
+    let feeds = vec![in alloc; Feed::numbered(alloc, 100)?]?;
     let served = run(rt, alloc, gens, feeds, inbox, gate)?;
     let text = report_text(alloc, gens.first(), &served.report)?;
     let first = served.report.connections.get(0).ok_or("a connection")?;

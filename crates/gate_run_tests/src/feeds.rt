@@ -3,7 +3,7 @@ use crate::gates::Meeting;
 use gate_record::{Memory, Queue, Record};
 use gate_run::{FeedStep, RecordFeed};
 use gate_test_lines::record_of;
-use std::alloc::Global;
+use std::alloc::{AllocError, Global};
 use std::sync::Wait;
 
 /// A feed that never fails.
@@ -41,6 +41,19 @@ impl<'a> Feed<'a> {
         })
     }
 
+    /// New patch sets of so many changes.
+    pub(crate) fn numbered(alloc: Global, count: u32) -> Result<Feed<'a>, Memory> {
+        let mut records = Queue::new(alloc);
+        for number in 1..=count {
+            records.push(patch_set(alloc, number)?)?;
+        }
+        Ok(Feed {
+            records,
+            first: None,
+            last: None,
+        })
+    }
+
     /// The same feed, which waits at a meeting before its first record.
     pub(crate) fn meets(self, meeting: &'a Meeting) -> Feed<'a> {
         Feed {
@@ -58,6 +71,14 @@ impl<'a> Feed<'a> {
             last: Some(meeting),
         }
     }
+}
+
+// A new patch set of this change.
+fn patch_set(alloc: Global, number: u32) -> Result<Record, AllocError> {
+    let line = format!(in alloc;
+        r#"{{"type":"patchset-created","change":{{"project":"demo","branch":"master","number":{number}}},"patchSet":{{"number":1}}}}"#
+    )?;
+    record_of(alloc, line.as_str())
 }
 
 impl<'a> RecordFeed for Feed<'a> {

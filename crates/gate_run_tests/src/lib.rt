@@ -10,8 +10,6 @@ mod gates;
 #[cfg(test)]
 mod late;
 #[cfg(test)]
-mod marks;
-#[cfg(test)]
 mod meetings;
 #[cfg(test)]
 mod posts;

@@ -1,15 +1,13 @@
 //! Marks of generations among the records of running threads.
 ghost use Rattle.gate_run.specs.Ports.{IsInboxFor};
 
-use crate::feeds::Feed;
-use crate::gates::Silent;
-use crate::runs::{ONE, SEVENTH};
-use gate_config::{Generations, read_generations};
+use crate::base::{COMMENT, Feed, PATCH_SET, Silent, records_of, two};
+use gate_config::Generations;
 use gate_core::report_text;
 use gate_pipeline::Pipeline;
-use gate_record::{Memory, PipelineId, Queue, Record, TenantId};
+use gate_record::{PipelineId, Queue, Record, TenantId};
 use gate_run::{FeedStep, Gate, Inbox, Posts, RecordFeed, serve, serve_over};
-use gate_test_lines::{comes_to, record_of};
+use gate_test_lines::comes_to;
 use std::alloc::Global;
 use std::process::Abort;
 use std::sync::{Mutex, Wait};
@@ -17,40 +15,12 @@ use std::test::Fail;
 use std::thread::Threads;
 use std::time::Clock;
 
-// The next generation of `ONE`, which selects comments in place of new patch sets.
-const LATER: &str =
-    r#"{"tenants":[{"name":"main","source":{"gerrit":{"untrusted-projects":["demo"]}}}],"config":{"main":[{"pipeline":{"name":"check","manager":"independent","trigger":{"gerrit":[{"event":"comment-added"}]}}},{"project":{"name":"demo","check":{"jobs":["build"]}}}]}}"#;
-
-const COMMENT: &str = r#"{"type":"comment-added","change":{"project":"demo","number":9}}"#;
-
-fn two(alloc: Global) -> Result<Generations, Fail> {
-    let mut documents = Vec::new(alloc);
-    documents.push(ONE.as_bytes().to_vec(alloc)?)?;
-    documents.push(LATER.as_bytes().to_vec(alloc)?)?;
-    Ok(read_generations(alloc, documents.as_slice())?)
-}
-
 // A feed that was blocked when the next generation was asked for: it asks itself, before it gives its second record.
 #[derive(Drop)]
 struct Blocked {
     posts: Posts,
     records: Queue<Record>,
     calls: u32,
-}
-
-impl Blocked {
-    fn of(alloc: Global, posts: Posts) -> Result<Blocked, Memory> {
-        let mut records = Queue::new(alloc);
-        for line in [COMMENT, COMMENT, SEVENTH] {
-            records.push(record_of(alloc, line)?)?;
-        }
-        let calls = 0;
-        Ok(Blocked {
-            posts,
-            records,
-            calls,
-        })
-    }
 }
 
 impl RecordFeed for Blocked {
@@ -80,7 +50,12 @@ impl RecordFeed for Blocked {
 fn a_mark_stands_between_two_records(rt: HostRuntime) -> Result<(), Fail> {
     let (gens, alloc) = (two(rt.alloc())?, rt.alloc());
     let (posts, inbox) = Posts::open(alloc, &gens)?;
-    let feeds = vec![in alloc; Blocked::of(alloc, posts)?]?;
+    let blocked = Blocked {
+        posts,
+        records: records_of(alloc, &[COMMENT, COMMENT, PATCH_SET])?,
+        calls: 0,
+    };
+    let feeds = vec![in alloc; blocked]?;
     if feeds.len() != gens.first().connections().len() {
         return Err(Fail::from("one connection"));
     }
@@ -91,18 +66,33 @@ fn a_mark_stands_between_two_records(rt: HostRuntime) -> Result<(), Fail> {
     comes_to("a report", text.as_str(), wanted)
 }
 
-// A gate that asks for the next generation before each action.
+// Posts that ask for the next generation before an action, once so many have begun.
+#[derive(Drop)]
+struct Renewing {
+    posts: Posts,
+    left: u32,
+}
+
+// A gate that asks for the next generation before each action from one on.
 #[derive(Drop)]
 struct Renews {
-    posts: Mutex<Posts>,
+    renewing: Mutex<Renewing>,
 }
 
 impl Gate for Renews {
     fn before<R: Wait>(&self, rt: &R, _tenant: TenantId, _pipeline: PipelineId, _state: &Pipeline) {
-        let _ = self.posts.lock(rt).renew();
+        count_down(&mut self.renewing.lock(rt));
     }
 
     fn last<R: Wait>(&self, _rt: &R, _tenant: TenantId, _pipeline: PipelineId, _state: &Pipeline) {}
+}
+
+fn count_down(renewing: &mut Renewing) {
+    if renewing.left > 0 {
+        renewing.left -= 1;
+    } else {
+        let _ = renewing.posts.renew();
+    }
 }
 
 // What is to be reported of so many new patch sets, where the next generation is in force behind so many of them.
@@ -121,32 +111,55 @@ fn wanted(alloc: Global, count: u32, renewed: Option<u64>) -> Result<String, Fai
 
 #[test]
 fn a_mark_waits_for_a_place_in_a_full_queue(rt: HostRuntime) -> Result<(), Fail> {
-    let (gens, alloc) = (two(rt.alloc())?, rt.alloc());
-    let (posts, inbox) = Posts::open(alloc, &gens)?;
-    let gate = Renews {
-        posts: Mutex::new(posts),
-    };
-    renews_over_two_places(&rt, alloc, &gens, inbox, &gate)
+    renews_over(&rt, rt.alloc(), 2, 2_500, 0)
 }
 
-fn renews_over_two_places<R: Threads + Wait + Clock + Abort + Sync>(
+#[test]
+fn a_gate_asks_at_a_late_action(rt: HostRuntime) -> Result<(), Fail> {
+    renews_over(&rt, rt.alloc(), 4_096, 200_000, 1_000)
+}
+
+// Runs over so many new patch sets, with so many places for them, where the gate asks before the action behind so many.
+fn renews_over<R: Threads + Wait + Clock + Abort + Sync>(
     rt: &R,
     alloc: Global,
+    places: usize,
+    count: u32,
+    left: u32,
+) -> Result<(), Fail>
+    requires { 0 < places }
+{
+    let gens = two(alloc)?;
+    let (posts, inbox) = Posts::open(alloc, &gens)?;
+    let gate = Renews {
+        renewing: Mutex::new(Renewing { posts, left }),
+    };
+    reports_renewal(rt, alloc, places, count, &gens, inbox, &gate)
+}
+
+ghost use Rattle.std.specs.Prelude.{◌<◌};
+
+fn reports_renewal<R: Threads + Wait + Clock + Abort + Sync>(
+    rt: &R,
+    alloc: Global,
+    places: usize,
+    count: u32,
     gens: &Generations,
     inbox: Inbox,
     gate: &Renews,
 ) -> Result<(), Fail>
-    requires { IsInboxFor gens.now.first inbox }
+    requires places { 0 < places }
+    requires inbox { IsInboxFor gens.now.first inbox }
 {
-    let feeds = vec![in alloc; Feed::repeated(alloc, SEVENTH, 2500)?]?;
+    let feeds = vec![in alloc; Feed::repeated(alloc, PATCH_SET, count)?]?;
     if feeds.len() != gens.first().connections().len() {
         return Err(Fail::from("one connection"));
     }
-    let served = serve_over(rt, alloc, 2, gens, feeds, inbox, gate)?;
+    let served = serve_over(rt, alloc, places, gens, feeds, inbox, gate)?;
     let connection = served.report.connections.get(0).ok_or("a connection")?;
     let renewals = connection.renewals.as_slice();
     assert!(rt; renewals.len() <= 1);
     let text = report_text(alloc, gens.first(), &served.report)?;
-    let wanted = wanted(alloc, 2500, renewals.first().copied())?;
+    let wanted = wanted(alloc, count, renewals.first().copied())?;
     comes_to("a report", text.as_str(), wanted.as_str())
 }
