@@ -21,7 +21,7 @@ use Rattle.gate_items.proofs.Times.{none_times, times, times_filter, times_none}
 sound_start : (m : ManagerKind) (first : ℕ) → Sound first []
 sound_start m first = record { most = λ n. omega arith; high = λ n h. refl }
 
-all_go : (s : State) (actions : List Action) → Goes s (after s actions)
+pub all_go : (s : State) (actions : List Action) → Goes s (after s actions)
 all_go s [] = record { rises = omega arith; fewer = λ n h. omega arith; sound = λ before. before }
 all_go s (action ∷ actions) =
     let first : Goes s (apply s action).0 = goes s action in
@@ -36,7 +36,7 @@ pub each_has_its_own : EachHasItsOwn
 each_has_its_own manager first actions set =
     subst (λ n. n ≤ 1) (sym (times_filter set (after (start manager first) actions).items)) (((all_go (start manager first) actions).sound (sound_start manager first)).most set)
 
-after-append : (s : State) (actions more : List Action) → after s (actions ++ more) ≡ after (after s actions) more
+pub after-append : (s : State) (actions more : List Action) → after s (actions ++ more) ≡ after (after s actions) more
 after-append s [] more = refl
 after-append s (action ∷ actions) more = after-append (apply s action).0 actions more
 
@@ -74,7 +74,7 @@ late_results_are_lost manager first actions more result h e =
     lost (after (start manager first) (actions ++ more)) result (never_again manager first actions more result.set h e)
 
 -- a build set that is an item's was handed out
-current_handed : (manager : ManagerKind) (first : ℕ) (actions : List Action) (set : ℕ) → is_current (after (start manager first) actions) set ≡ true → set < (after (start manager first) actions).next
+pub current_handed : (manager : ManagerKind) (first : ℕ) (actions : List Action) (set : ℕ) → is_current (after (start manager first) actions) set ≡ true → set < (after (start manager first) actions).next
 current_handed manager first actions set now = by (nat_lt set (after (start manager first) actions).next) (ltb-true set (after (start manager first) actions).next) (ltb-false set (after (start manager first) actions).next)
   where
     by : (b : Bool) → (b ≡ true → set < (after (start manager first) actions).next) → (b ≡ false → (after (start manager first) actions).next ≤ set) → set < (after (start manager first) actions).next

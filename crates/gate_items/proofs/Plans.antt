@@ -37,7 +37,7 @@ module _ (s : State) (test : QueueItem → Bool) (k : ℕ) (stands : Stands (fin
   parts : (made : List QueueItem → List QueueItem → Plan) → made (before test s.items) (behind test s.items) ≡ made (take k s.items) (drop (k + 1) s.items)
   parts made = ap (λ front. made front (behind test s.items)) stands.ahead ∙ ap (made (take k s.items)) after
 
-  found : (d : QueueItem) → find test s.items ≡ Some (get_or s.items k d)
+  pub found : (d : QueueItem) → find test s.items ≡ Some (get_or s.items k d)
   found d = let i : ItemAt s.items k = item_at s.items k stands.inside in stands.is ∙ i.is ∙ ap (λ x. Some x) (i.read d)
 
   found_some : ItemAt s.items k

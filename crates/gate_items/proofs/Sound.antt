@@ -44,7 +44,7 @@ fresh next old kept made items sets parts some chunk = record {
     by before n false below above = let gone : times n old ≡ 0 = before.high n (above refl) in omega (arith, parts n, some n, gone, chunk.most n)
 
 -- what may be done to the items
-abbrev FreshPlan : State → Plan → Type 0
+abbrev pub FreshPlan : State → Plan → Type 0
 FreshPlan s (Refuses why) = Unit {0}
 FreshPlan s (Makes items sets) = Fresh s.next s.items items sets
 
@@ -151,7 +151,7 @@ module _ (s : State) where
   of_reset key None e = tt
   of_reset key (Some item) e = renewed_from (is_of key) s.items item e s.next s.manager
 
-  fresh_plan : (action : Action) → FreshPlan s (plan s action)
+  pub fresh_plan : (action : Action) → FreshPlan s (plan s action)
   fresh_plan (action.Trigger key patchset jobs) = of_trigger key patchset jobs
   fresh_plan (action.Result result) = of_result result (find (has_set result.set) s.items) refl
   fresh_plan (action.Manage (manage.Dequeue key)) = of_dequeue key (find (is_of key) s.items) refl
@@ -185,14 +185,14 @@ pub record Goes (s next : State) : Type 0 where
   pub fewer : (n : ℕ) → n < s.next → times n next.items ≤ times n s.items
   pub sound : Sound s.next s.items → Sound next.next next.items
 
-abbrev made_by : State → List QueueItem → ℕ → State
+abbrev pub made_by : State → List QueueItem → ℕ → State
 made_by s items sets = record { manager = s.manager; next = s.next + sets; items = staying s.manager items; reported = s.reported ++ map report_of (leaving s.manager items) }
 
 module _ (s : State) where
   stays : Goes s s
   stays = record { rises = omega arith; fewer = λ n h. omega arith; sound = λ before. before }
 
-  fewer_sound : (items : List QueueItem) (sets : ℕ) → Sound (s.next + sets) items → Sound (s.next + sets) (staying s.manager items)
+  pub fewer_sound : (items : List QueueItem) (sets : ℕ) → Sound (s.next + sets) items → Sound (s.next + sets) (staying s.manager items)
   fewer_sound items sets sound = record {
     most = λ n. omega (arith, fewer_staying s.manager n items, sound.most n);
     high = λ n h. omega (arith, fewer_staying s.manager n items, sound.high n h);

@@ -6,4 +6,6 @@ pub mod Keys
 pub mod Machine
 pub mod Outcomes
 pub mod Ring
+pub mod Sets
 pub mod Steps
+pub mod Words

@@ -63,3 +63,25 @@ pub enum Discard {
     /// There are too few numbers left for the build sets that the action asks for.
     Numbers,
 }
+
+impl Discard {
+    ghost use Rattle.std.specs.Prelude.{◌≡◌};
+    ghost use Rattle.gate_items.specs.Words.{discard_word};
+
+    /// The word that is printed for it.
+    pub fn word(self) -> &'static str
+        ensures { result.now ≡ discard_word self }
+    {
+        match self {
+            Discard::NoKey => "no-key",
+            Discard::NoJobs => "no-jobs",
+            Discard::Known => "known",
+            Discard::Older => "older",
+            Discard::NotCurrent => "not-current",
+            Discard::NoJob => "no-job",
+            Discard::Repeated => "repeated",
+            Discard::NoItem => "no-item",
+            Discard::Numbers => "numbers",
+        }
+    }
+}

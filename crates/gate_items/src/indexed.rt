@@ -1,4 +1,4 @@
-ghost use Rattle.std.specs.Prelude.{◌≡◌, ◌<◌, OnErr, length};
+ghost use Rattle.std.specs.Prelude.{◌≡◌, ◌<◌, OnErr, length, option_map};
 ghost use Rattle.std.specs.List.{find};
 ghost use Rattle.gate_items.specs.History.{MayTakeMemory, is_current, start};
 ghost use Rattle.gate_items.specs.Machine.{after_plan, apply, dequeued, has_set, is_of, placing, reset, resulted, triggered};
@@ -6,7 +6,7 @@ ghost use Rattle.gate_items.specs.Steps.{Does};
 
 use crate::action::{Action, Discard, JobResult, Manage, Outcome};
 use crate::index::Index;
-use crate::item::Report;
+use crate::item::{QueueItem, Report};
 use crate::key::Key;
 use crate::queue_items::QueueItems;
 use crate::report::report_of;
@@ -79,6 +79,23 @@ impl Indexed {
         ensures { result ≡ is_current self.now set }
     {
         self.index.place_of_set(set).is_some()
+    }
+
+    // The item with this build set.
+    pub(crate) fn item(&self, set: u64) -> Option<&QueueItem>
+        ensures { option_map (λ item. item.now) result ≡ find (has_set set) self.now.items }
+    {
+        match self.index.place_of_set(set) {
+            None => None,
+            Some(place) => self.index.items.get(&place),
+        }
+    }
+
+    // The number that the next build set gets.
+    pub(crate) fn next_set(&self) -> u64
+        ensures { result ≡ self.now.next }
+    {
+        self.next
     }
 
     // Does what an action asks for, and then reports.

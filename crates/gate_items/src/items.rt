@@ -1,11 +1,12 @@
-ghost use Rattle.std.specs.Prelude.{◌≡◌, OnErr, false, ◌<◌, ◌≤◌, ℕ, length};
+ghost use Rattle.std.specs.Prelude.{◌≡◌, OnErr, false, ◌<◌, ◌≤◌, ℕ, length, option_map};
+ghost use Rattle.std.specs.List.{find};
 ghost use Rattle.gate_items.specs.History.{IsLate, MayTakeMemory, is_current, start};
-ghost use Rattle.gate_items.specs.Machine.{apply};
+ghost use Rattle.gate_items.specs.Machine.{apply, has_set};
 ghost use Rattle.gate_items.specs.Steps.{Does};
 
 use crate::action::{Action, Outcome};
 use crate::indexed::Indexed;
-use crate::item::Report;
+use crate::item::{QueueItem, Report};
 use crate::ordered::Ordered;
 use crate::queue_items::QueueItems;
 use gate_record::{ManagerKind, Memory};
@@ -102,6 +103,26 @@ impl Items {
         match &self.kept {
             Kept::Ordered(ordered) => ordered.current(set),
             Kept::Indexed(indexed) => indexed.current(set),
+        }
+    }
+
+    /// The item with this build set, if there is one.
+    pub fn item(&self, set: u64) -> Option<&QueueItem>
+        ensures { option_map (λ item. item.now) result ≡ find (has_set set) self.now.items }
+    {
+        match &self.kept {
+            Kept::Ordered(ordered) => ordered.item(set),
+            Kept::Indexed(indexed) => indexed.item(set),
+        }
+    }
+
+    /// The number that the next build set gets: each that was handed out is less.
+    pub fn next_set(&self) -> u64
+        ensures { result ≡ self.now.next }
+    {
+        match &self.kept {
+            Kept::Ordered(ordered) => ordered.next_set(),
+            Kept::Indexed(indexed) => indexed.next_set(),
         }
     }
 

@@ -23,7 +23,9 @@ pub use item::{Build, QueueItem, Report};
 pub use items::Items;
 pub use key::Key;
 pub use laws::{
-    cancelled_build_sets_change_nothing, each_item_has_its_own_build_set,
+    cancelled_build_sets_change_nothing, discarded_actions_change_nothing,
+    each_action_goes_through_its_queue, each_action_is_for_one_key,
+    each_build_set_begins_and_ends_once, each_item_has_its_own_build_set,
     each_item_is_an_old_one_or_has_a_new_build_set, each_outcome_is_that_of_one_result,
     late_results_change_nothing, no_build_set_comes_again,
 };

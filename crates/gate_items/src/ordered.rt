@@ -1,4 +1,4 @@
-ghost use Rattle.std.specs.Prelude.{◌≡◌, OnErr, false, ◌<◌, ◌≤◌, ◌+◌, ℕ, List, IfOk, length, slice_index_or, None, Some};
+ghost use Rattle.std.specs.Prelude.{◌≡◌, OnErr, false, ◌<◌, ◌≤◌, ◌+◌, ℕ, List, IfOk, length, option_map, slice_index_or, None, Some};
 ghost use Rattle.std.specs.List.{find, position};
 ghost use Rattle.gate_items.specs.History.{IsLate, is_current, start};
 ghost use Rattle.gate_items.specs.Inner.History.{IsTrigger};
@@ -8,7 +8,7 @@ ghost use Rattle.gate_items.specs.Inner.Steps.{Judges, changed, dequeued_at, end
 ghost use Rattle.gate_items.specs.declared.item.QueueItem.{QueueItem as Item};
 
 use crate::action::{Action, Discard, JobResult, Manage, Outcome};
-use crate::item::Report;
+use crate::item::{QueueItem, Report};
 use crate::key::Key;
 use crate::queue_items::QueueItems;
 use crate::report::report_complete;
@@ -75,6 +75,23 @@ impl Ordered {
         ensures { result ≡ is_current self.now set }
     {
         self.ring.place_of_set(set).is_some()
+    }
+
+    // The item with this build set.
+    pub(crate) fn item(&self, set: u64) -> Option<&QueueItem>
+        ensures { option_map (λ item. item.now) result ≡ find (has_set set) self.now.items }
+    {
+        match self.ring.place_of_set(set) {
+            None => None,
+            Some(place) => Some(self.ring.item(place)),
+        }
+    }
+
+    // The number that the next build set gets.
+    pub(crate) fn next_set(&self) -> u64
+        ensures { result ≡ self.now.next }
+    {
+        self.ring.next()
     }
 
     // Does what an action asks for, and then reports.
