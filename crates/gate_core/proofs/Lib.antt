@@ -1,8 +1,6 @@
 pub mod AllSteps
-pub mod Arrivals
 pub mod Beginnings
 pub mod Counting
-pub mod Delivering
 pub mod Elements
 pub mod EveryChain
 pub mod EveryRun
@@ -17,12 +15,10 @@ pub mod ItemsSeen
 pub mod Lines
 pub mod LowerLaws
 pub mod Makings
-pub mod Maps
 pub mod Outcomes
 pub mod Processing
 pub mod Pushes
 pub mod Puts
-pub mod Readings
 pub mod Refusals
 pub mod Reported
 pub mod RightAnswers

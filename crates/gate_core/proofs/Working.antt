@@ -20,16 +20,13 @@ use Rattle.gate_core.specs.History.{History, finished, processed_by}
 use Rattle.gate_core.specs.States.{TenantState, State, with_gathered}
 use Rattle.gate_core.specs.Steps.{with_item}
 use Rattle.gate_tenant.specs.Dispatching.{is_from}
-use Rattle.gate_core.proofs.Arrivals.{same_as_itself}
+use Rattle.gate_ways.proofs.Arrivals.{same_as_itself}
 use Rattle.gate_core.proofs.Fits.{fits_given, fits_still}
-use Rattle.gate_core.proofs.Maps.{filter_map_push, filter_map_still}
+use Rattle.gate_ways.proofs.Maps.{filter_map_push, filter_map_still, the_same}
 use Rattle.gate_core.proofs.Sendings.{differs}
 use Rattle.gate_core.proofs.Spots.{AfterSet, after_set, another, it}
 use Rattle.gate_core.proofs.Tenants.{room_after}
 use Rattle.gate_core.proofs.Streams.{ConnSame, Holds, PipeHolds, PipeSame, TenantHolds, conn_same, generation_of, hand_of, on_way, pipe_of, pipe_same, put_same, queue_of, tenant_same}
-
-pub the_same : {X : Type 0} (x y : X) → Some x ≡ Some y → x ≡ y
-the_same x y e = ap (λ (o : Option _). unwrap_or o x) e
 
 -- a tenant that changes, where nothing else does
 module _ (gens : Generations) (h h' : History) (state : State) (t0 : ℕ) (ten ten' : TenantState) (at : slice_get state.tenants t0 ≡ Some ten)

@@ -1,27 +1,21 @@
--- What a history of steps and answers says: which records were accepted, which events are wanted, what was posted to the
--- pipelines, and what they have processed.
-use Rattle.std.specs.Prelude.{◌≡◌, ℕ, suc, ◌+◌, ◌-◌, ◌==◌, ◌&&◌, ◌||◌, List, [], ◌∷◌, ◌++◌, Bool, true, false, length, map, Option, Some, None, option_and_then, option_map, count_by, slice_get, if◌then◌else◌}
-use Rattle.std.specs.List.{cons_option, filter_map, list_any, enumerate_from}
+-- What a history of steps and answers says: which records were accepted, what was posted to the pipelines, and what they have
+-- processed.
+use Rattle.std.specs.Prelude.{◌≡◌, ℕ, suc, ◌+◌, ◌-◌, ◌==◌, ◌&&◌, ◌||◌, List, [], ◌∷◌, ◌++◌, Bool, true, false, length, map, Option, Some, None, option_map, count_by, if◌then◌else◌}
+use Rattle.std.specs.List.{cons_option, filter_map, list_any}
 use Rattle.std.specs.Option.{option_to_list}
 use Rattle.gate_record.specs.declared.ids.PipelineId.{PipelineId}
 use Rattle.gate_record.specs.declared.ids.Stamp.{Stamp}
 use Rattle.gate_record.specs.declared.ids.TenantId.{TenantId}
-use Rattle.gate_record.specs.declared.reading.Reading.{Reading}
-use Rattle.gate_record.specs.declared.reading.Reading.TheVariants as reading
 use Rattle.gate_record.specs.declared.record.Record.{Record}
-use Rattle.gate_record.specs.Reading.{reading_of}
 use Rattle.gate_config.specs.declared.config.Config.{Config}
-use Rattle.gate_config.specs.declared.generations.Generations.{Generations}
-use Rattle.gate_config.specs.Generations.{config_at}
 use Rattle.gate_record.specs.Entries.{beside}
-use Rattle.gate_config.specs.Selection.{selects}
 use Rattle.gate_items.specs.declared.action.Action.{Action}
 use Rattle.gate_items.specs.declared.action.JobResult.{JobResult}
 use Rattle.gate_items.specs.declared.action.Manage.{Manage}
 use Rattle.gate_items.specs.declared.action.Outcome.{Outcome}
 use Rattle.gate_pipeline.specs.Histories.{action_of, managing, outcome_of, resulting, stamp_of, triggering}
 use Rattle.gate_pipeline.specs.States.{Processed}
-use Rattle.gate_pipeline.specs.Triggers.{trigger_of}
+use Rattle.gate_ways.specs.Wanted.{asked_among}
 use Rattle.gate_core.specs.declared.answer.Answer.{Answer}
 use Rattle.gate_core.specs.declared.answer.Answer.TheVariants.{Accepted, Closed, Full, Moved, Idle, Turned, Passed}
 use Rattle.gate_core.specs.declared.step.Step.{Step}
@@ -88,7 +82,7 @@ abbrev pub posted_result : ℕ → ℕ → Step → Option JobResult
 posted_result t p (PostResult u q ended) = if (u.0 == t) && (q.0 == p) then Some ended else None
 posted_result t p other = None
 
--- ---- what was accepted and what is wanted
+-- ---- what was accepted
 
 abbrev pub accepted_in : ℕ → Step × Answer → Option Record
 accepted_in c event = if is_accepted event.1 then offered_to c event.0 else None
@@ -124,19 +118,6 @@ accepted_in_force c history = beside (renewals c history) (accepted_records c hi
 abbrev pub EachHasItsGeneration : Type 0
 EachHasItsGeneration = (c : ℕ) (history : History) → accepted_behind c 0 history ≡ accepted_in_force c history
 
--- the number of something, where it passes
-abbrev pub number_where : {X : Type 0} → (X → Bool) → ℕ × X → Option ℕ
-number_where test entry = if test entry.1 then Some entry.0 else None
-
--- pipeline p of tenant t selects the record by the generation in force at it
-abbrev pub selects_in_force : Generations → ℕ → ℕ → ℕ → ℕ × Record → Bool
-selects_in_force gens t p c (g, line) = selects (config_at gens g) t p c line
-
--- the numbers, rising from 0, of the records that pipeline p of tenant t selects among those of connection c, each beside the
--- generation in force at it
-abbrev pub wanted : Generations → ℕ → ℕ → ℕ → List (ℕ × Record) → List ℕ
-wanted gens t p c records = filter_map (number_where (selects_in_force gens t p c)) (enumerate_from 0 records)
-
 -- ---- what was processed
 
 abbrev pub processed_in : ℕ → ℕ → Step × Answer → Option Processed
@@ -157,32 +138,12 @@ outcomes t p history = map outcome_of (processed_by t p history)
 abbrev pub done : ℕ → ℕ → History → List Stamp
 done t p history = filter_map stamp_of (processed_by t p history)
 
--- the number of a stamp of connection c
-abbrev pub number_from : ℕ → Stamp → Option ℕ
-number_from c stamp = if stamp.conn.0 == c then Some stamp.number else None
-
--- those of connection c, by their numbers
-abbrev pub numbers_from : ℕ → List Stamp → List ℕ
-numbers_from c stamps = filter_map (number_from c) stamps
-
 -- the triggers among the actions that it has processed, each with its stamp
 abbrev pub processed_triggers : ℕ → ℕ → History → List (Option Stamp × Action)
 processed_triggers t p history = filter_map triggering (processed_by t p history)
 
 abbrev pub stamp_with : Option Stamp × Action → Option Stamp
 stamp_with trigger = trigger.0
-
--- the action that a record of this stamp asks for, where it is an event
-abbrev pub asked_of : Config → ℕ → ℕ → Stamp → Reading → Option Action
-asked_of config t p stamp (reading.Event event) = Some (trigger_of config t p stamp event)
-asked_of config t p stamp (reading.Nothing why) = None
-
--- the action that the record of this stamp asks for, where there is a stamp and its record is among those that its connection
--- accepted
-abbrev pub asked_among : Config → ℕ → ℕ → (ℕ → List Record) → Option Stamp → Option Action
-asked_among config t p records None = None
-asked_among config t p records (Some stamp) =
-    option_and_then (λ (line : Record). asked_of config t p stamp (reading_of line)) (slice_get (records stamp.conn.0) stamp.number)
 
 abbrev pub asked_by : Config → ℕ → ℕ → History → Option Stamp → Option Action
 asked_by config t p history stamp = asked_among config t p (λ c. accepted_records c history) stamp

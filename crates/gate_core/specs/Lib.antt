@@ -4,7 +4,6 @@ pub mod Faults
 pub mod History
 pub mod Inner
 pub mod Late
-pub mod Limits
 pub mod Needs
 pub mod Output
 pub mod Pipelines
@@ -16,5 +15,4 @@ pub mod Shows
 pub mod States
 pub mod Steps
 pub mod Views
-pub mod Ways
 pub mod Worlds

@@ -8,35 +8,23 @@ use Rattle.gate_config.specs.declared.config.TenantSpec.{TenantSpec}
 use Rattle.gate_config.specs.Lookups.{connections_of, tenants_of, lists}
 use Rattle.gate_items.specs.declared.action.Action.{Action}
 use Rattle.gate_items.specs.declared.action.Action.TheVariants as action
-use Rattle.gate_items.specs.declared.action.Discard.{Discard}
-use Rattle.gate_items.specs.declared.action.Discard.TheVariants as discard
 use Rattle.gate_items.specs.declared.action.Manage.TheVariants as manage
 use Rattle.gate_items.specs.declared.action.Outcome.{Outcome}
 use Rattle.gate_items.specs.declared.action.Outcome.TheVariants as outcome
+use Rattle.gate_items.specs.Words.{discard_word}
 use Rattle.gate_core.specs.declared.answer.Answer.{Answer}
 use Rattle.gate_core.specs.declared.answer.Answer.TheVariants as answer
-use Rattle.gate_core.specs.declared.report.ConnectionReport.{ConnectionReport}
-use Rattle.gate_core.specs.declared.report.EndCause.{EndCause}
-use Rattle.gate_core.specs.declared.report.EndCause.TheVariants as cause
-use Rattle.gate_core.specs.declared.report.PipelineReport.{PipelineReport}
-use Rattle.gate_core.specs.declared.report.RunReport.{RunReport}
-use Rattle.gate_core.specs.History.{numbers_from}
+use Rattle.gate_ways.specs.declared.report.ConnectionReport.{ConnectionReport}
+use Rattle.gate_ways.specs.declared.report.EndCause.{EndCause}
+use Rattle.gate_ways.specs.declared.report.EndCause.TheVariants as cause
+use Rattle.gate_ways.specs.declared.report.PipelineReport.{PipelineReport}
+use Rattle.gate_ways.specs.declared.report.RunReport.{RunReport}
+use Rattle.gate_ways.specs.Wanted.{numbers_from}
 
 -- ---- answers, each on a line
 
 abbrev pub number_text : ℕ → List ℕ
 number_text n = codes " " ++ decimal n
-
-abbrev pub discard_word : Discard → List ℕ
-discard_word discard.NoKey = codes "no-key"
-discard_word discard.NoJobs = codes "no-jobs"
-discard_word discard.Known = codes "known"
-discard_word discard.Older = codes "older"
-discard_word discard.NotCurrent = codes "not-current"
-discard_word discard.NoJob = codes "no-job"
-discard_word discard.Repeated = codes "repeated"
-discard_word discard.NoItem = codes "no-item"
-discard_word discard.Numbers = codes "numbers"
 
 abbrev pub outcome_text : Outcome → List ℕ
 outcome_text outcome.Applied = codes " applied\n"

@@ -10,7 +10,6 @@ mod pipeline;
 mod playing;
 mod posts;
 mod replaying;
-mod report;
 mod reporting;
 mod script;
 mod script_words;
@@ -22,18 +21,15 @@ mod transcript;
 mod world;
 
 pub use answer::Answer;
-pub use laws::{
-    each_record_has_its_generation, each_way_delivers, every_chain_delivers, every_run_delivers,
+pub use gate_ways::{
+    ConnectionReport, EndCause, PLACES, PipelineReport, RunReport, each_way_delivers,
     what_is_wanted_arrives,
 };
+pub use laws::{each_record_has_its_generation, every_chain_delivers, every_run_delivers};
 pub use output::report_text;
 pub use replaying::{ReplayFault, replay};
-pub use report::{ConnectionReport, EndCause, PipelineReport, RunReport};
 pub use script::{ScriptFault, Scripted, read_script};
 pub use showing::show_text;
 pub use step::Step;
 pub use transcript::{Transcript, play, run};
 pub use world::World;
-
-/// How many values a queue holds.
-pub const PLACES: usize = 4096;

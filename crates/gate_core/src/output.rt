@@ -3,10 +3,10 @@ ghost use Rattle.gate_core.specs.Output.{answer_line, cause_word, connection_lin
 ghost use Rattle.gate_config.specs.Lookups.{connections_of, tenants_of};
 
 use crate::answer::Answer;
-use crate::report::{ConnectionReport, EndCause, PipelineReport, RunReport};
 use gate_config::{Config, PipelineSpec, TenantSpec};
-use gate_items::{Action, Discard, Manage, Outcome};
+use gate_items::{Action, Manage, Outcome};
 use gate_record::{ConnId, Memory, Sequence, Stamp, TenantId, Text, name_text};
+use gate_ways::{ConnectionReport, EndCause, PipelineReport, RunReport};
 use std::alloc::Global;
 
 /// Adds an answer to a text, as a line.
@@ -30,7 +30,7 @@ pub fn push_answer(out: &mut String, alloc: Global, answer: &Answer) -> Result<(
     Ok(())
 }
 
-ghost use Rattle.gate_core.specs.Output.{action_text, discard_word, outcome_text, stamp_text, turned_line};
+ghost use Rattle.gate_core.specs.Output.{action_text, outcome_text, stamp_text, turned_line};
 
 fn push_turned(
     out: &mut String,
@@ -84,27 +84,11 @@ fn push_outcome(out: &mut String, outcome: Outcome) -> Result<(), Memory>
         Outcome::Applied => out.push_str(" applied\n")?,
         Outcome::Discarded(why) => {
             out.push_str(" discarded ")?;
-            out.push_str(discard_word(why))?;
+            out.push_str(why.word())?;
             out.push_str("\n")?;
         }
     }
     Ok(())
-}
-
-fn discard_word(why: Discard) -> &'static str
-    ensures { result.now ≡ discard_word why }
-{
-    match why {
-        Discard::NoKey => "no-key",
-        Discard::NoJobs => "no-jobs",
-        Discard::Known => "known",
-        Discard::Older => "older",
-        Discard::NotCurrent => "not-current",
-        Discard::NoJob => "no-job",
-        Discard::Repeated => "repeated",
-        Discard::NoItem => "no-item",
-        Discard::Numbers => "numbers",
-    }
 }
 
 fn push_connections(

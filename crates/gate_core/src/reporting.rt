@@ -4,9 +4,9 @@ ghost use Rattle.gate_core.specs.Views.{connection_view, tenant_view};
 
 use crate::connection::Connection;
 use crate::pipeline::Pipeline;
-use crate::report::{ConnectionReport, EndCause, PipelineReport};
 use crate::tenant::Tenant;
 use gate_record::{Memory, Sequence};
+use gate_ways::{ConnectionReport, EndCause, PipelineReport};
 use std::alloc::Global;
 
 /// What each connection accepted, when it was renewed, and whether it was closed.

@@ -5,7 +5,6 @@ use crate::answer::Answer;
 use crate::connection::{Connection, ConnectionStep};
 use crate::making::{new_connections, new_tenants};
 use crate::pipeline::PipelineStep;
-use crate::report::RunReport;
 use crate::reporting::{report_connections, report_tenants};
 use crate::sending::send;
 use crate::step::Step;
@@ -13,6 +12,7 @@ use crate::tenant::{Tenant, TenantStep};
 use gate_config::Generations;
 use gate_items::Items;
 use gate_record::{ConnId, Memory, PipelineId, TenantId};
+use gate_ways::RunReport;
 use std::alloc::Global;
 
 /// The core at one moment: the generations of a configuration, and its connections and tenants at work.

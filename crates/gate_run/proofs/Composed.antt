@@ -25,7 +25,7 @@ use Rattle.gate_tenant.specs.Dispatching.{chosen, conn_of_item, is_from}
 use Rattle.gate_queue.specs.declared.tagged.Tagged.{Tagged}
 use Rattle.gate_queue.specs.States.{AreFrom, IsDelivered}
 use Rattle.gate_queue.specs.Tagged.{values_of}
-use Rattle.gate_core.specs.Ways.{Way}
+use Rattle.gate_ways.specs.Ways.{Way}
 use Rattle.gate_run.specs.Seats.{values}
 
 -- ---- the values of senders

@@ -30,13 +30,13 @@ use Rattle.gate_queue.specs.declared.tagged.Tagged.{Tagged}
 use Rattle.gate_queue.specs.Seats.{QueueName, SenderSeat, Shape, TakerSeat}
 use Rattle.gate_queue.specs.States.{AreFrom, IsDelivered}
 use Rattle.gate_queue.specs.Tagged.{values_of}
-use Rattle.gate_core.specs.declared.report.ConnectionReport.{ConnectionReport}
-use Rattle.gate_core.specs.declared.report.EndCause.{EndCause}
-use Rattle.gate_core.specs.declared.report.EndCause.TheVariants as cause
-use Rattle.gate_core.specs.declared.report.PipelineReport.{PipelineReport}
-use Rattle.gate_core.specs.declared.report.RunReport.{RunReport}
-use Rattle.gate_core.specs.History.{asked_among, asked_of, number_from, numbers_from, wanted}
-use Rattle.gate_core.specs.Ways.{EachWayDelivers, IsEventOf, Way, number_of_item}
+use Rattle.gate_ways.specs.declared.report.ConnectionReport.{ConnectionReport}
+use Rattle.gate_ways.specs.declared.report.EndCause.{EndCause}
+use Rattle.gate_ways.specs.declared.report.EndCause.TheVariants as cause
+use Rattle.gate_ways.specs.declared.report.PipelineReport.{PipelineReport}
+use Rattle.gate_ways.specs.declared.report.RunReport.{RunReport}
+use Rattle.gate_ways.specs.Wanted.{asked_among, asked_of, number_from, numbers_from, wanted}
+use Rattle.gate_ways.specs.Ways.{EachWayDelivers, IsEventOf, Way, number_of_item}
 use Rattle.gate_run.specs.declared.putting.PassedOn.{PassedOn}
 use Rattle.gate_run.specs.declared.reader.ReaderEnd.{ReaderEnd}
 use Rattle.gate_run.specs.declared.reading.Renewal.{Renewal}

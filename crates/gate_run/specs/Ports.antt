@@ -8,7 +8,7 @@ use Rattle.gate_config.specs.Lookups.{pipelines_of, tenants_of}
 use Rattle.gate_items.specs.declared.action.JobResult.{JobResult}
 use Rattle.gate_items.specs.declared.action.Manage.{Manage}
 use Rattle.gate_queue.specs.Seats.{SenderSeat, Shape, TakerSeat, with_put}
-use Rattle.gate_core.specs.Limits.{places}
+use Rattle.gate_ways.specs.Limits.{places}
 use Rattle.gate_source.specs.Stops.{Note}
 use Rattle.gate_run.specs.Lists.{Pairwise}
 use Rattle.gate_run.specs.Seats.{fresh_head, fresh_tail}

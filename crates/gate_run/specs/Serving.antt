@@ -12,10 +12,10 @@ use Rattle.gate_config.specs.Lookups.{lists}
 use Rattle.gate_items.specs.declared.action.Action.{Action}
 use Rattle.gate_pipeline.specs.Histories.{AreProcessed, History, triggering}
 use Rattle.gate_pipeline.specs.States.{State}
-use Rattle.gate_core.specs.declared.report.ConnectionReport.{ConnectionReport}
-use Rattle.gate_core.specs.declared.report.PipelineReport.{PipelineReport}
-use Rattle.gate_core.specs.declared.report.RunReport.{RunReport}
-use Rattle.gate_core.specs.History.{asked_among, numbers_from, wanted}
+use Rattle.gate_ways.specs.declared.report.ConnectionReport.{ConnectionReport}
+use Rattle.gate_ways.specs.declared.report.PipelineReport.{PipelineReport}
+use Rattle.gate_ways.specs.declared.report.RunReport.{RunReport}
+use Rattle.gate_ways.specs.Wanted.{asked_among, numbers_from, wanted}
 use Rattle.gate_source.specs.Feeds.{AreFirst, Told}
 use Rattle.gate_source.specs.Sources.{NeverFalls}
 use Rattle.gate_run.specs.Asked.{AreKnown, KnowsStill}

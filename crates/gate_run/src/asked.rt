@@ -1,6 +1,7 @@
 //! What a run is asked for from outside: to stop, and to put later generations of its configuration in force.
 ghost use Rattle.std.specs.Prelude.{◌≡◌, ◌<◌, ◌+◌, IfErr, IfOk, None, OnErr, is_some, length};
 
+use crate::stopper::Stopper;
 use gate_record::{Memory, Sequence, Shared};
 use gate_source::{StopCause, StopCell, StopNote};
 use std::alloc::Global;
@@ -128,6 +129,14 @@ impl Asked {
         };
         self.known.push_reserved(note);
         Ok(self.known.len() as u32)
+    }
+
+    /// Asks for the stop from another place.
+    pub(crate) fn stopper(&self) -> Result<Stopper, Memory>
+        ensures cell { IfOk result (λ stopper. stopper.cell ≡ self.now.note.cell) }
+        ensures knows_none { IfOk result (λ stopper. stopper.cause ≡ None) }
+    {
+        Ok(Stopper::of(self.stop.share()?))
     }
 
     /// The cell of the cause to stop.

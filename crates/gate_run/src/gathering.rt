@@ -16,11 +16,11 @@ use crate::putting::PassedOn;
 use crate::reader::ReaderEnd;
 use crate::reading::Renewal;
 use crate::worker::WorkerEnd;
-use gate_core::{ConnectionReport, PipelineReport};
 use gate_pipeline::Pipeline;
 use gate_queue::{FreeHead, FreeTail, Head, Tail};
 use gate_record::{ConnEntry, Memory, PipelineItem, Sequence, TenantItem};
 use gate_source::StopNote;
+use gate_ways::{ConnectionReport, PipelineReport};
 use std::alloc::Global;
 
 /// What the threads of a run handed back.

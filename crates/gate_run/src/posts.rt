@@ -7,13 +7,14 @@ ghost use Rattle.gate_run.specs.Ports.{AreOpened, IsOpened, pipeline_counts};
 
 use crate::asked::{Asked, RenewPostFault};
 use crate::lane::open_queue;
+use crate::stopper::Stopper;
 use crossbeam_utils::sync::{Parker, Unparker};
 use gate_config::{Config, Generations};
-use gate_core::PLACES;
 use gate_items::{JobResult, Manage};
 use gate_queue::{EventQueue, Full, Head, Tagged, Tail};
 use gate_record::{Memory, PipelineId, Shared, TenantId};
 use gate_source::StopCause;
+use gate_ways::PLACES;
 use std::alloc::Global;
 use std::marker::Model;
 use std::sync::Wait;
@@ -352,5 +353,13 @@ impl Inbox {
         let (_posts, tenants) = open_tenants(alloc, 1, config)?;
         let (_other, asked) = Asked::open(alloc, 0)?;
         Ok(Inbox { tenants, asked })
+    }
+
+    /// What asks the run of this inbox to stop, from whichever thread. `Memory` where there is none for it.
+    pub fn stopper(&self) -> Result<Stopper, Memory>
+        ensures cell { IfOk result (λ stopper. stopper.cell ≡ self.now.note.cell) }
+        ensures knows_none { IfOk result (λ stopper. stopper.cause ≡ None) }
+    {
+        self.asked.stopper()
     }
 }

@@ -1,7 +1,7 @@
 //! The thread that reads a connection's records into its queue.
 ghost use Rattle.std.specs.Prelude.{◌≡◌};
 ghost use Rattle.gate_queue.specs.Seats.{IsTailOf};
-ghost use Rattle.gate_core.specs.declared.report.EndCause.TheVariants as cause;
+ghost use Rattle.gate_ways.specs.declared.report.EndCause.TheVariants as cause;
 ghost use Rattle.gate_run.specs.Inner.Readers.{CanRead, Closes, HasRead};
 
 use crate::naps::Naps;
@@ -9,12 +9,12 @@ use crate::reading::{Reading, Renewal};
 use crate::signals::Signals;
 use crate::works::Work;
 use crossbeam_utils::sync::Parker;
-use gate_core::EndCause;
 use gate_queue::{EventQueue, Tail};
 use gate_record::{ConnEntry, ConnId};
 use gate_source::{
     ClosedSource, FeedStep, RecordFeed, Source, StopCell, StopNote, accepted_records_are_numbered,
 };
+use gate_ways::EndCause;
 use std::alloc::Global;
 use std::sync::Wait;
 use std::thread::Threads;

@@ -8,10 +8,10 @@ ghost use Rattle.gate_run.specs.Inner.Readers.{Continues, CutsShort, Marks, Take
 
 use crate::signals::Signals;
 use crossbeam_utils::sync::Parker;
-use gate_core::EndCause;
 use gate_queue::EventQueue;
 use gate_record::{ConnEntry, ConnId, Record};
 use gate_source::{OfferFault, RenewFault, Source, StopCell, StopNote};
+use gate_ways::EndCause;
 use std::sync::Wait;
 
 /// A generation that was put in force.

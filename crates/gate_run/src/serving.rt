@@ -24,13 +24,13 @@ use crate::queues::{Queues, open_queues};
 use crate::running::run_between;
 use crate::stage::{settle_lanes, settle_stage};
 use gate_config::Generations;
-use gate_core::{PLACES, RunReport, each_way_delivers};
 use gate_pipeline::{Pipeline, what_was_taken_is_processed};
 use gate_queue::{EventQueue, FreeQueue};
 use gate_record::{
     ConnEntry, Memory, PipelineItem, TenantItem, entries_have_generations, records_have_generations,
 };
 use gate_source::RecordFeed;
+use gate_ways::{PLACES, RunReport, each_way_delivers};
 use std::alloc::Global;
 use std::sync::Wait;
 use std::thread::Threads;

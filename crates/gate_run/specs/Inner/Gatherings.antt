@@ -1,6 +1,6 @@
 -- Beside `Gatherings`: what private contracts and proofs cite.
 use Rattle.std.specs.Prelude.{List, fold}
-use Rattle.gate_core.specs.declared.report.ConnectionReport.{ConnectionReport}
+use Rattle.gate_ways.specs.declared.report.ConnectionReport.{ConnectionReport}
 use Rattle.gate_source.specs.Stops.{Note}
 use Rattle.gate_run.specs.declared.reader.ReaderEnd.{ReaderEnd}
 use Rattle.gate_run.specs.declared.worker.WorkerEnd.{WorkerEnd}

@@ -7,8 +7,8 @@ use Rattle.gate_record.specs.Entries.{AreEntriesOf, beside}
 use Rattle.gate_queue.specs.Seats.{SenderSeat, Shape, with_put}
 use Rattle.gate_source.specs.Sources.{HasAccepted, NeverFalls, State, renewed}
 use Rattle.gate_source.specs.Stops.{IsNoteOf, Note}
-use Rattle.gate_core.specs.declared.report.EndCause.{EndCause}
-use Rattle.gate_core.specs.declared.report.EndCause.TheVariants.{Unclosed, Ended, Stopped, Failed, Memory}
+use Rattle.gate_ways.specs.declared.report.EndCause.{EndCause}
+use Rattle.gate_ways.specs.declared.report.EndCause.TheVariants.{Unclosed, Ended, Stopped, Failed, Memory}
 use Rattle.gate_source.specs.declared.feed.FeedStep.TheVariants.{Got}
 use Rattle.gate_source.specs.Feeds.{AreFirst, Steps, Told}
 use Rattle.gate_source.specs.Inner.Feeds.{Leaves}

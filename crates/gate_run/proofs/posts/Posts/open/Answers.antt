@@ -1,5 +1,5 @@
 use Rattle.std.proofs.Common.{rules, ◌∙◌, sym, ap, length, map}
-use Rattle.gate_core.specs.Limits.{places}
+use Rattle.gate_ways.specs.Limits.{places}
 use Rattle.gate_run.specs.Asked.{AskedView}
 use Rattle.gate_run.specs.PipelineEnds.{ends_of, inbox_of}
 use Rattle.gate_run.specs.Ports.{AreOpened, pipeline_counts}

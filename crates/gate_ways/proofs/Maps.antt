@@ -1,9 +1,12 @@
 -- Lists that are gone through with a function that may leave a value out.
 use Rattle.std.proofs.Common.{◌≡◌, ◌∙◌, sym, ap, refl, ℕ, suc, ◌+◌, List, [], ◌∷◌, ◌++◌, length, Option, Some, None, add-zero, append-nil, arith}
-use Rattle.std.specs.Prelude.{option_and_then}
+use Rattle.std.specs.Prelude.{option_and_then, unwrap_or}
 use Rattle.std.specs.Option.{option_to_list}
 use Rattle.std.specs.List.{filter_map, cons_option, enumerate_from}
 use Rattle.std.proofs.lemmas.List.Elements.{filter_map-append}
+
+pub the_same : {X : Type 0} (x y : X) → Some x ≡ Some y → x ≡ y
+the_same x y e = ap (λ (o : Option _). unwrap_or o x) e
 
 cons_option-nil : {Y : Type 0} (o : Option Y) → cons_option o [] ≡ option_to_list o
 cons_option-nil None = refl

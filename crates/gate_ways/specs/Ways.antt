@@ -17,7 +17,7 @@ use Rattle.gate_config.specs.Lookups.{connections_of, lists}
 use Rattle.gate_forward.specs.Forwarding.{forwarded}
 use Rattle.gate_tenant.specs.Dispatching.{chosen, is_from}
 use Rattle.gate_pipeline.specs.Histories.{is_end}
-use Rattle.gate_core.specs.History.{number_from, wanted}
+use Rattle.gate_ways.specs.Wanted.{number_from, wanted}
 use Rattle.gate_record.specs.Prefixes.{IsPrefixOf}
 
 -- the number of an event of connection c

@@ -21,11 +21,11 @@ use Rattle.gate_config.specs.Selection.{is_listed, selects, selects_reading}
 use Rattle.gate_forward.specs.Forwarding.{conn_id, stamped, forwarded, forwarded_at, forwarded_reading}
 use Rattle.gate_tenant.specs.Dispatching.{chosen, chosen_item, all_marked_in}
 use Rattle.gate_config.specs.Generations.{config_at}
-use Rattle.gate_core.specs.History.{number_from, number_where, selects_in_force, wanted}
+use Rattle.gate_ways.specs.Wanted.{number_from, number_where, selects_in_force, wanted}
 use Rattle.gate_record.specs.Entries.{AreEntriesOf, accepts, begins, closes, generation_behind, renews, with_generations}
 use Rattle.gate_record.specs.Generations.{AreFirstEntries, EntriesHaveGenerations}
-use Rattle.gate_core.specs.Ways.{FirstArrive, WantedArrive, arrives, number_of_item}
-use Rattle.gate_core.proofs.Maps.{enumerate_from-append, filter_map-filter_map, filter_map_push}
+use Rattle.gate_ways.specs.Ways.{FirstArrive, WantedArrive, arrives, number_of_item}
+use Rattle.gate_ways.proofs.Maps.{enumerate_from-append, filter_map-filter_map, filter_map_push}
 use Rattle.std.specs.Option.{option_to_list}
 
 pub same_as_itself : (n : ℕ) → (n == n) ≡ true

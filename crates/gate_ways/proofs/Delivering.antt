@@ -25,16 +25,16 @@ use Rattle.gate_config.specs.Selection.{is_listed, selects_event}
 use Rattle.gate_config.specs.declared.project_set.ProjectSet.{ProjectSet}
 use Rattle.gate_forward.specs.Forwarding.{forwarded, forwarded_at, forwarded_reading, stamped, conn_id}
 use Rattle.gate_tenant.specs.Dispatching.{chosen, chosen_item, all_marked_in, is_end_of, is_from}
-use Rattle.gate_core.specs.History.{wanted}
+use Rattle.gate_ways.specs.Wanted.{wanted}
 use Rattle.gate_record.specs.Prefixes.{IsPrefixOf}
 use Rattle.gate_record.specs.Entries.{AreEntriesOf, accepts, begins, closes, generation_behind, renews, with_generations}
 use Rattle.gate_record.specs.Generations.{EntriesHaveGenerations}
 use Rattle.gate_config.specs.Generations.{config_at}
 use Rattle.gate_pipeline.specs.Histories.{is_end}
-use Rattle.gate_core.specs.Ways.{EachWayDelivers, Way, number_of_item}
-use Rattle.gate_core.proofs.Arrivals.{arrive, brought, by_items}
-use Rattle.gate_core.proofs.Maps.{filter_map_none, filter_map_push}
-use Rattle.gate_core.proofs.Readings.{genuine}
+use Rattle.gate_ways.specs.Ways.{EachWayDelivers, Way, number_of_item}
+use Rattle.gate_ways.proofs.Arrivals.{arrive, brought, by_items}
+use Rattle.gate_ways.proofs.Maps.{filter_map_none, filter_map_push}
+use Rattle.gate_ways.proofs.Readings.{genuine}
 
 -- ---- an end mark that was taken is the last of all
 

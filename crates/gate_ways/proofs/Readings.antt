@@ -25,9 +25,9 @@ use Rattle.gate_config.specs.Lookups.{lists}
 use Rattle.gate_config.specs.Selection.{is_listed, selects_event}
 use Rattle.gate_forward.specs.Forwarding.{conn_id, forwarded, forwarded_at, forwarded_reading, stamped}
 use Rattle.gate_tenant.specs.Dispatching.{chosen, chosen_item, conn_of_item, all_marked_in, is_from}
-use Rattle.gate_core.specs.Ways.{IsEventOf, Way}
-use Rattle.gate_core.proofs.Arrivals.{same_as_itself}
-use Rattle.gate_core.proofs.Working.{the_same}
+use Rattle.gate_ways.specs.Ways.{IsEventOf, Way}
+use Rattle.gate_ways.proofs.Arrivals.{same_as_itself}
+use Rattle.gate_ways.proofs.Maps.{the_same}
 
 -- ---- what is true of each element of a list
 

@@ -1,0 +1,4 @@
+pub mod Arrivals
+pub mod Delivering
+pub mod Maps
+pub mod Readings
