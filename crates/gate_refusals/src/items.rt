@@ -6,7 +6,7 @@ use std::alloc::Global;
 
 // What is done to a pipeline's items, in order: a `trigger` has a patch set, a `result` the number of a build set. A key is that of a
 // change, `CONN:NUMBER`, or of the ref, `CONN:ref`.
-const SCRIPT: &str = "
+pub(crate) const SCRIPT: &str = "
     trigger 1 0:7
     trigger 1 0:ref
     trigger 1 0:8
@@ -74,7 +74,7 @@ fn apply(log: &mut Log, items: &mut Items, action: &Action) -> Result<(), Elsewh
     Ok(())
 }
 
-fn action_of(alloc: Global, line: &str) -> Result<Action, Elsewhere> {
+pub(crate) fn action_of(alloc: Global, line: &str) -> Result<Action, Elsewhere> {
     match line.split_once(' ') {
         Some(("trigger", rest)) => trigger(alloc, rest),
         Some(("result", rest)) => result(alloc, rest),

@@ -1,10 +1,11 @@
 //! Makes the calls of the lower libraries that may be refused memory, a scenario for each word, and tells what comes of them
-//! (`bin/refused-calls`): texts, records, patterns, configurations, items, shared queues and streams. Without words it prints nothing.
+//! (`bin/refused-calls`): texts, records, patterns, configurations, items, journals, shared queues and streams. Without words it prints nothing.
 #![tactic(auto)]
 
 mod configurations;
 mod free_queues;
 mod items;
+mod journals;
 mod patterns;
 mod queues;
 mod records;
@@ -56,6 +57,7 @@ fn run_alone(log: &mut Log, alloc: Global, word: &str) -> Result<(), Elsewhere> 
         "large-patterns" => patterns::run_large(log, alloc),
         "configurations" => configurations::run(log, alloc),
         "items" => items::run(log, alloc),
+        "journals" => journals::run(log, alloc),
         _ => Err(Elsewhere),
     }
 }

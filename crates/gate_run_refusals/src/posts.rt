@@ -35,7 +35,14 @@ fn open_both<R: Wait>(
 
 fn open_without(log: &mut Log, alloc: Global, gens: &Generations) -> Result<(), Elsewhere> {
     let call = "gate_run Inbox::without_posts";
-    let _inbox = made!(log, call, Inbox::without_posts(alloc, gens.first()))?;
+    let inbox = made!(log, call, Inbox::without_posts(alloc, gens.first()))?;
+    let mut stopper = inbox.stopper()?;
+    let held = made!(
+        log,
+        "gate_run Stopper::stop",
+        stopper.stop(StopCause::Caller)
+    )?;
+    say!(log.told, "{held:?}\n");
     Ok(())
 }
 

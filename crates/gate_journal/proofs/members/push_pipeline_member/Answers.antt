@@ -1,0 +1,7 @@
+use Rattle.std.proofs.Common.{◌∙◌, ◌++◌, ap, codes, string_bytes}
+use Rattle.gate_journal.proofs.Pushed.{on_ok}
+use Rattle.gate_journal.proofs.members.push_pipeline_member.Goals as goal
+
+pub returns : goal.returns
+returns c =
+    on_ok c.push_parts.result (λ e. e ∙ ap (λ name. string_bytes c.args.out.now ++ (codes "\"pipeline\":" ++ (name ++ codes ","))) (c.as_str.ensures.value ∙ c.in_ok-name.ensures)) c.push_parts.ensures

@@ -1,0 +1,5 @@
+pub mod Causes
+pub mod Follows
+pub mod Lines
+pub mod Live
+pub mod Members

@@ -1,0 +1,108 @@
+//! The lines of what an action cancels, begins and reports.
+ghost use Rattle.std.specs.Prelude.{◌≡◌, ◌≤◌, ◌-◌, ◌++◌, flat_map, string_bytes, OnOk};
+ghost use Rattle.std.specs.List.{filter_map, find, range_with_len};
+ghost use Rattle.gate_items.specs.Machine.{has_set};
+ghost use Rattle.gate_journal.specs.Lines.{begin_lines, cancel_line, report_line};
+
+use crate::cause::CancelCause;
+use crate::lines::{push_begin, push_cancel, push_report};
+use crate::place::Place;
+use gate_items::{Items, QueueItem, Report};
+use gate_record::{Memory, Stamp};
+use std::alloc::Global;
+use std::collections::VecDeque;
+
+/// The items with the build sets that were handed out from a number on.
+pub(crate) fn push_begun(
+    out: &mut String,
+    alloc: Global,
+    place: &Place<'_>,
+    stamp: Option<Stamp>,
+    items: &Items,
+    from: u64,
+) -> Result<(), Memory>
+    ensures { OnOk result (string_bytes out.new ≡ string_bytes out.old ++ begin_lines place.now.config.now place.now.tenant.0 place.now.pipeline.0 stamp items.now.next (filter_map (λ set. find (has_set set) items.now.items) (range_with_len from (items.now.next - from)))) }
+{
+    let next = items.next_set();
+    let mut set = from;
+    while set < next {
+        push_item(out, alloc, place, stamp, items, set)?;
+        set += 1;
+    }
+    Ok(())
+}
+
+ghost use Rattle.std.specs.Option.{option_to_list};
+
+// The item with a build set, if there is one.
+fn push_item(
+    out: &mut String,
+    alloc: Global,
+    place: &Place<'_>,
+    stamp: Option<Stamp>,
+    items: &Items,
+    set: u64,
+) -> Result<(), Memory>
+    ensures { OnOk result (string_bytes out.new ≡ string_bytes out.old ++ begin_lines place.now.config.now place.now.tenant.0 place.now.pipeline.0 stamp items.now.next (option_to_list (find (has_set set) items.now.items))) }
+{
+    match items.item(set) {
+        Some(item) => push_own(out, alloc, place, stamp, items.next_set(), item),
+        None => Ok(()),
+    }
+}
+
+ghost use Rattle.std.specs.Prelude.{◌==◌, ◌+◌, None, if◌then◌else◌};
+ghost use Rattle.gate_journal.specs.Lines.{begin_line};
+
+// The item of the last number is the trigger's own.
+fn push_own(
+    out: &mut String,
+    alloc: Global,
+    place: &Place<'_>,
+    stamp: Option<Stamp>,
+    next: u64,
+    item: &QueueItem,
+) -> Result<(), Memory>
+    ensures { OnOk result (string_bytes out.new ≡ string_bytes out.old ++ begin_line place.now.config.now place.now.tenant.0 place.now.pipeline.0 (if item.now.set + 1 == next then stamp else None) item.now) }
+{
+    let own = if item.set.checked_add(1) == Some(next) {
+        stamp
+    } else {
+        None
+    };
+    push_begin(out, alloc, place, own, item)
+}
+
+/// What was reported.
+pub(crate) fn push_reports(
+    out: &mut String,
+    alloc: Global,
+    place: &Place<'_>,
+    reports: &[Report],
+) -> Result<(), Memory>
+    ensures { OnOk result (string_bytes out.new ≡ string_bytes out.old ++ flat_map (report_line place.now.config.now place.now.tenant.0 place.now.pipeline.0) reports.now) }
+{
+    let mut rest = reports;
+    while let Some((report, more)) = rest.split_first() {
+        push_report(out, alloc, place, report)?;
+        rest = more;
+    }
+    Ok(())
+}
+
+/// Build sets that are cancelled for one cause.
+pub(crate) fn push_cancelled(
+    out: &mut String,
+    alloc: Global,
+    place: &Place<'_>,
+    cause: CancelCause,
+    sets: VecDeque<u64>,
+) -> Result<(), Memory>
+    ensures { OnOk result (string_bytes out.new ≡ string_bytes out.old ++ flat_map (cancel_line place.now.config.now place.now.tenant.0 place.now.pipeline.0 cause) sets.items) }
+{
+    let mut rest = sets;
+    while let Some(set) = rest.pop_front() {
+        push_cancel(out, alloc, place, cause, set)?;
+    }
+    Ok(())
+}

@@ -1,0 +1,19 @@
+//! The lines of a journal: which build sets a pipeline's actions begin, cancel and report, and what they discard.
+#![tactic(auto)]
+
+mod begun;
+mod cause;
+mod keys;
+mod lines;
+mod live;
+mod members;
+mod pipeline_journal;
+mod place;
+mod queue;
+mod writing;
+
+pub use cause::CancelCause;
+pub use lines::{push_end, push_start};
+pub use pipeline_journal::PipelineJournal;
+pub use place::Place;
+pub use writing::write_lines;

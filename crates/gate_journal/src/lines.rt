@@ -1,0 +1,291 @@
+//! Single lines.
+ghost use Rattle.std.specs.Prelude.{◌≡◌, ◌++◌, codes, decimal, string_bytes, OnOk};
+ghost use Rattle.gate_record.specs.Names.{name_text};
+ghost use Rattle.gate_journal.specs.Lines.{begin_end, begin_line, cancel_line, discard_line, end_line, end_member, line_end, lost_manage, lost_result, lost_trigger, report_end, report_line, start_line, success_member, why_end};
+
+use crate::cause::CancelCause;
+use crate::members::{
+    push_change, push_jobs, push_parts, push_patched, push_pipeline, push_record, push_ref,
+    push_tenant,
+};
+use crate::place::Place;
+use gate_items::{Action, Discard, JobResult, Key, Manage, QueueItem, Report};
+use gate_record::{Memory, Stamp, name_text};
+use std::alloc::Global;
+
+/// A build set begins.
+pub(crate) fn push_begin(
+    out: &mut String,
+    alloc: Global,
+    place: &Place<'_>,
+    stamp: Option<Stamp>,
+    item: &QueueItem,
+) -> Result<(), Memory>
+    ensures { OnOk result (string_bytes out.new ≡ string_bytes out.old ++ begin_line place.now.config.now place.now.tenant.0 place.now.pipeline.0 stamp item.now) }
+{
+    push_set(out, alloc, "{\"begin\":", item.set)?;
+    push_subject(out, alloc, place, item)?;
+    push_patched(out, alloc, place, &item.patchset)?;
+    push_begin_end(out, alloc, place, stamp, &item.key)?;
+    Ok(())
+}
+
+ghost use Rattle.gate_journal.specs.Members.{change_member, jobs_member};
+
+// A change, and the jobs that are run for it.
+fn push_subject(
+    out: &mut String,
+    alloc: Global,
+    place: &Place<'_>,
+    item: &QueueItem,
+) -> Result<(), Memory>
+    ensures { OnOk result (string_bytes out.new ≡ string_bytes out.old ++ (change_member place.now.config.now item.now.key ++ jobs_member item.now.jobs)) }
+{
+    push_change(out, alloc, place.config, &item.key)?;
+    push_jobs(out, alloc, item.jobs.as_slice())?;
+    Ok(())
+}
+
+fn push_begin_end(
+    out: &mut String,
+    alloc: Global,
+    place: &Place<'_>,
+    stamp: Option<Stamp>,
+    key: &Key,
+) -> Result<(), Memory>
+    ensures { OnOk result (string_bytes out.new ≡ string_bytes out.old ++ begin_end place.now.config.now place.now.tenant.0 stamp key.now) }
+{
+    push_record(out, alloc, place.config, stamp)?;
+    push_ref(out, alloc, place.config, key)?;
+    push_line_end(out, alloc, place)?;
+    Ok(())
+}
+
+fn push_line_end(out: &mut String, alloc: Global, place: &Place<'_>) -> Result<(), Memory>
+    ensures { OnOk result (string_bytes out.new ≡ string_bytes out.old ++ line_end place.now.config.now place.now.tenant.0) }
+{
+    push_tenant(out, alloc, place)?;
+    out.push_str("}\n")?;
+    Ok(())
+}
+
+// A member with the number of a build set.
+fn push_set(out: &mut String, alloc: Global, member: &str, set: u64) -> Result<(), Memory>
+    ensures { OnOk result (string_bytes out.new ≡ string_bytes out.old ++ (member.now ++ (decimal set ++ codes ","))) }
+{
+    let set = format!(in alloc; "{set}")?;
+    push_parts(out, member, set.as_str(), ",")
+}
+
+/// A build set is cancelled.
+pub(crate) fn push_cancel(
+    out: &mut String,
+    alloc: Global,
+    place: &Place<'_>,
+    cause: CancelCause,
+    set: u64,
+) -> Result<(), Memory>
+    ensures { OnOk result (string_bytes out.new ≡ string_bytes out.old ++ cancel_line place.now.config.now place.now.tenant.0 place.now.pipeline.0 cause set) }
+{
+    push_set(out, alloc, "{\"cancel\":", set)?;
+    push_pipeline(out, alloc, place)?;
+    push_why(out, alloc, place, cause.word())?;
+    Ok(())
+}
+
+// Why, and the end of the line.
+fn push_why(out: &mut String, alloc: Global, place: &Place<'_>, word: &str) -> Result<(), Memory>
+    ensures { OnOk result (string_bytes out.new ≡ string_bytes out.old ++ why_end place.now.config.now place.now.tenant.0 word.now) }
+{
+    push_tenant(out, alloc, place)?;
+    push_parts(out, ",\"why\":\"", word, "\"}\n")?;
+    Ok(())
+}
+
+/// An item is reported.
+pub(crate) fn push_report(
+    out: &mut String,
+    alloc: Global,
+    place: &Place<'_>,
+    report: &Report,
+) -> Result<(), Memory>
+    ensures { OnOk result (string_bytes out.new ≡ string_bytes out.old ++ report_line place.now.config.now place.now.tenant.0 place.now.pipeline.0 report.now) }
+{
+    push_report_start(out, alloc, place, &report.key)?;
+    push_patched(out, alloc, place, &report.patchset)?;
+    push_report_end(out, alloc, place, report)?;
+    Ok(())
+}
+
+fn push_report_start(
+    out: &mut String,
+    alloc: Global,
+    place: &Place<'_>,
+    key: &Key,
+) -> Result<(), Memory>
+    ensures { OnOk result (string_bytes out.new ≡ string_bytes out.old ++ (codes "{" ++ change_member place.now.config.now key.now)) }
+{
+    out.push_str("{")?;
+    push_change(out, alloc, place.config, key)?;
+    Ok(())
+}
+
+fn push_report_end(
+    out: &mut String,
+    alloc: Global,
+    place: &Place<'_>,
+    report: &Report,
+) -> Result<(), Memory>
+    ensures { OnOk result (string_bytes out.new ≡ string_bytes out.old ++ report_end place.now.config.now place.now.tenant.0 report.now) }
+{
+    push_ref(out, alloc, place.config, &report.key)?;
+    push_reported(out, alloc, report.set, report.success)?;
+    push_line_end(out, alloc, place)?;
+    Ok(())
+}
+
+fn push_reported(out: &mut String, alloc: Global, set: u64, success: bool) -> Result<(), Memory>
+    ensures { OnOk result (string_bytes out.new ≡ string_bytes out.old ++ (codes "\"report\":" ++ (decimal set ++ success_member success))) }
+{
+    let set = format!(in alloc; "{set}")?;
+    push_parts(out, "\"report\":", set.as_str(), success_member(success))
+}
+
+fn success_member(success: bool) -> &'static str
+    ensures { result.now ≡ success_member success }
+{
+    if success {
+        ",\"success\":true,"
+    } else {
+        ",\"success\":false,"
+    }
+}
+
+/// An action is discarded.
+pub(crate) fn push_discard(
+    out: &mut String,
+    alloc: Global,
+    place: &Place<'_>,
+    stamp: Option<Stamp>,
+    action: &Action,
+    why: Discard,
+) -> Result<(), Memory>
+    ensures { OnOk result (string_bytes out.new ≡ string_bytes out.old ++ discard_line place.now.config.now place.now.tenant.0 place.now.pipeline.0 stamp action.now why) }
+{
+    let why = why.word();
+    match action {
+        Action::Trigger(..) => push_lost_trigger(out, alloc, place, stamp, why),
+        Action::Result(ended) => push_lost_result(out, alloc, place, ended, why),
+        Action::Manage(Manage::Dequeue(key)) => {
+            push_lost_manage(out, alloc, place, "\"discard\":\"dequeue\",", key, why)
+        }
+        Action::Manage(Manage::Reset(key)) => {
+            push_lost_manage(out, alloc, place, "\"discard\":\"reset\",", key, why)
+        }
+    }
+}
+
+fn push_lost_trigger(
+    out: &mut String,
+    alloc: Global,
+    place: &Place<'_>,
+    stamp: Option<Stamp>,
+    why: &str,
+) -> Result<(), Memory>
+    ensures { OnOk result (string_bytes out.new ≡ string_bytes out.old ++ lost_trigger place.now.config.now place.now.tenant.0 place.now.pipeline.0 stamp why.now) }
+{
+    out.push_str("{\"discard\":\"trigger\",")?;
+    push_pipeline(out, alloc, place)?;
+    push_record(out, alloc, place.config, stamp)?;
+    push_why(out, alloc, place, why)?;
+    Ok(())
+}
+
+fn push_lost_result(
+    out: &mut String,
+    alloc: Global,
+    place: &Place<'_>,
+    ended: &JobResult,
+    why: &str,
+) -> Result<(), Memory>
+    ensures { OnOk result (string_bytes out.new ≡ string_bytes out.old ++ lost_result place.now.config.now place.now.tenant.0 place.now.pipeline.0 ended.now why.now) }
+{
+    push_job(out, alloc, ended.job.as_str())?;
+    push_pipeline(out, alloc, place)?;
+    push_set(out, alloc, "\"set\":", ended.set)?;
+    push_why(out, alloc, place, why)?;
+    Ok(())
+}
+
+fn push_job(out: &mut String, alloc: Global, job: &str) -> Result<(), Memory>
+    ensures { OnOk result (string_bytes out.new ≡ string_bytes out.old ++ (codes "{\"discard\":\"result\",\"job\":" ++ (name_text job.now ++ codes ","))) }
+{
+    let job = name_text(alloc, job)?;
+    push_parts(out, "{\"discard\":\"result\",\"job\":", job.as_str(), ",")
+}
+
+fn push_lost_manage(
+    out: &mut String,
+    alloc: Global,
+    place: &Place<'_>,
+    member: &str,
+    key: &Key,
+    why: &str,
+) -> Result<(), Memory>
+    ensures { OnOk result (string_bytes out.new ≡ string_bytes out.old ++ lost_manage place.now.config.now place.now.tenant.0 place.now.pipeline.0 member.now key.now why.now) }
+{
+    push_lost_key(out, alloc, place, member, key)?;
+    push_pipeline(out, alloc, place)?;
+    push_ref(out, alloc, place.config, key)?;
+    push_why(out, alloc, place, why)?;
+    Ok(())
+}
+
+fn push_lost_key(
+    out: &mut String,
+    alloc: Global,
+    place: &Place<'_>,
+    member: &str,
+    key: &Key,
+) -> Result<(), Memory>
+    ensures { OnOk result (string_bytes out.new ≡ string_bytes out.old ++ (codes "{" ++ (change_member place.now.config.now key.now ++ member.now))) }
+{
+    out.push_str("{")?;
+    push_change(out, alloc, place.config, key)?;
+    out.push_str(member)?;
+    Ok(())
+}
+
+/// Adds the line with which a run begins: the numbers of build sets begin anew. `Memory` where there is none for it.
+pub fn push_start(out: &mut String) -> Result<(), Memory>
+    ensures { OnOk result (string_bytes out.new ≡ string_bytes out.old ++ start_line) }
+{
+    out.push_str("{\"start\":1}\n")?;
+    Ok(())
+}
+
+/// Adds the line behind which nothing comes of a pipeline; it says whether the pipeline's end mark was met. `Memory` where there is
+/// none for it.
+pub fn push_end(
+    out: &mut String,
+    alloc: Global,
+    place: &Place<'_>,
+    finished: bool,
+) -> Result<(), Memory>
+    ensures { OnOk result (string_bytes out.new ≡ string_bytes out.old ++ end_line place.now.config.now place.now.tenant.0 place.now.pipeline.0 finished) }
+{
+    out.push_str(end_member(finished))?;
+    push_pipeline(out, alloc, place)?;
+    push_line_end(out, alloc, place)?;
+    Ok(())
+}
+
+fn end_member(finished: bool) -> &'static str
+    ensures { result.now ≡ end_member finished }
+{
+    if finished {
+        "{\"end\":\"finished\","
+    } else {
+        "{\"end\":\"running\","
+    }
+}

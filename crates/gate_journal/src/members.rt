@@ -1,0 +1,270 @@
+//! Members of the lines, each with a comma behind it.
+ghost use Rattle.std.specs.Prelude.{◌≡◌, ◌++◌, codes, decimal, flat_map, string_bytes, IfOk, OnOk};
+ghost use Rattle.gate_record.specs.Names.{name_text};
+ghost use Rattle.gate_journal.specs.Members.{change_member, connection_text, jobs_member, more_names, names_text, next_name, number_member, patchset_member, pipeline_member, pipeline_name, record_member, ref_member, tenant_members, tenant_name};
+
+use crate::place::Place;
+use gate_config::Config;
+use gate_items::{Build, Key};
+use gate_record::{ConnId, Memory, Stamp, name_text};
+use std::alloc::Global;
+
+/// A name as JSON text.
+pub(crate) fn push_name(out: &mut String, alloc: Global, name: &str) -> Result<(), Memory>
+    ensures { OnOk result (string_bytes out.new ≡ string_bytes out.old ++ name_text name.now) }
+{
+    let name = name_text(alloc, name)?;
+    out.push_str(name.as_str())?;
+    Ok(())
+}
+
+/// A number.
+pub(crate) fn push_number(out: &mut String, alloc: Global, number: u64) -> Result<(), Memory>
+    ensures { OnOk result (string_bytes out.new ≡ string_bytes out.old ++ decimal number) }
+{
+    let number = format!(in alloc; "{number}")?;
+    out.push_str(number.as_str())?;
+    Ok(())
+}
+
+/// Three texts, one behind another.
+pub(crate) fn push_parts(
+    out: &mut String,
+    first: &str,
+    middle: &str,
+    last: &str,
+) -> Result<(), Memory>
+    ensures { OnOk result (string_bytes out.new ≡ string_bytes out.old ++ (first.now ++ (middle.now ++ last.now))) }
+{
+    out.push_str(first)?;
+    out.push_str(middle)?;
+    out.push_str(last)?;
+    Ok(())
+}
+
+// The name of a connection, or its number where there is none.
+fn push_connection(
+    out: &mut String,
+    alloc: Global,
+    config: &Config,
+    conn: ConnId,
+) -> Result<(), Memory>
+    ensures { OnOk result (string_bytes out.new ≡ string_bytes out.old ++ connection_text config.now conn.0) }
+{
+    match config.connections().get(conn.0 as usize) {
+        Some(name) => push_name(out, alloc, name.as_str()),
+        None => push_number(out, alloc, u64::from(conn.0)),
+    }
+}
+
+/// The change that a key is of, if it is of one.
+pub(crate) fn push_change(
+    out: &mut String,
+    alloc: Global,
+    config: &Config,
+    key: &Key,
+) -> Result<(), Memory>
+    ensures { OnOk result (string_bytes out.new ≡ string_bytes out.old ++ change_member config.now key.now) }
+{
+    let Key::Change { conn, number } = key else {
+        return Ok(());
+    };
+    out.push_str("\"change\":{\"connection\":")?;
+    push_connection(out, alloc, config, *conn)?;
+    out.push_str(",\"number\":")?;
+    let number = format!(in alloc; "{number}}},")?;
+    out.push_str(number.as_str())?;
+    Ok(())
+}
+
+/// The ref that a key is of, if it is of one.
+pub(crate) fn push_ref(
+    out: &mut String,
+    alloc: Global,
+    config: &Config,
+    key: &Key,
+) -> Result<(), Memory>
+    ensures { OnOk result (string_bytes out.new ≡ string_bytes out.old ++ ref_member config.now key.now) }
+{
+    let Key::Ref {
+        conn,
+        project,
+        refname,
+        newrev,
+    } = key
+    else {
+        return Ok(());
+    };
+    out.push_str("\"ref\":{\"connection\":")?;
+    push_connection(out, alloc, config, *conn)?;
+    push_ref_names(
+        out,
+        alloc,
+        project.as_str(),
+        refname.as_str(),
+        newrev.as_str(),
+    )
+}
+
+fn push_ref_names(
+    out: &mut String,
+    alloc: Global,
+    project: &str,
+    refname: &str,
+    newrev: &str,
+) -> Result<(), Memory>
+    ensures { OnOk result (string_bytes out.new ≡ string_bytes out.old ++ (codes ",\"name\":" ++ (name_text refname.now ++ (codes ",\"newrev\":" ++ (name_text newrev.now ++ (codes ",\"project\":" ++ (name_text project.now ++ codes "},"))))))) }
+{
+    out.push_str(",\"name\":")?;
+    push_name(out, alloc, refname)?;
+    out.push_str(",\"newrev\":")?;
+    push_name(out, alloc, newrev)?;
+    out.push_str(",\"project\":")?;
+    push_name(out, alloc, project)?;
+    out.push_str("},")?;
+    Ok(())
+}
+
+/// The record that a stamp is of, if there is one.
+pub(crate) fn push_record(
+    out: &mut String,
+    alloc: Global,
+    config: &Config,
+    stamp: Option<Stamp>,
+) -> Result<(), Memory>
+    ensures { OnOk result (string_bytes out.new ≡ string_bytes out.old ++ record_member config.now stamp) }
+{
+    let Some(stamp) = stamp else {
+        return Ok(());
+    };
+    out.push_str("\"record\":{\"connection\":")?;
+    push_connection(out, alloc, config, stamp.conn)?;
+    out.push_str(",\"number\":")?;
+    push_number(out, alloc, stamp.number)?;
+    out.push_str("},")?;
+    Ok(())
+}
+
+/// The names of jobs.
+pub(crate) fn push_jobs(out: &mut String, alloc: Global, jobs: &[Build]) -> Result<(), Memory>
+    ensures { OnOk result (string_bytes out.new ≡ string_bytes out.old ++ jobs_member jobs.now) }
+{
+    out.push_str("\"jobs\":[")?;
+    push_names(out, alloc, jobs)?;
+    out.push_str("],")?;
+    Ok(())
+}
+
+fn push_names(out: &mut String, alloc: Global, jobs: &[Build]) -> Result<(), Memory>
+    ensures { OnOk result (string_bytes out.new ≡ string_bytes out.old ++ names_text jobs.now) }
+{
+    let Some((first, others)) = jobs.split_first() else {
+        return Ok(());
+    };
+    push_name(out, alloc, first.0.as_str())?;
+    push_more_names(out, alloc, others)
+}
+
+fn push_more_names(out: &mut String, alloc: Global, jobs: &[Build]) -> Result<(), Memory>
+    ensures { OnOk result (string_bytes out.new ≡ string_bytes out.old ++ more_names jobs.now) }
+{
+    for job in jobs {
+        push_next_name(out, alloc, job)?;
+    }
+    Ok(())
+}
+
+fn push_next_name(out: &mut String, alloc: Global, job: &Build) -> Result<(), Memory>
+    ensures { OnOk result (string_bytes out.new ≡ string_bytes out.old ++ next_name job.now) }
+{
+    out.push_str(",")?;
+    push_name(out, alloc, job.0.as_str())
+}
+
+// The pipeline's number.
+fn push_pipeline_number(out: &mut String, alloc: Global, place: &Place<'_>) -> Result<(), Memory>
+    ensures { OnOk result (string_bytes out.new ≡ string_bytes out.old ++ number_member place.now.pipeline.0) }
+{
+    out.push_str("\"p\":")?;
+    push_number(out, alloc, u64::from(place.pipeline.0))?;
+    out.push_str(",")?;
+    Ok(())
+}
+
+// The number of a patch set.
+fn push_patchset(out: &mut String, alloc: Global, patchset: &i64) -> Result<(), Memory>
+    ensures { OnOk result (string_bytes out.new ≡ string_bytes out.old ++ patchset_member patchset.now) }
+{
+    let patchset = format!(in alloc; "{patchset}")?;
+    push_parts(out, "\"patchset\":", patchset.as_str(), ",")
+}
+
+// The pipeline's name.
+fn push_pipeline_member(out: &mut String, alloc: Global, place: &Place<'_>) -> Result<(), Memory>
+    ensures { OnOk result (string_bytes out.new ≡ string_bytes out.old ++ pipeline_member place.now.config.now place.now.tenant.0 place.now.pipeline.0) }
+{
+    let name = pipeline_name(alloc, place)?;
+    push_parts(out, "\"pipeline\":", name.as_str(), ",")
+}
+
+fn pipeline_name(alloc: Global, place: &Place<'_>) -> Result<String, Memory>
+    ensures { IfOk result (λ name. string_bytes name ≡ pipeline_name place.now.config.now place.now.tenant.0 place.now.pipeline.0) }
+{
+    match place
+        .config
+        .pipelines(place.tenant)
+        .get(place.pipeline.0 as usize)
+    {
+        Some(pipeline) => name_text(alloc, pipeline.name.as_str()),
+        None => Ok(String::new(alloc)),
+    }
+}
+
+/// The tenant's number and its name, with no comma behind them.
+pub(crate) fn push_tenant(out: &mut String, alloc: Global, place: &Place<'_>) -> Result<(), Memory>
+    ensures { OnOk result (string_bytes out.new ≡ string_bytes out.old ++ tenant_members place.now.config.now place.now.tenant.0) }
+{
+    out.push_str("\"t\":")?;
+    push_number(out, alloc, u64::from(place.tenant.0))?;
+    out.push_str(",\"tenant\":")?;
+    push_tenant_name(out, alloc, place)
+}
+
+fn push_tenant_name(out: &mut String, alloc: Global, place: &Place<'_>) -> Result<(), Memory>
+    ensures { OnOk result (string_bytes out.new ≡ string_bytes out.old ++ tenant_name place.now.config.now place.now.tenant.0) }
+{
+    match place.config.tenants().get(place.tenant.0 as usize) {
+        Some(tenant) => push_name(out, alloc, tenant.name.as_str()),
+        None => Ok(()),
+    }
+}
+
+ghost use Rattle.gate_journal.specs.Members.{patched_members, pipeline_members};
+
+/// The pipeline's number and its name.
+pub(crate) fn push_pipeline(
+    out: &mut String,
+    alloc: Global,
+    place: &Place<'_>,
+) -> Result<(), Memory>
+    ensures { OnOk result (string_bytes out.new ≡ string_bytes out.old ++ pipeline_members place.now.config.now place.now.tenant.0 place.now.pipeline.0) }
+{
+    push_pipeline_number(out, alloc, place)?;
+    push_pipeline_member(out, alloc, place)?;
+    Ok(())
+}
+
+/// The same, with the number of a patch set between them.
+pub(crate) fn push_patched(
+    out: &mut String,
+    alloc: Global,
+    place: &Place<'_>,
+    patchset: &i64,
+) -> Result<(), Memory>
+    ensures { OnOk result (string_bytes out.new ≡ string_bytes out.old ++ patched_members place.now.config.now place.now.tenant.0 place.now.pipeline.0 patchset.now) }
+{
+    push_pipeline_number(out, alloc, place)?;
+    push_patchset(out, alloc, patchset)?;
+    push_pipeline_member(out, alloc, place)?;
+    Ok(())
+}

@@ -1,0 +1,152 @@
+ghost use Rattle.std.specs.Prelude.{◌≡◌, ◌++◌, ◌∷◌, [], List, string_bytes, OnOk};
+ghost use Rattle.gate_items.specs.History.{after, start};
+ghost use Rattle.gate_items.specs.Machine.{apply};
+ghost use Rattle.gate_items.specs.declared.action.Action.{Action as AnAction};
+ghost use Rattle.gate_items.specs.declared.action.Outcome.TheVariants.{Applied};
+ghost use Rattle.gate_record.specs.declared.ids.ManagerKind.{ManagerKind as Kind};
+ghost use Rattle.gate_journal.specs.Follows.{Knows, items_after};
+ghost use Rattle.gate_journal.specs.Lines.{action_lines};
+
+use crate::begun::{push_begun, push_reports};
+use crate::keys::{follow, push_older};
+use crate::lines::push_discard;
+use crate::live::Live;
+use crate::place::Place;
+use crate::queue::{push_lost, put_new, take_lost};
+use gate_items::{
+    Action, Items, ManagerKind, Outcome, Report, discarded_actions_change_nothing,
+    each_action_goes_through_its_queue, each_action_is_for_one_key,
+};
+use gate_record::{Memory, Stamp};
+use std::alloc::Global;
+use std::collections::{BTreeMap, VecDeque};
+
+/// The journal of a pipeline: what it has to know of the items so that an action's lines are in proportion to what the action
+/// changed, and not to the queue.
+#[derive(Drop)]
+pub struct PipelineJournal {
+    // The build sets of the items.
+    live: Live,
+    // The number that the next build set gets.
+    next: u64,
+    // How many reports there were.
+    reports: usize,
+}
+
+impl PipelineJournal {
+    /// The journal of a pipeline before its first action; its build sets are numbered from 0. It takes no memory.
+    pub fn new(alloc: Global, manager: ManagerKind) -> PipelineJournal
+        ensures { Knows result manager (items_after manager []) }
+    {
+        let live = match manager {
+            ManagerKind::Independent => Live::Keys(BTreeMap::new(alloc)),
+            ManagerKind::Dependent => Live::Queue(VecDeque::new(alloc)),
+        };
+        PipelineJournal {
+            live,
+            next: 0,
+            reports: 0,
+        }
+    }
+
+    /// Adds the lines of the pipeline's next action to a text, by the items behind it; the stamp is that of a trigger event. The
+    /// journal has to be told of each action, in order.
+    ///
+    /// `Memory` where there is none for them: then the journal isn't told of any more.
+    pub fn push_action(
+        &mut self,
+        out: &mut String,
+        alloc: Global,
+        place: &Place<'_>,
+        items: &Items,
+        stamp: Option<Stamp>,
+        action: &Action,
+        outcome: Outcome,
+    ) -> Result<(), Memory>
+        ensures lines { (manager : Kind) (actions : List AnAction) → Knows self.old manager (items_after manager actions) → (items.now, outcome) ≡ apply (items_after manager actions) action.now → OnOk result (string_bytes out.new ≡ string_bytes out.old ++ action_lines place.now.config.now place.now.tenant.0 place.now.pipeline.0 (items_after manager actions) stamp action.now outcome items.now) }
+        ensures knows { (manager : Kind) (actions : List AnAction) → Knows self.old manager (items_after manager actions) → (items.now, outcome) ≡ apply (items_after manager actions) action.now → OnOk result (Knows self.new manager (items_after manager (actions ++ action.now ∷ []))) }
+    {
+        discarded_actions_change_nothing();
+        match outcome {
+            Outcome::Discarded(why) => push_discard(out, alloc, place, stamp, action, why),
+            Outcome::Applied => self.push_applied(out, alloc, place, items, stamp, action),
+        }
+    }
+
+    // The same of an action that was applied.
+    fn push_applied(
+        &mut self,
+        out: &mut String,
+        alloc: Global,
+        place: &Place<'_>,
+        items: &Items,
+        stamp: Option<Stamp>,
+        action: &Action,
+    ) -> Result<(), Memory>
+        ensures lines { (manager : Kind) (actions : List AnAction) → Knows self.old manager (items_after manager actions) → (items.now, Applied) ≡ apply (items_after manager actions) action.now → OnOk result (string_bytes out.new ≡ string_bytes out.old ++ action_lines place.now.config.now place.now.tenant.0 place.now.pipeline.0 (items_after manager actions) stamp action.now Applied items.now) }
+        ensures knows { (manager : Kind) (actions : List AnAction) → Knows self.old manager (items_after manager actions) → (items.now, Applied) ≡ apply (items_after manager actions) action.now → OnOk result (Knows self.new manager items.now) }
+    {
+        let reports = reports_from(items, self.reports);
+        self.push_cancelled(out, alloc, place, items, action, reports)?;
+        push_begun(out, alloc, place, stamp, items, self.next)?;
+        push_reports(out, alloc, place, reports)?;
+        self.next = items.next_set();
+        self.reports = items.reported().len();
+        Ok(())
+    }
+
+    ghost use Rattle.std.specs.Prelude.{drop};
+    ghost use Rattle.gate_items.specs.Sets.{cancelled, sets_of};
+    ghost use Rattle.gate_journal.specs.Follows.{AreLive};
+    ghost use Rattle.gate_journal.specs.Lines.{cancel_lines};
+
+    // What it cancels, and the build sets that there are behind it.
+    fn push_cancelled(
+        &mut self,
+        out: &mut String,
+        alloc: Global,
+        place: &Place<'_>,
+        items: &Items,
+        action: &Action,
+        reports: &[Report],
+    ) -> Result<(), Memory>
+        ensures lines { (manager : Kind) (actions : List AnAction) → Knows self.old manager (items_after manager actions) → (items.now, Applied) ≡ apply (items_after manager actions) action.now → reports.now ≡ drop self.old.reports items.now.reported → OnOk result (string_bytes out.new ≡ string_bytes out.old ++ cancel_lines place.now.config.now place.now.tenant.0 place.now.pipeline.0 action.now (sets_of (cancelled (items_after manager actions) items.now))) }
+        ensures live { (manager : Kind) (actions : List AnAction) → Knows self.old manager (items_after manager actions) → (items.now, Applied) ≡ apply (items_after manager actions) action.now → reports.now ≡ drop self.old.reports items.now.reported → OnOk result (AreLive self.new.live manager items.now) }
+        ensures next { self.new.next ≡ self.old.next }
+        ensures reports { self.new.reports ≡ self.old.reports }
+    {
+        each_action_goes_through_its_queue();
+        each_action_is_for_one_key();
+        let next = items.next_set();
+        match &mut self.live {
+            Live::Queue(sets) => {
+                let staying = staying(items, self.next);
+                let lost = take_lost(sets, reports.len(), staying)?;
+                put_new(sets, self.next, next)?;
+                push_lost(out, alloc, place, action, lost)
+            }
+            Live::Keys(sets) => {
+                push_older(out, alloc, place, action, sets)?;
+                follow(alloc, sets, action, self.next, reports)
+            }
+        }
+    }
+}
+
+ghost use Rattle.std.specs.Prelude.{◌-◌, drop, length};
+
+// What was reported behind so many.
+fn reports_from(items: &Items, count: usize) -> &[Report]
+    ensures { result.now ≡ drop count items.now.reported }
+{
+    let reported = items.reported();
+    &reported[count.min(reported.len())..]
+}
+
+// How many items have build sets with numbers before this one.
+fn staying(items: &Items, next: u64) -> usize
+    ensures { result ≡ length items.now.items - (items.now.next - next) }
+{
+    let new = items.next_set().saturating_sub(next);
+    items.len().saturating_sub(new as usize)
+}
