@@ -3,6 +3,7 @@ use crate::changes::{Said, push_changes};
 use crate::expected::{push_fault, push_unread};
 use crate::fault::Fault;
 use crate::generations::{push_count, push_heading};
+use crate::picture::push_picture;
 use crate::script::push_script;
 use crate::telling::push_tenants;
 use crate::tenants::{Tenant, number_of, tenants_of};
@@ -23,6 +24,24 @@ pub fn explain(
         Ok(gens) => explain_generations(alloc, documents, &gens, script),
         Err(fault) => Err(refused(alloc, documents, &fault)),
     }
+}
+
+/// The last of a configuration's documents, a generation each, as a graph for Graphviz. `Faulty` where they are no generations of a
+/// configuration.
+pub fn draw(alloc: Global, documents: &[Vec<u8>]) -> Result<String, Fault> {
+    match read_generations(alloc, documents) {
+        Ok(gens) => draw_last(alloc, documents, &gens),
+        Err(fault) => Err(refused(alloc, documents, &fault)),
+    }
+}
+
+fn draw_last(alloc: Global, documents: &[Vec<u8>], gens: &Generations) -> Result<String, Fault> {
+    let place = documents.len().saturating_sub(1);
+    let document = read(alloc, documents, place)?;
+    let tenants = tenants_of(alloc, gens, &document)?;
+    let mut out = String::new(alloc);
+    push_picture(&mut out, alloc, gens, number_of(place), tenants.as_slice())?;
+    Ok(out)
 }
 
 fn explain_generations(

@@ -1,4 +1,4 @@
-//! The program `gate_explain`: what a configuration says and what comes of a script, in plain words.
+//! The program `gate_explain`: what a configuration says and what comes of a script, in plain words, or a picture of a configuration.
 #![tactic(auto)]
 
 mod beside;
@@ -9,6 +9,7 @@ mod fault;
 mod generations;
 mod near;
 mod parts;
+mod picture;
 mod program;
 mod quoted;
 mod script;

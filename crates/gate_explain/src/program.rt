@@ -1,6 +1,6 @@
-use crate::explaining::explain;
+use crate::explaining::{draw, explain};
 use crate::fault::Fault;
-use crate::words::task_of;
+use crate::words::{Wanted, task_of};
 use std::io::{ErrorKind, Write};
 use std::rt::Files;
 use std::{fs, io};
@@ -46,12 +46,13 @@ where
     let alloc = rt.alloc();
     let task = task_of(alloc, words)?;
     let documents = files(rt, task.config)?;
-    match task.script {
-        None => explain(alloc, documents.as_slice(), None),
-        Some(path) => {
+    match task.wanted {
+        Wanted::Words => explain(alloc, documents.as_slice(), None),
+        Wanted::Script(path) => {
             let script = file(rt, path)?;
             explain(alloc, documents.as_slice(), Some(script.as_slice()))
         }
+        Wanted::Picture => draw(alloc, documents.as_slice()),
     }
 }
 

@@ -9,8 +9,18 @@ use std::io;
 pub struct Task {
     /// The paths of the configuration's documents, a generation each.
     pub config: Vec<String>,
-    /// The path of the script, if there is to be one.
-    pub script: Option<String>,
+    pub wanted: Wanted,
+}
+
+/// What is wanted of a configuration.
+#[derive(Debug, Drop)]
+pub enum Wanted {
+    /// What it says, in words.
+    Words,
+    /// The same, and what comes of the script at this path.
+    Script(String),
+    /// A picture of it.
+    Picture,
 }
 
 /// Reads the program's words, its name first. `Usage` for words that are no form that is known, `Memory` where memory
@@ -28,6 +38,11 @@ fn command<'a>(alloc: Global) -> Result<Command<'a>, AllocError> {
     Command::new(alloc, "gate_explain")
         .disable_help_flag(true)
         .disable_version_flag(true)
+        .arg(
+            Arg::new(alloc, "dot")
+                .long("dot")
+                .action(ArgAction::SetTrue),
+        )?
         .arg(path(alloc, "config").required(true))?
         .arg(path(alloc, "script"))
 }
@@ -40,14 +55,20 @@ fn task_in(alloc: Global, matches: &ArgMatches<'_>) -> Result<Task, Fault> {
     let Some(config) = matches.get_str("config") else {
         return Err(Fault::Usage);
     };
-    let script = match matches.get_str("script") {
-        Some(script) => Some(String::from_str(alloc, script)?),
-        None => None,
-    };
     Ok(Task {
         config: paths_of(alloc, config)?,
-        script,
+        wanted: wanted_in(alloc, matches)?,
     })
+}
+
+// What comes of a script isn't drawn.
+fn wanted_in(alloc: Global, matches: &ArgMatches<'_>) -> Result<Wanted, Fault> {
+    match (matches.get_flag("dot"), matches.get_str("script")) {
+        (false, None) => Ok(Wanted::Words),
+        (false, Some(script)) => Ok(Wanted::Script(String::from_str(alloc, script)?)),
+        (true, None) => Ok(Wanted::Picture),
+        (true, Some(_)) => Err(Fault::Usage),
+    }
 }
 
 // The paths that a word joins by commas.
