@@ -12,6 +12,9 @@ _gate() {
         ;;
     *.*.:)
         ;;
+    explain.[23].*)
+        [[ $word != -* ]] || words='--dot'
+        ;;
     serve.3.*)
         compopt -o nospace
         words='none unix: tcp:'

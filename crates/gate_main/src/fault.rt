@@ -20,6 +20,8 @@ pub enum Fault {
     Connect(String),
     /// Standard output can't be written.
     Write,
+    /// A journal that can't be opened or written.
+    Journal(String),
     /// The words are no form that is known.
     Usage,
     /// A word that names no stream, or the stream of a connection that isn't there or has one; or the name of a connection that has
@@ -36,7 +38,7 @@ impl Fault {
     pub fn status(&self) -> u8 {
         match self {
             Fault::Memory | Fault::File(_) | Fault::Write => 1,
-            Fault::Thread | Fault::Listen(_) | Fault::Connect(_) => 1,
+            Fault::Thread | Fault::Listen(_) | Fault::Connect(_) | Fault::Journal(_) => 1,
             Fault::Usage | Fault::Source(_) => 2,
             Fault::Generations(GenerationFault::Memory) => 1,
             Fault::Generations(_) | Fault::Script(_) => 3,
@@ -53,6 +55,7 @@ impl fmt::Display for Fault {
             Fault::Listen(word) => write!(f, "listen {word}"),
             Fault::Connect(word) => write!(f, "connect {word}"),
             Fault::Write => f.write_str("write"),
+            Fault::Journal(path) => write!(f, "journal {path}"),
             Fault::Usage => f.write_str("usage"),
             Fault::Source(word) => write!(f, "source {word}"),
             Fault::Generations(fault) => write!(f, "{fault}"),

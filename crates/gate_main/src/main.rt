@@ -2,10 +2,14 @@
 #![tactic(auto)]
 
 mod address;
+mod crossing;
 mod deadline;
 mod fault;
+mod journal;
+mod journal_gate;
 mod port;
 mod program;
+mod replayed;
 mod retrying;
 mod serving;
 mod sessions;

@@ -1,17 +1,19 @@
 use crate::fault::Fault;
-use crate::serving::serve_words;
+use crate::replayed::write_replayed;
+use crate::serving::{Ran, journal_fault, journal_file, serve_words};
 use crate::words::{Task, task_of};
 use gate_config::{check_text, read_generations};
 use gate_core::replay;
 use std::alloc::Global;
+use std::env::VarError;
 use std::fs::File;
 use std::io::{ErrorKind, Read, Write};
 use std::net::{Net, TcpListener, TcpStream};
-use std::rt::Files;
+use std::rt::{Env, Files};
 use std::sync::Wait;
 use std::thread::Threads;
 use std::time::Clock;
-use std::{fs, io};
+use std::{env, fs, io};
 
 /// Does what the program's words ask for, its name first, and gives the exit status: 0, or that of the fault, whose
 /// line then stands on the second writer. What is printed goes to the first writer, and nothing does where there is a
@@ -29,6 +31,7 @@ where
         + Threads
         + Wait
         + Clock
+        + Env
         + AllocGlobal
         + Copy
         + Send
@@ -50,6 +53,19 @@ pub fn tell<E: Write>(fault: &Fault, errors: &mut E) -> u8 {
     fault.status()
 }
 
+// What a command prints, and the fault that comes behind it, if one does.
+#[derive(Drop)]
+struct Said {
+    text: String,
+    fault: Option<Fault>,
+}
+
+impl Said {
+    fn of(text: String) -> Said {
+        Said { text, fault: None }
+    }
+}
+
 fn run_task<X, R, O>(rt: &X, words: &[String], input: &mut R, output: &mut O) -> Result<(), Fault>
 where
     X: Files<File = File>
@@ -57,6 +73,7 @@ where
         + Threads
         + Wait
         + Clock
+        + Env
         + AllocGlobal
         + Copy
         + Send
@@ -65,32 +82,126 @@ where
     R: Read,
     O: Write,
 {
-    let alloc = rt.alloc();
-    let text = match task_of(alloc, words)? {
-        Task::Check { config } => check(alloc, files(rt, config)?.as_slice())?,
-        Task::Replay { config, script } => {
-            let documents = files(rt, config)?;
-            let script = file(rt, script)?;
-            replay(alloc, documents.as_slice(), script.as_slice())?
-        }
+    let task = task_of(rt.alloc(), words)?;
+    print(output, said_by(rt, task, input)?)
+}
+
+fn said_by<X, R>(rt: &X, task: Task, input: &mut R) -> Result<Said, Fault>
+where
+    X: Files<File = File>
+        + Net<Stream = TcpStream, Listener = TcpListener>
+        + Threads
+        + Wait
+        + Clock
+        + Env
+        + AllocGlobal
+        + Copy
+        + Send
+        + Sync
+        + 'static,
+    R: Read,
+{
+    match task {
+        Task::Check { config } => check_files(rt, config),
+        Task::Replay { config, script } => replay_files(rt, config, script),
         Task::Serve {
             config,
             status,
             sources,
-        } => {
-            let documents = files(rt, config)?;
-            serve_words(
-                rt,
-                documents.as_slice(),
-                status.as_str(),
-                sources.as_slice(),
-            )?
-        }
-        Task::Input => replay_input(alloc, input)?,
+        } => serve_files(rt, config, status.as_str(), sources.as_slice()),
+        Task::Input => replay_input(rt, input),
+    }
+}
+
+fn print<O: Write>(output: &mut O, said: Said) -> Result<(), Fault> {
+    let Said { text, fault } = said;
+    if write_text(output, text.as_str()).is_err() {
+        return Err(Fault::Write);
+    }
+    match fault {
+        Some(fault) => Err(fault),
+        None => Ok(()),
+    }
+}
+
+fn check_files<X: Files + AllocGlobal>(rt: &X, config: Vec<String>) -> Result<Said, Fault> {
+    let documents = files(rt, config)?;
+    Ok(Said::of(check(rt.alloc(), documents.as_slice())?))
+}
+
+fn serve_files<X>(
+    rt: &X,
+    config: Vec<String>,
+    status: &str,
+    sources: &[String],
+) -> Result<Said, Fault>
+where
+    X: Files<File = File>
+        + Net<Stream = TcpStream, Listener = TcpListener>
+        + Threads
+        + Wait
+        + Clock
+        + Env
+        + AllocGlobal
+        + Copy
+        + Send
+        + Sync
+        + 'static,
+{
+    let documents = files(rt, config)?;
+    let journal = journal_path(rt)?;
+    let path = journal.as_deref();
+    let ran = serve_words(rt, documents.as_slice(), status, sources, path)?;
+    Ok(said_of_run(rt.alloc(), ran, path))
+}
+
+// The report, and behind it the fault of a journal.
+fn said_of_run(alloc: Global, ran: Ran, path: Option<&str>) -> Said {
+    let fault = match (ran.fault, path) {
+        (Some(fault), Some(path)) => Some(journal_fault(alloc, path, fault)),
+        _ => None,
     };
-    match write_text(output, text.as_str()) {
-        Ok(()) => Ok(()),
-        Err(_) => Err(Fault::Write),
+    Said {
+        text: ran.report,
+        fault,
+    }
+}
+
+fn replay_files<X: Files<File = File> + Env + AllocGlobal>(
+    rt: &X,
+    config: Vec<String>,
+    script: String,
+) -> Result<Said, Fault> {
+    let documents = files(rt, config)?;
+    let script = file(rt, script)?;
+    replay_told(rt, documents.as_slice(), script.as_slice())
+}
+
+// Replays a script, and writes its journal, where there is to be one, before anything is printed.
+fn replay_told<X: Files<File = File> + Env + AllocGlobal>(
+    rt: &X,
+    documents: &[Vec<u8>],
+    script: &[u8],
+) -> Result<Said, Fault> {
+    let alloc = rt.alloc();
+    let text = replay(alloc, documents, script)?;
+    let journal = journal_path(rt)?;
+    let path = journal.as_deref();
+    if let (Some(file), Some(path)) = (journal_file(rt, path)?, path) {
+        if let Err(fault) = write_replayed(alloc, documents, script, file) {
+            return Err(journal_fault(alloc, path, fault));
+        }
+    }
+    Ok(Said::of(text))
+}
+
+// The path of the journal: the variable GATE_JOURNAL, if it is there and not empty.
+fn journal_path<X: Env + AllocGlobal>(rt: &X) -> Result<Option<String>, Fault> {
+    match env::var(&(rt, rt.alloc()), "GATE_JOURNAL") {
+        Ok(path) if !path.is_empty() => Ok(Some(path)),
+        Ok(_) | Err(VarError::NotPresent) => Ok(None),
+        Err(VarError::NotUnicode) => Err(Fault::Usage),
+        Err(VarError::OutOfMemory) => Err(Fault::Memory),
     }
 }
 
@@ -111,14 +222,19 @@ fn write_text<O: Write>(output: &mut O, text: &str) -> io::Result<()> {
 }
 
 // Standard input: its first line is the configuration, of one generation, and the rest the script.
-fn replay_input<R: Read>(alloc: Global, input: &mut R) -> Result<String, Fault> {
+fn replay_input<X, R>(rt: &X, input: &mut R) -> Result<Said, Fault>
+where
+    X: Files<File = File> + Env + AllocGlobal,
+    R: Read,
+{
+    let alloc = rt.alloc();
     let mut bytes = Vec::new(alloc);
     if let Err(error) = input.read_to_end(&mut bytes) {
         return Err(reading_fault(String::from_str(alloc, "-")?, &error));
     }
     let (line, script) = first_line(bytes.as_slice());
     let documents = [line.to_vec(alloc)?];
-    Ok(replay(alloc, documents.as_slice(), script)?)
+    replay_told(rt, documents.as_slice(), script)
 }
 
 // What stands before the first line feed, and what behind it.

@@ -4,11 +4,14 @@ ghost use Rattle.gate_config.specs.Lookups.{connections_of};
 ghost use Rattle.gate_run.specs.Ports.{IsInboxFor};
 
 use crate::address::Address;
+use crate::crossing::journaling_crosses;
 use crate::fault::Fault;
+use crate::journal::{Journal, JournalFault, open_journal};
+use crate::journal_gate::{JournalGate, Journaling};
 use crate::port::{Listening, Port, port_address};
 use crate::sessions::Sessions;
 use crate::socket_file::SocketFile;
-use crate::sources::{open_feeds, sources_of};
+use crate::sources::{Source, open_feeds, sources_of};
 use crate::stream::Stream;
 use gate_config::{Config, Generations, read_generations};
 use gate_core::report_text;
@@ -25,17 +28,27 @@ use std::sync::{Mutex, Wait};
 use std::thread::{JoinHandle, Threads};
 use std::time::Clock;
 
+/// What a run has come to.
+#[derive(Drop)]
+pub struct Ran {
+    /// The report.
+    pub report: String,
+    /// Why the journal has no lines of what came last, if it hasn't.
+    pub fault: Option<JournalFault>,
+}
+
 /// Runs the configuration of these documents, a generation each, over the streams of these words, with a port where STATUS asks for
-/// one, and gives the report.
+/// one, and a journal at this path, if there is one.
 ///
-/// The faults come in this order: those of the documents; `Usage` for STATUS; `Source` for the words; `Listen`; `File` and
+/// The faults come in this order: those of the documents; `Usage` for STATUS; `Source` for the words; `Listen`; `Journal`; `File` and
 /// `Connect` for the streams, in the order of their words; `Thread`. `Memory` where it is refused.
 pub fn serve_words<X>(
     rt: &X,
     documents: &[Vec<u8>],
     status: &str,
     words: &[String],
-) -> Result<String, Fault>
+    journal: Option<&str>,
+) -> Result<Ran, Fault>
 where
     X: Files<File = File>
         + Net<Stream = TcpStream, Listener = TcpListener>
@@ -52,17 +65,60 @@ where
     let gens = read_generations(alloc, documents)?;
     let address = port_address(status)?;
     let sources = sources_of(alloc, gens.first(), words)?;
-    let (port, file) = listen(rt, status, address)?;
-    let ran = match open_feeds(rt, gens.first(), sources.as_slice()) {
-        Ok(feeds) => run(rt, gens, feeds, port),
-        Err(fault) => Err(fault),
-    };
+    let (port, socket) = listen(rt, status, address)?;
+    let ran = open_and_run(rt, gens, sources.as_slice(), port, journal);
     // While it is listened on, nobody else takes the socket for an abandoned one.
-    if let Some(file) = file {
-        let _ = file.remove(rt);
+    if let Some(socket) = socket {
+        let _ = socket.remove(rt);
     }
-    let (report, _port) = ran?;
-    Ok(report)
+    let (ran, _port) = ran?;
+    Ok(ran)
+}
+
+fn open_and_run<X>(
+    rt: &X,
+    gens: Generations,
+    sources: &[Source<'_>],
+    port: Option<Port>,
+    journal: Option<&str>,
+) -> Result<(Ran, Option<Port>), Fault>
+where
+    X: Files<File = File>
+        + Net<Stream = TcpStream, Listener = TcpListener>
+        + Threads
+        + Wait
+        + Clock
+        + AllocGlobal
+        + Copy
+        + Send
+        + Sync
+        + 'static,
+{
+    let file = journal_file(rt, journal)?;
+    let feeds = open_feeds(rt, gens.first(), sources)?;
+    run(rt, gens, feeds, port, file)
+}
+
+/// Opens a journal, if there is to be one, and writes the line of a start. `Journal` where that can't be done.
+pub fn journal_file<X: Files<File = File> + AllocGlobal>(
+    rt: &X,
+    path: Option<&str>,
+) -> Result<Option<File>, Fault> {
+    let Some(path) = path else {
+        return Ok(None);
+    };
+    match open_journal(rt, path) {
+        Ok(file) => Ok(Some(file)),
+        Err(fault) => Err(journal_fault(rt.alloc(), path, fault)),
+    }
+}
+
+/// The fault of the program where a journal has one.
+pub fn journal_fault(alloc: Global, path: &str, fault: JournalFault) -> Fault {
+    match (fault, String::from_str(alloc, path)) {
+        (JournalFault::File, Ok(path)) => Fault::Journal(path),
+        _ => Fault::Memory,
+    }
 }
 
 fn listen<'a, X>(
@@ -83,20 +139,22 @@ where
     }
 }
 
-// Runs until the streams are worked off or a session has ended by `stop`; where there is a port, one has to. The report, and the port.
+// Runs until the streams are worked off or a session has ended by `stop`; where there is a port, one has to. What came of it, and
+// the port.
 fn run<X>(
     rt: &X,
     gens: Generations,
     feeds: Vec<ReaderFeed<Stream>>,
     port: Option<Port>,
-) -> Result<(String, Option<Port>), Fault>
+    file: Option<File>,
+) -> Result<(Ran, Option<Port>), Fault>
 where
     X: Threads + Wait + Clock + AllocGlobal + Copy + Send + Sync + 'static,
     requires feeds { length feeds.items ≡ length (connections_of gens.first) }
     requires few { All (λ feed. ⟦<ReaderFeed<Stream> as RecordFeed>⟧.fault_count feed < 2 ^ 64 - 1) feeds.items }
 {
     let gens = Shared::new(rt.alloc(), gens)?;
-    let ran = run_shared(rt, &gens, feeds, port);
+    let ran = run_shared(rt, &gens, feeds, port, file);
     if ran.is_ok() {
         // The program ends behind this, and the system takes it back at once.
         mem::forget(gens);
@@ -109,7 +167,8 @@ fn run_shared<X>(
     gens: &Shared<Generations>,
     feeds: Vec<ReaderFeed<Stream>>,
     port: Option<Port>,
-) -> Result<(String, Option<Port>), Fault>
+    file: Option<File>,
+) -> Result<(Ran, Option<Port>), Fault>
 where
     X: Threads + Wait + Clock + AllocGlobal + Copy + Send + Sync + 'static,
     requires feeds { length feeds.items ≡ length (connections_of gens.now.first) }
@@ -118,26 +177,25 @@ where
     let alloc = rt.alloc();
     let board = Shared::new(alloc, Mutex::new(Board::new(alloc, gens.get().first())?))?;
     match port {
-        Some(port) => run_with_port(rt, gens, &board, feeds, port),
-        None => run_alone(rt, gens.get(), &board, feeds),
+        Some(port) => run_with_port(rt, gens, &board, feeds, port, file),
+        None => run_alone(rt, gens, &board, feeds, file),
     }
 }
 
 fn run_alone<X>(
     rt: &X,
-    gens: &Generations,
+    gens: &Shared<Generations>,
     board: &Shared<Mutex<Board>>,
     feeds: Vec<ReaderFeed<Stream>>,
-) -> Result<(String, Option<Port>), Fault>
+    file: Option<File>,
+) -> Result<(Ran, Option<Port>), Fault>
 where
     X: Threads + Wait + Clock + AllocGlobal + Copy + Send + Sync + 'static,
     requires feeds { length feeds.items ≡ length (connections_of gens.now.first) }
     requires few { All (λ feed. ⟦<ReaderFeed<Stream> as RecordFeed>⟧.fault_count feed < 2 ^ 64 - 1) feeds.items }
 {
-    let alloc = rt.alloc();
-    let inbox = Inbox::without_posts(alloc, gens.first())?;
-    let served = serve(rt, alloc, gens, feeds, inbox, &BoardGate::new(board.get()))?;
-    Ok((report(alloc, gens.first(), served)?, None))
+    let inbox = Inbox::without_posts(rt.alloc(), gens.get().first())?;
+    Ok((run_told(rt, gens, board, feeds, inbox, file)?, None))
 }
 
 fn run_with_port<X>(
@@ -146,24 +204,58 @@ fn run_with_port<X>(
     board: &Shared<Mutex<Board>>,
     feeds: Vec<ReaderFeed<Stream>>,
     port: Port,
-) -> Result<(String, Option<Port>), Fault>
+    file: Option<File>,
+) -> Result<(Ran, Option<Port>), Fault>
 where
     X: Threads + Wait + Clock + AllocGlobal + Copy + Send + Sync + 'static,
     requires feeds { length feeds.items ≡ length (connections_of gens.now.first) }
     requires few { All (λ feed. ⟦<ReaderFeed<Stream> as RecordFeed>⟧.fault_count feed < 2 ^ 64 - 1) feeds.items }
 {
-    let alloc = rt.alloc();
     let (sessions, inbox) = start_sessions(rt, gens, board, port)?;
-    let served = serve(
-        rt,
-        alloc,
-        gens.get(),
-        feeds,
-        inbox,
-        &BoardGate::new(board.get()),
-    )?;
+    let ran = run_told(rt, gens, board, feeds, inbox, file)?;
     let port = sessions.join(rt);
-    Ok((report(alloc, gens.get().first(), served)?, Some(port)))
+    Ok((ran, Some(port)))
+}
+
+// Runs with the board and the journal told of what the pipelines do.
+fn run_told<X>(
+    rt: &X,
+    gens: &Shared<Generations>,
+    board: &Shared<Mutex<Board>>,
+    feeds: Vec<ReaderFeed<Stream>>,
+    inbox: Inbox,
+    file: Option<File>,
+) -> Result<Ran, Fault>
+where
+    X: Threads + Wait + Clock + AllocGlobal + Copy + Send + Sync + 'static,
+    requires feeds { length feeds.items ≡ length (connections_of gens.now.first) }
+    requires few { All (λ feed. ⟦<ReaderFeed<Stream> as RecordFeed>⟧.fault_count feed < 2 ^ 64 - 1) feeds.items }
+    requires for_config { IsInboxFor gens.now.first inbox }
+{
+    let alloc = rt.alloc();
+    journaling_crosses();
+    let journal = journaling(alloc, gens, &inbox, file)?;
+    let gate = JournalGate::new(BoardGate::new(board.get()), journal.as_ref());
+    let served = serve(rt, alloc, gens.get(), feeds, inbox, &gate)?;
+    let report = report(alloc, gens.get().first(), served)?;
+    let fault = journal.and_then(|journal| journal.lock(rt).fault());
+    Ok(Ran { report, fault })
+}
+
+// The journal that goes to a file, if there is one.
+fn journaling(
+    alloc: Global,
+    gens: &Shared<Generations>,
+    inbox: &Inbox,
+    file: Option<File>,
+) -> Result<Option<Mutex<Journaling>>, Fault> {
+    let Some(file) = file else {
+        return Ok(None);
+    };
+    let Ok(journal) = Journal::new(alloc, gens.share()?, file) else {
+        return Err(Fault::Memory);
+    };
+    Ok(Some(Mutex::new(Journaling::new(journal, inbox.stopper()?))))
 }
 
 // The sessions of the port, in their thread, and the inbox of what they post.

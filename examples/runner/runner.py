@@ -1,0 +1,293 @@
+#!/usr/bin/env python3
+"""Runs the jobs that the journal of a `gate serve` asks for, and posts how they have ended.
+
+JOURNAL is what GATE_JOURNAL names for the program: a FIFO, or a file, which is read as it grows. It has to be there. COMMAND is run for
+each job of each build set, all of them side by side, and finds in its environment what it is for:
+
+  GATE_TENANT, GATE_PIPELINE, GATE_SET, GATE_JOB   the build set, by its number in the pipeline, and the job
+  GATE_CONNECTION, GATE_PATCHSET                   whence the change or the ref comes; a ref has patch set 0
+  GATE_CHANGE                                      the number of the change, or else
+  GATE_REF, GATE_NEWREV, GATE_PROJECT              what was updated, and to which revision
+
+A job whose status is 0 has succeeded, and any other has failed. What it leaves running is killed when it ends. The jobs of a build set that
+is cancelled are killed, and so are all where a run begins or a pipeline ends. The runner ends when each pipeline of the run has ended.
+Where it has something to post and the port gives no answer for 90 seconds, that is a fault.
+"""
+import argparse
+import json
+import os
+import signal
+import socket
+import subprocess
+import sys
+import time
+from collections.abc import Iterable, Iterator
+
+PROGRAM = "runner.py"
+START = b'{"start":1}'
+# For how long it looks for nothing, and for how long the port may give no answer.
+PAUSE, PATIENCE = 0.05, 90
+STATUSES = "exit status: 0 each pipeline has ended; 1 fault; 2 command line. A fault is one line on standard error, and kills all jobs."
+
+# The numbers of a tenant, of its pipeline, and of a build set there.
+Key = tuple[int, int, int]
+
+
+class Fault(Exception):
+    """What is wrong, in a line, and the status that says so."""
+
+    def __init__(self, text: str, status: int = 1):
+        super().__init__(text)
+        self.status = status
+
+
+class Words(argparse.ArgumentParser):
+    def error(self, message: str):
+        raise Fault(f"{message} (--help says which words there are)", 2)
+
+
+class Journal:
+    """The lines of a FIFO, or of a file as it grows."""
+
+    def __init__(self, path: str):
+        # So a FIFO doesn't wait for its writer, and goes on when one run has ended and the next one opens it.
+        self.file = os.open(path, os.O_RDONLY | os.O_NONBLOCK)
+        self.rest = b""
+
+    def lines(self) -> Iterator[bytes]:
+        """The whole lines that have come since this was last asked."""
+        while piece := self.piece():
+            *lines, self.rest = (self.rest + piece).split(b"\n")
+            yield from lines
+
+    def piece(self) -> bytes:
+        try:
+            return os.read(self.file, 1 << 16)
+        except BlockingIOError:
+            return b""
+
+
+class Session:
+    """A session of the status port, which serves one after the other."""
+
+    def __init__(self, port: str):
+        form, _, where = port.partition(":")
+        host, _, number = where.rpartition(":")
+        if form == "unix":
+            self.peer = socket.socket(socket.AF_UNIX)
+            self.peer.settimeout(PATIENCE)
+            self.peer.connect(where)
+        else:
+            self.peer = socket.create_connection((host.strip("[]"), int(number)), PATIENCE)
+        self.replies = self.peer.makefile("r", encoding="utf-8", newline="\n")
+
+    def __enter__(self) -> "Session":
+        return self
+
+    def __exit__(self, *_) -> None:
+        self.replies.close()
+        self.peer.close()
+
+    def ask(self, line: str) -> str:
+        self.peer.sendall(line.encode() + b"\n")
+        return self.reply()
+
+    def reply(self) -> str:
+        line = self.replies.readline()
+        if not line.endswith("\n"):
+            raise ConnectionError("the session is over before all is said")
+        return line.removesuffix("\n")
+
+    def count_pipelines(self) -> int:
+        count, line = 0, self.ask("status")
+        while line.startswith("pipeline "):
+            count, line = count + 1, self.reply()
+        if line != "ok":
+            raise ConnectionError(f"the answer to status is {line}")
+        return count
+
+
+class BuildSet:
+    """The jobs of a line `begin`: those that wait, the processes of those that run, and a word for each that has ended."""
+
+    def __init__(self, told: dict):
+        self.told = told
+        self.waiting: list[str] = list(told["jobs"])
+        self.running: dict[str, subprocess.Popen] = {}
+        self.results: dict[str, str] = {}
+
+    def begin(self, command: list[str]) -> None:
+        while self.waiting:
+            job = self.waiting.pop(0)
+            try:
+                # A session of its own makes it a group of its own, with all that it starts.
+                how = {"stdin": subprocess.DEVNULL, "start_new_session": True}
+                self.running[job] = subprocess.Popen(command, env=environment(self.told, job), **how)
+            except (OSError, ValueError) as error:
+                raise Fault(f"{command[0]} can't be run: {error}") from None
+
+    def collect(self) -> None:
+        for job in [job for job, process in self.running.items() if has_ended(process)]:
+            self.results[job] = "failure" if end(self.running.pop(job)) else "success"
+
+    def kill(self) -> None:
+        for process in self.running.values():
+            end(process)
+
+    def line_of(self, job: str) -> str:
+        """What posts the result of a job."""
+        return f"result {self.told['t']} {self.told['p']} {self.told['begin']} {self.results[job]} {job}"
+
+
+def environment(told: dict, job: str) -> dict[str, str]:
+    """That of a job. Other variables of such names aren't handed on: a job that runs `gate` isn't to write to this journal."""
+    own = {"tenant": told["tenant"], "pipeline": told["pipeline"], "set": told["begin"], "job": job, "patchset": told["patchset"]}
+    match told:
+        case {"change": {"connection": connection, "number": number}}:
+            own |= {"connection": connection, "change": number}
+        case {"ref": {"connection": connection, "name": name, "newrev": newrev, "project": project}}:
+            own |= {"connection": connection, "ref": name, "newrev": newrev, "project": project}
+    others = {name: value for name, value in os.environ.items() if not name.startswith("GATE_")}
+    return others | {f"GATE_{name.upper()}": str(value) for name, value in own.items()}
+
+
+def has_ended(process: subprocess.Popen) -> bool:
+    """Leaves it to be waited for, so that its number is no other's until its group is killed."""
+    return os.waitid(os.P_PID, process.pid, os.WEXITED | os.WNOHANG | os.WNOWAIT) is not None
+
+
+def end(process: subprocess.Popen) -> int:
+    """Kills what is left of its group, and gives its status."""
+    os.killpg(process.pid, signal.SIGKILL)
+    return process.wait()
+
+
+class Runner:
+    def __init__(self, journal: Journal, port: str, command: list[str]):
+        self.journal, self.port, self.command = journal, port, command
+        # Those that have begun, and were neither cancelled nor reported.
+        self.sets: dict[Key, BuildSet] = {}
+        # The pipelines of this run that have ended, and how many it has, once its port has said so.
+        self.ended: set[tuple[int, int]] = set()
+        self.pipelines: int | None = None
+        self.answered = time.monotonic()
+
+    def run(self) -> None:
+        try:
+            while len(self.ended) != self.pipelines:
+                self.step()
+                time.sleep(PAUSE)
+        finally:
+            self.drop(list(self.sets))
+
+    def step(self) -> None:
+        self.read()
+        if self.has_to_ask():
+            self.try_to_post()
+        else:
+            self.answered = time.monotonic()
+        # What stands in a journal may be of a run that is no more: nothing begins before its port has answered.
+        if self.pipelines is not None:
+            for build_set in self.sets.values():
+                build_set.begin(self.command)
+                build_set.collect()
+
+    def read(self) -> None:
+        """Takes all lines that are there, before any job begins: so none begins whose build set is over some lines further on."""
+        for line in self.journal.lines():
+            # Where the run before was killed as it wrote, this stands behind half a line.
+            if line.endswith(START):
+                self.drop(list(self.sets))
+                self.ended, self.pipelines = set(), None
+            else:
+                self.take(json.loads(line))
+
+    def take(self, told: dict) -> None:
+        match told:
+            case {"begin": number, "t": tenant, "p": pipeline}:
+                self.sets[tenant, pipeline, number] = BuildSet(told)
+            case {"cancel": number, "t": tenant, "p": pipeline} | {"report": number, "t": tenant, "p": pipeline}:
+                self.drop([(tenant, pipeline, number)])
+            case {"end": _, "t": tenant, "p": pipeline}:
+                self.drop([key for key in self.sets if key[:2] == (tenant, pipeline)])
+                self.ended.add((tenant, pipeline))
+
+    def drop(self, keys: Iterable[Key]) -> None:
+        """These are over, with all their jobs and results."""
+        for key in keys:
+            if build_set := self.sets.pop(key, None):
+                build_set.kill()
+
+    def results(self) -> list[tuple[BuildSet, str]]:
+        return [(build_set, job) for build_set in self.sets.values() for job in build_set.results]
+
+    def has_to_ask(self) -> bool:
+        is_new = self.pipelines is None and bool(self.sets or self.ended)
+        return is_new or bool(self.results())
+
+    def try_to_post(self) -> None:
+        try:
+            with Session(self.port) as session:
+                self.post(session)
+            self.answered = time.monotonic()
+        except OSError as error:
+            self.read()
+            if self.pipelines is None and self.ended:
+                # It had nothing to run, and a port that goes away behind an end is that of a run that is over.
+                self.pipelines = len(self.ended)
+            elif time.monotonic() - self.answered > PATIENCE:
+                raise Fault(f"{self.port}: {error.strerror or error}") from None
+
+    def post(self, session: Session) -> None:
+        """Posts all results that there are. What finds no room is posted by a later session."""
+        pipelines = session.count_pipelines()
+        # A run writes its `start` before its port answers. Read behind the answer, the journal drops what is of an earlier run, whose build
+        # sets had the same numbers.
+        self.read()
+        self.pipelines = pipelines
+        for build_set, job in self.results():
+            line = build_set.line_of(job)
+            answer = session.ask(line)
+            if answer in ("full", "memory"):
+                break
+            if answer != "ok":
+                raise Fault(f"{self.port}: the answer to `{line}` is {answer}")
+            del build_set.results[job]
+        session.ask("quit")
+
+
+def port_of(word: str) -> str:
+    form, _, where = word.partition(":")
+    host, _, number = where.rpartition(":")
+    if (form == "unix" and where) or (form == "tcp" and host and number.isascii() and number.isdigit()):
+        return word
+    raise argparse.ArgumentTypeError(f"{word} is neither unix:PATH nor tcp:ADDR, as tcp:127.0.0.1:8001")
+
+
+def main() -> None:
+    layout = argparse.RawDescriptionHelpFormatter
+    words = Words(prog=PROGRAM, description=__doc__, epilog=STATUSES, formatter_class=layout, allow_abbrev=False)
+    words.add_argument("--port", metavar="PORT", type=port_of, default="unix:status.sock", help="unix:PATH or tcp:ADDR (%(default)s)")
+    words.add_argument("journal", metavar="JOURNAL")
+    words.add_argument("command", metavar="COMMAND", nargs=argparse.REMAINDER, help="with its words")
+    given = words.parse_args()
+    if not given.command:
+        words.error("there is no COMMAND")
+    # Where it is ended so, no job stays either.
+    signal.signal(signal.SIGTERM, lambda *_: sys.exit(128 + signal.SIGTERM))
+    try:
+        Runner(Journal(given.journal), given.port, given.command).run()
+    except OSError as error:
+        raise Fault(f"{given.journal}: {error.strerror}") from None
+    except json.JSONDecodeError as error:
+        raise Fault(f"{given.journal}: a line of it is no JSON: {error.doc[:40]!r}") from None
+
+
+if __name__ == "__main__":
+    try:
+        main()
+    except Fault as fault:
+        print(f"{PROGRAM}: fault: {fault}", file=sys.stderr)
+        sys.exit(fault.status)
+    except KeyboardInterrupt:
+        sys.exit(130)
