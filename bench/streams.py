@@ -1,5 +1,7 @@
-"""The streams, the configuration and the sessions of the port that `bench/load` and `bench/soak` have, with the plain filter that says
-what each pipeline is to process."""
+"""The streams, the configuration and the sessions of the port that `bench/load`, `bench/soak` and `bench/journal` have, with the plain filter that
+says what each pipeline is to process."""
+import importlib.machinery
+import importlib.util
 import json
 import os
 import socket
@@ -108,3 +110,11 @@ def posts(status, chance):
             how = "failure" if chance.randrange(7) == 0 else "success"
             lines.append(f"result {place // len(PIPELINES)} {place % len(PIPELINES)} {chance.randrange(items + reports)} {how} build\n")
     return lines
+
+
+def load(name):
+    """A script beside this one as a module."""
+    loader = importlib.machinery.SourceFileLoader(name, str(Path(__file__).with_name(name)))
+    module = importlib.util.module_from_spec(importlib.util.spec_from_loader(name, loader))
+    loader.exec_module(module)
+    return module
