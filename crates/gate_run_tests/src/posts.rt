@@ -11,6 +11,10 @@ use gate_test_lines::comes_to;
 use std::alloc::Global;
 use std::test::Fail;
 
+// What is printed of a run that was stopped before its first record.
+const STOPPED_AT_ONCE: &str =
+    "connection \"gerrit\" accepted 0 stopped\npipeline \"main\" \"check\" finished\ndone \"main\" \"check\" \"gerrit\"\n";
+
 fn dequeue() -> Manage {
     Manage::Dequeue(Key::Change {
         conn: ConnId(0),
@@ -51,7 +55,18 @@ fn a_stop_comes_before_the_first_record(rt: HostRuntime) -> Result<(), Fail> {
     let feeds = vec![in rt.alloc(); Feed::of(rt.alloc(), &[SEVENTH])?]?;
     let served = run(&rt, rt.alloc(), &gens, feeds, inbox, &Silent)?;
     let text = report_text(rt.alloc(), gens.first(), &served.report)?;
-    let wanted =
-        "connection \"gerrit\" accepted 0 stopped\npipeline \"main\" \"check\" finished\ndone \"main\" \"check\" \"gerrit\"\n";
-    comes_to("a report", text.as_str(), wanted)
+    comes_to("a report", text.as_str(), STOPPED_AT_ONCE)
+}
+
+#[test]
+fn a_stopper_asks_with_the_cause_that_it_is_given(rt: HostRuntime) -> Result<(), Fail> {
+    let gens = one(rt.alloc())?;
+    let (mut posts, inbox) = Posts::open(rt.alloc(), &gens)?;
+    let mut stopper = inbox.stopper()?;
+    assert!(&rt; stopper.stop(StopCause::Port) == Ok(StopCause::Port));
+    assert!(&rt; posts.stop(StopCause::Caller) == Ok(StopCause::Port));
+    let feeds = vec![in rt.alloc(); Feed::of(rt.alloc(), &[SEVENTH])?]?;
+    let served = run(&rt, rt.alloc(), &gens, feeds, inbox, &Silent)?;
+    let text = report_text(rt.alloc(), gens.first(), &served.report)?;
+    comes_to("a report", text.as_str(), STOPPED_AT_ONCE)
 }
