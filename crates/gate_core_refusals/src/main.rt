@@ -5,6 +5,7 @@
 mod batches;
 mod dispatching;
 mod forwarding;
+mod lines;
 mod pipelines;
 mod played;
 mod scripts;
@@ -43,6 +44,7 @@ fn run(log: &mut Log, alloc: Global, word: &str) -> Result<(), Elsewhere> {
         "pipelines" => pipelines::run(log, alloc),
         "worlds" => worlds::run(log, alloc),
         "scripts" => scripts::run(log, alloc),
+        "lines" => lines::run(log, alloc),
         _ => Err(Elsewhere),
     }
 }

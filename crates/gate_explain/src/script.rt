@@ -1,19 +1,18 @@
 //! A script, line by line: what each line answered, with names in place of numbers.
 mod answers;
 mod asked;
-mod forms;
 mod lines;
 mod player;
-mod reader;
 mod ways;
 mod wrong;
 
 use crate::fault::Fault;
-use crate::script::lines::{Lines, is_skipped, push_line};
+use crate::script::lines::{Lines, push_line};
 use crate::script::player::Player;
 use crate::script::wrong::push_wrong;
 use gate_config::Generations;
 use gate_core::{ScriptFault, Scripted, read_script};
+use gate_line::is_skipped;
 use gate_record::{Memory, Queue};
 use std::alloc::Global;
 

@@ -1,7 +1,6 @@
 pub mod Boards
 pub mod Commands
 pub mod Counts
-pub mod Fields
 pub mod Inner
 pub mod Limits
 pub mod Listened

@@ -1,10 +1,9 @@
 //! The commands of a status session.
-ghost use Rattle.std.specs.Prelude.{◌≡◌, IfErr, IfOk};
-ghost use Rattle.gate_status.specs.Commands.{IsFaultOf, command_of, has_texts};
+ghost use Rattle.std.specs.Prelude.{◌≡◌, IfErr, IfOk, None, option_copied};
+ghost use Rattle.gate_status.specs.Commands.{IsFaultOf, command_of};
 
-use crate::posts::posted_of;
-use crate::words::{is, is_blank, split_word};
 use gate_items::{JobResult, Manage};
+use gate_line::{LineFault, Post, PostKind, is_blank, is_word, split_word};
 use gate_record::{PipelineId, TenantId};
 use std::alloc::Global;
 
@@ -46,7 +45,7 @@ pub enum CommandFault {
 /// line that asks for something has texts to copy: those of a ref's key, or the name of a job.
 pub fn parse_command(alloc: Global, line: &[u8]) -> Result<Command, CommandFault>
     ensures ok { IfOk result (λ command. command_of line.now ≡ Ok command) }
-    ensures fault { IfErr result (IsFaultOf has_texts (command_of line.now)) }
+    ensures fault { IfErr result (IsFaultOf (command_of line.now)) }
 {
     if is_blank(line) {
         return Err(CommandFault::Empty);
@@ -59,22 +58,61 @@ pub fn parse_command(alloc: Global, line: &[u8]) -> Result<Command, CommandFault
     }
 }
 
+ghost use Rattle.gate_line.specs.Posts.{kind_of, post_of};
+ghost use Rattle.gate_status.specs.Commands.{command_named, posted};
+
+// A command with fields behind its word.
+fn posted_of(alloc: Global, word: &[u8], rest: Option<&[u8]>) -> Result<Command, CommandFault>
+    ensures ok { IfOk result (λ command. command_named None (kind_of word.now) (option_copied rest.entry) ≡ Ok command) }
+    ensures fault { IfErr result (IsFaultOf (command_named None (kind_of word.now) (option_copied rest.entry))) }
+{
+    match PostKind::of(word) {
+        Some(kind) => read_post(alloc, kind, rest),
+        None => Err(CommandFault::Unknown),
+    }
+}
+
+fn read_post(alloc: Global, kind: PostKind, rest: Option<&[u8]>) -> Result<Command, CommandFault>
+    ensures ok { IfOk result (λ command. posted (post_of kind (option_copied rest.entry)) ≡ Ok command) }
+    ensures fault { IfErr result (IsFaultOf (posted (post_of kind (option_copied rest.entry)))) }
+{
+    match kind.read(alloc, rest) {
+        Ok(Post::Manage(tenant, pipeline, manage)) => Ok(Command::Manage(tenant, pipeline, manage)),
+        Ok(Post::Result(tenant, pipeline, ended)) => Ok(Command::Result(tenant, pipeline, ended)),
+        Err(fault) => Err(fault_of(fault)),
+    }
+}
+
+ghost use Rattle.gate_status.specs.Commands.{fault_of};
+
+fn fault_of(fault: LineFault) -> CommandFault
+    ensures { result ≡ fault_of fault }
+{
+    match fault {
+        LineFault::Unknown => CommandFault::Unknown,
+        LineFault::Missing(_) | LineFault::Empty(_) => CommandFault::Arguments,
+        LineFault::Wrong(expected, _) if expected.is_number() => CommandFault::Number,
+        LineFault::Wrong(_, _) => CommandFault::Arguments,
+        LineFault::Memory => CommandFault::Memory,
+    }
+}
+
 ghost use Rattle.gate_status.specs.Commands.{plain_of};
 
 // A command of one word.
 fn plain_of(word: &[u8]) -> Option<Command>
     ensures { result ≡ plain_of word.now }
 {
-    if is(word, "status") {
+    if is_word(word, "status") {
         return Some(Command::Status);
     }
-    if is(word, "stop") {
+    if is_word(word, "stop") {
         return Some(Command::Stop);
     }
-    if is(word, "renew") {
+    if is_word(word, "renew") {
         return Some(Command::Renew);
     }
-    if is(word, "quit") {
+    if is_word(word, "quit") {
         return Some(Command::Quit);
     }
     None

@@ -7,16 +7,12 @@ mod board_gate;
 mod command;
 mod counted;
 mod fault;
-mod fields;
-mod keys;
 mod listening;
 mod port;
-mod posts;
 mod progress;
 mod reply;
 mod status;
 mod talking;
-mod words;
 
 pub use board::Board;
 pub use board_gate::BoardGate;

@@ -1,6 +1,7 @@
 ghost use Rattle.std.specs.Prelude.{◌<◌, length};
 ghost use Rattle.std.specs.Iterator.{at_most};
 
+use gate_line::first_line;
 use gate_record::Memory;
 use std::alloc::Global;
 
@@ -35,33 +36,6 @@ impl<'s> Iterator for Lines<'s> {
         let (line, rest) = first_line(self.rest);
         self.rest = rest;
         Some(line)
-    }
-}
-
-// The first line of a text that isn't empty, and what follows it.
-fn first_line(text: &[u8]) -> (&[u8], &[u8])
-    requires { 0 < length text.now }
-    ensures { length result.1.now < length text.now }
-{
-    match text.iter().position(|byte| *byte == b'\n') {
-        None => (text, &[]),
-        Some(end) => (without_return(&text[..end]), &text[end + 1..]),
-    }
-}
-
-// A line without the one carriage return at its end.
-fn without_return(line: &[u8]) -> &[u8] {
-    match line {
-        [front @ .., b'\r'] => front,
-        _ => line,
-    }
-}
-
-/// Whether a line is empty or a comment.
-pub fn is_skipped(line: &[u8]) -> bool {
-    match line {
-        [] => true,
-        [first, ..] => *first == b'#',
     }
 }
 

@@ -1,22 +1,18 @@
 //! A line that stands for nothing: which word of it is wrong, and what is expected in its place.
 use crate::near::{nearest, push_meant};
 use crate::quoted::Quoted;
-use crate::script::forms::{FIRST_WORDS, Field, Form, form_of, key_form};
 use crate::script::lines::{Lines, shortened};
-use crate::script::reader::{split_word, text_of};
+use gate_core::read_script_line;
+use gate_line::{Field, LineFault, split_word};
 use gate_record::Memory;
 use std::alloc::Global;
+use std::str;
 
-/// What is wrong with a line.
-#[derive(Clone, Copy)]
-enum Wrong<'l> {
-    /// The first word.
-    First(&'l [u8]),
-    /// The word, or the rest of the line, where this field is to stand.
-    Word(Field, &'l [u8]),
-    /// This field is missing.
-    Missing(Field),
-}
+// The first words of a script's lines.
+const FIRST_WORDS: [&str; 14] = [
+    "offer", "oversize", "close", "renew", "take", "send", "fetch", "match", "give", "dequeue",
+    "reset", "result", "turn", "show",
+];
 
 /// Adds the fault of a script at the line of this number, and what is wrong with it.
 pub fn push_wrong(
@@ -29,9 +25,9 @@ pub fn push_wrong(
     let text = shortened(alloc, line)?;
     let text = Quoted(text.as_str());
     write!(out, "script {number}\nLine {number} is {text}. ")?;
-    match wrong_in(line) {
-        Some(wrong) => push_expected(out, alloc, wrong),
-        None => Ok(out.push_str("It stands for nothing.")?),
+    match read_script_line(alloc, line) {
+        Ok(_) | Err(LineFault::Memory) => Err(Memory),
+        Err(fault) => push_expected(out, alloc, line, fault),
     }
 }
 
@@ -46,21 +42,38 @@ fn line_at(script: &[u8], number: usize) -> &[u8] {
     &[]
 }
 
-fn push_expected(out: &mut String, alloc: Global, wrong: Wrong<'_>) -> Result<(), Memory> {
-    match wrong {
-        Wrong::First(word) => push_first(out, alloc, word),
-        Wrong::Word(field, word) => {
-            let expected = field.expected();
-            let found = shortened(alloc, word)?;
-            let found = Quoted(found.as_str());
-            write!(out, "Expected {expected}; found {found}.")?;
-            Ok(())
-        }
-        Wrong::Missing(field) => {
-            let expected = field.expected();
+fn push_expected(
+    out: &mut String,
+    alloc: Global,
+    line: &[u8],
+    fault: LineFault,
+) -> Result<(), Memory> {
+    match fault {
+        LineFault::Unknown | LineFault::Memory => push_first(out, alloc, split_word(line).0),
+        LineFault::Missing(field) => {
+            let expected = expected(field);
             write!(out, "Expected {expected}; found the end of the line.")?;
             Ok(())
         }
+        LineFault::Empty(field) => push_found(out, alloc, field, &[]),
+        LineFault::Wrong(field, left) => push_found(out, alloc, field, found(line, field, left)),
+    }
+}
+
+fn push_found(out: &mut String, alloc: Global, field: Field, found: &[u8]) -> Result<(), Memory> {
+    let expected = expected(field);
+    let found = shortened(alloc, found)?;
+    let found = Quoted(found.as_str());
+    write!(out, "Expected {expected}; found {found}.")?;
+    Ok(())
+}
+
+// What stands in the place of a field that begins so many bytes before the end of the line.
+fn found(line: &[u8], field: Field, left: usize) -> &[u8] {
+    let rest = line.get(line.len().saturating_sub(left)..).unwrap_or(line);
+    match field {
+        Field::Job | Field::Record | Field::Project | Field::End => rest,
+        _ => split_word(rest).0,
     }
 }
 
@@ -74,60 +87,31 @@ fn push_first(out: &mut String, alloc: Global, word: &[u8]) -> Result<(), Memory
     let found = shortened(alloc, word)?;
     let found = Quoted(found.as_str());
     write!(out, "; found {found}")?;
-    push_meant(out, nearest(text_of(word), FIRST_WORDS.as_slice()))?;
+    let near = match str::from_utf8(word) {
+        Ok(text) => nearest(text, FIRST_WORDS.as_slice()),
+        Err(_) => None,
+    };
+    push_meant(out, near)?;
     out.push_str(".")?;
     Ok(())
 }
 
-// The first word of a line that is wrong, from the left.
-fn wrong_in(line: &[u8]) -> Option<Wrong<'_>> {
-    let (word, rest) = split_word(line);
-    let Some(form) = form_of(text_of(word)) else {
-        return Some(Wrong::First(word));
-    };
-    match front_of(form, rest) {
-        Err(wrong) => Some(wrong),
-        Ok(rest) => match form.last {
-            Field::Key => wrong_key(rest),
-            last => wrong_last(last, rest),
-        },
-    }
-}
-
-// What is left of a line behind the front of its form.
-fn front_of<'l>(form: Form, rest: Option<&'l [u8]>) -> Result<Option<&'l [u8]>, Wrong<'l>> {
-    let mut rest = rest;
-    for field in form.front {
-        let Some(text) = rest else {
-            return Err(Wrong::Missing(*field));
-        };
-        let (word, more) = split_word(text);
-        if !field.takes(word) {
-            return Err(Wrong::Word(*field, word));
-        }
-        rest = more;
-    }
-    Ok(rest)
-}
-
-fn wrong_last(last: Field, rest: Option<&[u8]>) -> Option<Wrong<'_>> {
-    match rest {
-        None => Some(Wrong::Missing(last)),
-        Some(text) if !last.takes(text) => Some(Wrong::Word(last, text)),
-        Some(_) => None,
-    }
-}
-
-fn wrong_key(rest: Option<&[u8]>) -> Option<Wrong<'_>> {
-    let Some(text) = rest else {
-        return Some(Wrong::Missing(Field::Key));
-    };
-    let (word, rest) = split_word(text);
-    let Some(form) = key_form(text_of(word)) else {
-        return Some(Wrong::Word(Field::Key, word));
-    };
-    match front_of(form, rest) {
-        Err(wrong) => Some(wrong),
-        Ok(rest) => wrong_last(form.last, rest),
+// What is to stand there.
+fn expected(field: Field) -> &'static str {
+    match field {
+        Field::Connection => "the number of a connection (digits, below 2^32)",
+        Field::Tenant => "the number of a tenant (digits, below 2^32)",
+        Field::Pipeline => "the number of a pipeline (digits, below 2^32)",
+        Field::Count => "how many items to gather (digits, below 2^32)",
+        Field::BuildSet => "the number of a build set (digits, below 2^64)",
+        Field::Ending => "\"success\" or \"failure\"",
+        Field::Job => "the name of a job, in UTF-8",
+        Field::Record => "a record",
+        Field::Key => "a key, \"change C N\" or \"ref C NEWREV REF PROJECT\"",
+        Field::Change => "the number of a change, an i64",
+        Field::Revision => "a revision, in UTF-8",
+        Field::Ref => "the name of a ref, in UTF-8",
+        Field::Project => "the name of a project, in UTF-8",
+        Field::End => "the end of the line",
     }
 }

@@ -1,14 +1,13 @@
 //! What Zuul reads and this program doesn't: the names of its settings, and what follows from each here.
-use crate::near::{is_near, nearest};
+use crate::near::nearest;
 use crate::quoted::{Place, Quoted};
 use gate_record::Memory;
 use serde_json::Value;
 
-/// A setting of Zuul's that isn't applied.
+/// Settings of Zuul's that aren't applied, and what follows from each of them.
 #[derive(Clone, Copy)]
-pub struct Setting {
-    pub name: &'static str,
-    /// What follows.
+pub struct Settings {
+    pub names: &'static [&'static str],
     pub follows: &'static str,
 }
 
@@ -18,7 +17,7 @@ pub struct Known {
     /// Those that are read.
     pub read: &'static [&'static str],
     /// Those that Zuul reads.
-    pub settings: &'static [Setting],
+    pub settings: &'static [Settings],
 }
 
 impl Known {
@@ -41,9 +40,9 @@ impl Known {
 
     /// What follows from a setting of Zuul's.
     pub fn setting(&self, key: &str) -> Option<&'static str> {
-        for setting in self.settings {
-            if setting.name == key {
-                return Some(setting.follows);
+        for some in self.settings {
+            if some.names.contains(&key) {
+                return Some(some.follows);
             }
         }
         None
@@ -54,9 +53,9 @@ impl Known {
         if let Some(name) = nearest(key, self.read) {
             return Some(name);
         }
-        for setting in self.settings {
-            if is_near(key, setting.name) {
-                return Some(setting.name);
+        for some in self.settings {
+            if let Some(name) = nearest(key, some.names) {
+                return Some(name);
             }
         }
         None

@@ -1,5 +1,5 @@
 //! The settings of Zuul's documentation, by where they stand ("Tenant Configuration", "Pipeline Definition", "Project").
-use crate::unapplied::settings::{Known, Setting};
+use crate::unapplied::settings::{Known, Settings};
 
 const NOTHING_TOLD: &str =
     "nothing is told to Gerrit: no message, no vote, no submit; a report stays with the pipeline";
@@ -38,84 +38,40 @@ pub const DOCUMENT: Known = Known {
 pub const TENANT: Known = Known {
     read: &["name", "source"],
     settings: &[
-        Setting {
-            name: "max-nodes-per-job",
+        Settings {
+            names: &[
+                "max-nodes-per-job",
+                "max-job-timeout",
+                "allowed-triggers",
+                "allowed-reporters",
+                "allowed-labels",
+                "disallowed-labels",
+                "max-dependencies",
+                "max-changes-per-pipeline",
+            ],
             follows: NO_LIMIT,
         },
-        Setting {
-            name: "max-job-timeout",
-            follows: NO_LIMIT,
-        },
-        Setting {
-            name: "allowed-triggers",
-            follows: NO_LIMIT,
-        },
-        Setting {
-            name: "allowed-reporters",
-            follows: NO_LIMIT,
-        },
-        Setting {
-            name: "allowed-labels",
-            follows: NO_LIMIT,
-        },
-        Setting {
-            name: "disallowed-labels",
-            follows: NO_LIMIT,
-        },
-        Setting {
-            name: "max-dependencies",
-            follows: NO_LIMIT,
-        },
-        Setting {
-            name: "max-changes-per-pipeline",
-            follows: NO_LIMIT,
-        },
-        Setting {
-            name: "exclude-unprotected-branches",
+        Settings {
+            names: &[
+                "exclude-unprotected-branches",
+                "exclude-locked-branches",
+                "include-branches",
+                "exclude-branches",
+            ],
             follows: EVERY_BRANCH_ENTERS,
         },
-        Setting {
-            name: "exclude-locked-branches",
-            follows: EVERY_BRANCH_ENTERS,
-        },
-        Setting {
-            name: "include-branches",
-            follows: EVERY_BRANCH_ENTERS,
-        },
-        Setting {
-            name: "exclude-branches",
-            follows: EVERY_BRANCH_ENTERS,
-        },
-        Setting {
-            name: "default-parent",
+        Settings {
+            names: &["default-parent", "default-ansible-version", "semaphores"],
             follows: NO_JOBS_RUN,
         },
-        Setting {
-            name: "default-ansible-version",
-            follows: NO_JOBS_RUN,
-        },
-        Setting {
-            name: "semaphores",
-            follows: NO_JOBS_RUN,
-        },
-        Setting {
-            name: "report-build-page",
-            follows: "there are no web pages and no roles here, so it isn't read",
-        },
-        Setting {
-            name: "web-root",
-            follows: "there are no web pages and no roles here, so it isn't read",
-        },
-        Setting {
-            name: "admin-rules",
-            follows: "there are no web pages and no roles here, so it isn't read",
-        },
-        Setting {
-            name: "access-rules",
-            follows: "there are no web pages and no roles here, so it isn't read",
-        },
-        Setting {
-            name: "authentication-realm",
+        Settings {
+            names: &[
+                "report-build-page",
+                "web-root",
+                "admin-rules",
+                "access-rules",
+                "authentication-realm",
+            ],
             follows: "there are no web pages and no roles here, so it isn't read",
         },
     ],
@@ -130,77 +86,49 @@ pub const SOURCE: Known = Known {
 /// The settings of what is listed that say which branches count.
 pub const LISTING: Known = Known {
     read: &[],
-    settings: &[
-        Setting {
-            name: "exclude-unprotected-branches",
-            follows: EVERY_BRANCH_ENTERS,
-        },
-        Setting {
-            name: "exclude-locked-branches",
-            follows: EVERY_BRANCH_ENTERS,
-        },
-        Setting {
-            name: "include-branches",
-            follows: EVERY_BRANCH_ENTERS,
-        },
-        Setting {
-            name: "exclude-branches",
-            follows: EVERY_BRANCH_ENTERS,
-        },
-    ],
+    settings: &[Settings {
+        names: &[
+            "exclude-unprotected-branches",
+            "exclude-locked-branches",
+            "include-branches",
+            "exclude-branches",
+        ],
+        follows: EVERY_BRANCH_ENTERS,
+    }],
 };
 
 /// The members of an item in a tenant's list.
 pub const ITEM: Known = Known {
     read: &["pipeline", "project"],
     settings: &[
-        Setting {
-            name: "job",
+        Settings {
+            names: &["job"],
             follows: "a job is known by its name alone: each one that a stanza names is in each build set, and its failure fails the item, also with `voting: false`",
         },
-        Setting {
-            name: "project-template",
+        Settings {
+            names: &["project-template"],
             follows: NO_TEMPLATE,
         },
-        Setting {
-            name: "queue",
+        Settings {
+            names: &["queue"],
             follows: ONE_QUEUE,
         },
-        Setting {
-            name: "nodeset",
+        Settings {
+            names: &[
+                "nodeset",
+                "secret",
+                "semaphore",
+                "image",
+                "flavor",
+                "label",
+                "section",
+                "provider",
+            ],
             follows: NO_JOBS_RUN,
         },
-        Setting {
-            name: "secret",
-            follows: NO_JOBS_RUN,
-        },
-        Setting {
-            name: "semaphore",
-            follows: NO_JOBS_RUN,
-        },
-        Setting {
-            name: "pragma",
+        Settings {
+            names: &["pragma"],
             follows: ALL_BRANCHES,
-        },
-        Setting {
-            name: "image",
-            follows: NO_JOBS_RUN,
-        },
-        Setting {
-            name: "flavor",
-            follows: NO_JOBS_RUN,
-        },
-        Setting {
-            name: "label",
-            follows: NO_JOBS_RUN,
-        },
-        Setting {
-            name: "section",
-            follows: NO_JOBS_RUN,
-        },
-        Setting {
-            name: "provider",
-            follows: NO_JOBS_RUN,
         },
     ],
 };
@@ -209,156 +137,82 @@ pub const ITEM: Known = Known {
 pub const PIPELINE: Known = Known {
     read: &["name", "manager", "trigger"],
     settings: &[
-        Setting {
-            name: "description",
+        Settings {
+            names: &["description"],
             follows: FOR_READERS,
         },
-        Setting {
-            name: "post-review",
+        Settings {
+            names: &["post-review", "variables"],
             follows: NO_JOBS_RUN,
         },
-        Setting {
-            name: "variables",
-            follows: NO_JOBS_RUN,
-        },
-        Setting {
-            name: "success-message",
+        Settings {
+            names: &[
+                "success-message",
+                "failure-message",
+                "start-message",
+                "merge-conflict-message",
+                "merge-failure-message",
+                "enqueue-message",
+                "no-jobs-message",
+                "dequeue-message",
+                "config-error-message",
+                "footer-message",
+            ],
             follows: NO_MESSAGE,
         },
-        Setting {
-            name: "failure-message",
-            follows: NO_MESSAGE,
-        },
-        Setting {
-            name: "start-message",
-            follows: NO_MESSAGE,
-        },
-        Setting {
-            name: "merge-conflict-message",
-            follows: NO_MESSAGE,
-        },
-        Setting {
-            name: "merge-failure-message",
-            follows: NO_MESSAGE,
-        },
-        Setting {
-            name: "enqueue-message",
-            follows: NO_MESSAGE,
-        },
-        Setting {
-            name: "no-jobs-message",
-            follows: NO_MESSAGE,
-        },
-        Setting {
-            name: "dequeue-message",
-            follows: NO_MESSAGE,
-        },
-        Setting {
-            name: "config-error-message",
-            follows: NO_MESSAGE,
-        },
-        Setting {
-            name: "footer-message",
-            follows: NO_MESSAGE,
-        },
-        Setting {
-            name: "allow-other-connections",
+        Settings {
+            names: &["allow-other-connections"],
             follows: "events enter from the connections alone that the pipeline has a rule for, as with `false`",
         },
-        Setting {
-            name: "supercedes",
+        Settings {
+            names: &["supercedes"],
             follows: "an item stays in both pipelines",
         },
-        Setting {
-            name: "dequeue-on-new-patchset",
+        Settings {
+            names: &["dequeue-on-new-patchset"],
             follows: "a trigger that the pipeline selects takes the older patch set of its change out, also with `false`; another event doesn't",
         },
-        Setting {
-            name: "ignore-dependencies",
+        Settings {
+            names: &["ignore-dependencies"],
             follows: "a change brings no other with it, as with `true`",
         },
-        Setting {
-            name: "precedence",
+        Settings {
+            names: &["precedence"],
             follows: "none: each pipeline has its own worker, and no nodes are shared out",
         },
-        Setting {
-            name: "require",
+        Settings {
+            names: &["require", "reject"],
             follows: EVERY_EVENT,
         },
-        Setting {
-            name: "reject",
-            follows: EVERY_EVENT,
-        },
-        Setting {
-            name: "enqueue",
+        Settings {
+            names: &[
+                "enqueue",
+                "dequeue",
+                "success",
+                "failure",
+                "merge-conflict",
+                "merge-failure",
+                "config-error",
+                "start",
+                "no-jobs",
+                "disabled",
+            ],
             follows: NOTHING_TOLD,
         },
-        Setting {
-            name: "dequeue",
-            follows: NOTHING_TOLD,
-        },
-        Setting {
-            name: "success",
-            follows: NOTHING_TOLD,
-        },
-        Setting {
-            name: "failure",
-            follows: NOTHING_TOLD,
-        },
-        Setting {
-            name: "merge-conflict",
-            follows: NOTHING_TOLD,
-        },
-        Setting {
-            name: "merge-failure",
-            follows: NOTHING_TOLD,
-        },
-        Setting {
-            name: "config-error",
-            follows: NOTHING_TOLD,
-        },
-        Setting {
-            name: "start",
-            follows: NOTHING_TOLD,
-        },
-        Setting {
-            name: "no-jobs",
-            follows: NOTHING_TOLD,
-        },
-        Setting {
-            name: "disabled",
-            follows: NOTHING_TOLD,
-        },
-        Setting {
-            name: "disable-after-consecutive-failures",
+        Settings {
+            names: &["disable-after-consecutive-failures"],
             follows: "the pipeline goes on, however many items fail",
         },
-        Setting {
-            name: "window",
-            follows: NO_WINDOW,
-        },
-        Setting {
-            name: "window-floor",
-            follows: NO_WINDOW,
-        },
-        Setting {
-            name: "window-ceiling",
-            follows: NO_WINDOW,
-        },
-        Setting {
-            name: "window-increase-type",
-            follows: NO_WINDOW,
-        },
-        Setting {
-            name: "window-increase-factor",
-            follows: NO_WINDOW,
-        },
-        Setting {
-            name: "window-decrease-type",
-            follows: NO_WINDOW,
-        },
-        Setting {
-            name: "window-decrease-factor",
+        Settings {
+            names: &[
+                "window",
+                "window-floor",
+                "window-ceiling",
+                "window-increase-type",
+                "window-increase-factor",
+                "window-decrease-type",
+                "window-decrease-factor",
+            ],
             follows: NO_WINDOW,
         },
     ],
@@ -368,32 +222,28 @@ pub const PIPELINE: Known = Known {
 pub const STANZA: Known = Known {
     read: &["name"],
     settings: &[
-        Setting {
-            name: "queue",
+        Settings {
+            names: &["queue"],
             follows: ONE_QUEUE,
         },
-        Setting {
-            name: "templates",
+        Settings {
+            names: &["templates"],
             follows: NO_TEMPLATE,
         },
-        Setting {
-            name: "default-branch",
+        Settings {
+            names: &["default-branch", "vars"],
             follows: NO_JOBS_RUN,
         },
-        Setting {
-            name: "branches",
+        Settings {
+            names: &["branches"],
             follows: ALL_BRANCHES,
         },
-        Setting {
-            name: "merge-mode",
+        Settings {
+            names: &["merge-mode"],
             follows: "nothing is merged here",
         },
-        Setting {
-            name: "vars",
-            follows: NO_JOBS_RUN,
-        },
-        Setting {
-            name: "description",
+        Settings {
+            names: &["description"],
             follows: FOR_READERS,
         },
     ],
@@ -403,16 +253,16 @@ pub const STANZA: Known = Known {
 pub const PART: Known = Known {
     read: &["jobs"],
     settings: &[
-        Setting {
-            name: "queue",
+        Settings {
+            names: &["queue"],
             follows: ONE_QUEUE,
         },
-        Setting {
-            name: "fail-fast",
+        Settings {
+            names: &["fail-fast"],
             follows: "an item waits for the results of all of its jobs, also with `true`",
         },
-        Setting {
-            name: "debug",
+        Settings {
+            names: &["debug"],
             follows: NO_MESSAGE,
         },
     ],

@@ -1,0 +1,15 @@
+//! The lines of scripts and of the status port: their words and fields, and what a line posts to a pipeline.
+#![tactic(auto)]
+
+mod field;
+mod fields;
+mod keys;
+mod lines;
+mod posts;
+mod words;
+
+pub use field::{Field, LineFault};
+pub use fields::{at_end, last_bytes, number_field};
+pub use lines::{first_line, is_skipped};
+pub use posts::{Post, PostKind};
+pub use words::{is_blank, is_word, split_word};

@@ -1,0 +1,114 @@
+//! The words of a line: texts, numbers, and names to compare with.
+ghost use Rattle.std.specs.Prelude.{◌≡◌, ◌+◌, ◌^◌, Some, None, option_copied, option_map};
+ghost use Rattle.std.specs.Str.{bytes_eq};
+ghost use Rattle.gate_line.specs.Words.{is_blank, number_below, rest_of, text_of, word_of};
+
+use std::str;
+
+/// What stands before the first space, and what behind it.
+pub fn split_word(text: &[u8]) -> (&[u8], Option<&[u8]>)
+    ensures word { result.0.now ≡ word_of text.now }
+    ensures rest { option_copied result.1 ≡ rest_of text.now }
+{
+    match find_byte(text, b' ') {
+        None => (text, None),
+        Some(at) => (&text[..at], Some(&text[at + 1..])),
+    }
+}
+
+/// Whether a word is this one.
+pub fn is_word(word: &[u8], name: &str) -> bool
+    ensures { result ≡ bytes_eq word.now name.now }
+{
+    word == name.as_bytes()
+}
+
+ghost use Rattle.std.specs.Prelude.{position, ◌==◌};
+
+// The first place of a byte.
+pub(crate) fn find_byte(text: &[u8], wanted: u8) -> Option<usize>
+    ensures { result ≡ position (λ byte. byte == wanted) text.now }
+{
+    text.iter().position(|byte| *byte == wanted)
+}
+
+ghost use Rattle.std.specs.List.{list_all};
+ghost use Rattle.gate_line.specs.Words.{is_digit, is_space, value_of};
+
+/// Whether a line has nothing but spaces.
+pub fn is_blank(line: &[u8]) -> bool
+    ensures { result ≡ is_blank line.now }
+{
+    line.iter().all(|byte| *byte == b' ')
+}
+
+// A text of one byte or more.
+pub(crate) fn text_of(bytes: &[u8]) -> Option<&str>
+    ensures { option_map (λ text. text.now) result ≡ text_of bytes.now }
+{
+    if bytes.is_empty() {
+        return None;
+    }
+    match str::from_utf8(bytes) {
+        Ok(text) => Some(text),
+        Err(_) => None,
+    }
+}
+
+// One or more decimal digits whose value is a `u32`.
+pub(crate) fn number_of(text: &[u8]) -> Option<u32>
+    ensures { result ≡ number_below (2 ^ 32) text.now }
+{
+    let value = set_of(text)?;
+    if value <= u64::from(u32::MAX) {
+        Some(value as u32)
+    } else {
+        None
+    }
+}
+
+// One or more decimal digits whose value is a `u64`.
+pub(crate) fn set_of(text: &[u8]) -> Option<u64>
+    ensures { result ≡ number_below (2 ^ 64) text.now }
+{
+    if text.is_empty() || !are_digits(text) {
+        return None;
+    }
+    value_of(text)
+}
+
+fn are_digits(text: &[u8]) -> bool
+    ensures { result ≡ list_all is_digit text.now }
+{
+    text.iter().all(|byte| *byte >= b'0' && *byte <= b'9')
+}
+
+ghost use Rattle.std.specs.Prelude.{if◌then◌else◌, nat_lt};
+
+// The value of digits, where it is a `u64`.
+fn value_of(digits: &[u8]) -> Option<u64>
+    ensures { result ≡ (if nat_lt (value_of digits.now) (2 ^ 64) then Some (value_of digits.now) else None) }
+{
+    let mut value: u64 = 0;
+    for digit in digits {
+        match with_digit(value, *digit) {
+            Some(more) => value = more,
+            None => return None,
+        }
+    }
+    Some(value)
+}
+
+ghost use Rattle.std.specs.Prelude.{◌*◌, ◌-◌};
+
+// A digit more, where the value stays a `u64`.
+fn with_digit(value: u64, digit: u8) -> Option<u64>
+    ensures { result ≡ (if nat_lt (10 * value + (digit - 48)) (2 ^ 64) then Some (10 * value + (digit - 48)) else None) }
+{
+    let more = 10 * u128::from(value) + u128::from(digit.saturating_sub(b'0'));
+    if more <= u128::from(u64::MAX) {
+        Some(more as u64)
+    } else {
+        None
+    }
+}
