@@ -1,6 +1,7 @@
 //! Files that want memory.
 use super::*;
 use std::alloc::Allocator;
+use std::env::FillError;
 use std::fs::{Metadata, OpenOptions};
 use std::io;
 use std::net::SocketAddr;
@@ -29,6 +30,20 @@ impl<X: Clock> Clock for Refusing<X> {
 
     fn since_1970(&self) -> io::Result<Duration> {
         self.0.since_1970()
+    }
+}
+
+impl<X> Env for Refusing<X> {
+    fn arg(&self, _i: usize, _buf: &mut [u8]) -> Result<usize, FillError> {
+        Err(FillError::NotPresent)
+    }
+
+    fn var(&self, _name: &str, _buf: &mut [u8]) -> Result<usize, FillError> {
+        Err(FillError::NotPresent)
+    }
+
+    fn var_at(&self, _i: usize, _buf: &mut [u8]) -> Result<usize, FillError> {
+        Err(FillError::NotPresent)
     }
 }
 
