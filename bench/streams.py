@@ -1,15 +1,9 @@
-"""The streams, the configuration and the sessions of the port that `bench/load`, `bench/soak` and `bench/journal` have, with the plain filter that
-says what each pipeline is to process."""
+"""The streams and the configuration that `bench/load`, `bench/soak` and `bench/journal` have, with the plain filter that says what each
+pipeline is to process."""
 import importlib.machinery
 import importlib.util
-import json
-import os
-import socket
-import time
 from pathlib import Path
 
-ROOT = Path(__file__).resolve().parent.parent
-PROGRAM = str(Path(os.environ.get("GATE") or ROOT / "crates/gate_main/out/gate_main").resolve())
 SIZE = 2048
 SECONDS = 120
 
@@ -71,29 +65,6 @@ def record(connection, number):
     change = f'"change":{{"project":"{project}","branch":"{branch}","number":{number}}},"patchSet":{{"number":1}}'
     people = '"uploader":{"username":"ada"},"author":{"username":"ada"},"submitter":{"username":"zuul"}'
     return f'{{"type":"{kind}",{change},{people},"eventCreatedOn":1676467816,"comment":"'.ljust(SIZE - 3, "x") + '"}\n'
-
-
-def connect(port, until):
-    """A connection to a status port: a TCP port's number, or the path of a Unix socket. It is tried until then."""
-    while True:
-        try:
-            if isinstance(port, int):
-                return socket.create_connection(("127.0.0.1", port), timeout=SECONDS)
-            peer = socket.socket(socket.AF_UNIX)
-            peer.settimeout(SECONDS)
-            peer.connect(str(port))
-            return peer
-        except OSError:
-            if time.monotonic() > until:
-                raise
-            time.sleep(0.01)
-
-
-def session(port, until, *lines):
-    """A session that sends all of these, and the lines of its replies."""
-    with connect(port, until) as peer, peer.makefile("rb") as replies:
-        peer.sendall(b"".join(line + b"\n" for line in lines))
-        return replies.read().decode().splitlines()
 
 
 def counts(line):

@@ -1,4 +1,4 @@
-/* Who wakes whom among the threads of a run: one connection, one tenant, two pipelines and a port. `bin/model` has spin try each schedule.
+/* Who wakes whom among the threads of a run: one connection, one tenant, two pipelines and a port. `tools/model` has spin try each schedule.
    It is written by hand: docs/ARCHITECTURE.md, "Who wakes whom", says which function each part stands for.
 
    Waking a thread sets its token; parking waits for the token and takes it away (crossbeam's Parker). Each step, and each `atomic`, looks

@@ -1,5 +1,5 @@
 //! Makes the calls of the core, and of the crates that it joins, that may be refused memory, a scenario for each word, and tells what
-//! comes of them (`bin/refused-calls`). Without words it prints nothing.
+//! comes of them (`tools/refused-calls`). Without words it prints nothing.
 #![tactic(auto)]
 
 mod batches;

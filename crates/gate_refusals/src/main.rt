@@ -1,5 +1,5 @@
 //! Makes the calls of the lower libraries that may be refused memory, a scenario for each word, and tells what comes of them
-//! (`bin/refused-calls`): texts, records, patterns, configurations, items, journals, shared queues and streams. Without words it prints nothing.
+//! (`tools/refused-calls`): texts, records, patterns, configurations, items, journals, shared queues and streams. Without words it prints nothing.
 #![tactic(auto)]
 
 mod configurations;

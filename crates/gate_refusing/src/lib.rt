@@ -1,4 +1,4 @@
-//! What the programs share that make the calls which may be refused memory (`bin/refused-calls`): what a run tells, how a call is
+//! What the programs share that make the calls which may be refused memory (`tools/refused-calls`): what a run tells, how a call is
 //! made and made again, and the configurations and records that scenarios begin with.
 #![tactic(auto)]
 

@@ -1,5 +1,5 @@
 //! Makes the calls of runs in threads and of the status port that may be refused memory, a scenario for each word, and tells what comes
-//! of them (`bin/refused-calls`). Without words it prints nothing.
+//! of them (`tools/refused-calls`). Without words it prints nothing.
 #![tactic(auto)]
 
 mod commands;
