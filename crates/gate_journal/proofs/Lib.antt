@@ -1,3 +1,4 @@
 pub mod Following
 pub mod Numbered
 pub mod Pushed
+pub mod Quoting

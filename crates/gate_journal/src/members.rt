@@ -13,9 +13,24 @@ use std::alloc::Global;
 pub(crate) fn push_name(out: &mut String, alloc: Global, name: &str) -> Result<(), Memory>
     ensures { OnOk result (string_bytes out.new ≡ string_bytes out.old ++ name_text name.now) }
 {
+    if is_plain(name) {
+        return push_parts(out, "\"", name, "\"");
+    }
     let name = name_text(alloc, name)?;
     out.push_str(name.as_str())?;
     Ok(())
+}
+
+ghost use Rattle.std.specs.List.{list_all};
+ghost use Rattle.gate_journal.specs.Inner.Plain.{is_plain};
+
+// Whether a name has nothing to escape.
+fn is_plain(name: &str) -> bool
+    ensures { result ≡ list_all is_plain name.now }
+{
+    name.as_bytes()
+        .iter()
+        .all(|byte| *byte >= b' ' && *byte != b'"' && *byte != b'\\')
 }
 
 /// A number.

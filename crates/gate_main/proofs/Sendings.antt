@@ -11,7 +11,7 @@ use Rattle.gate_main.specs.contracts.journal_gate.Journaling as journaling
 
 module _ (generations_send : IsSend generations.the_row) (generations_sync : IsSync generations.the_row) where
   journal_parts : AllSend (shape journal.the_type).fields
-  journal_parts = (search (sendable, crosses) depth 40 fits 20000, (search (sendable, crosses, shared.the_send) depth 40 fits 20000, (search (sendable, crosses) depth 40 fits 20000, (search (sendable, crosses, told.the_send) depth 40 fits 20000, (search (sendable, crosses) depth 40 fits 20000, tt)))))
+  journal_parts = (search (sendable, crosses) depth 40 fits 20000, (search (sendable, crosses, shared.the_send) depth 40 fits 20000, (search (sendable, crosses) depth 40 fits 20000, (search (sendable, crosses, told.the_send) depth 40 fits 20000, (search (sendable, crosses) depth 40 fits 20000, (search (sendable, crosses) depth 40 fits 20000, tt))))))
 
   journaling_parts : AllSend (shape journaling.the_type).fields
   journaling_parts = (struct_send (shape journal.the_type) journal_parts, (search (sendable, crosses, stopper.the_send) depth 40 fits 20000, (search (sendable, crosses) depth 40 fits 20000, tt)))

@@ -26,6 +26,8 @@ pub struct Journal {
     file: File,
     // By tenant and pipeline number.
     pipelines: Vec<Vec<PipelineJournal>>,
+    // Those of the last action: their room serves the next ones.
+    lines: String,
     fault: Option<JournalFault>,
 }
 
@@ -69,6 +71,7 @@ impl Journal {
             gens,
             file,
             pipelines,
+            lines: String::new(alloc),
             fault: None,
         })
     }
@@ -97,11 +100,17 @@ impl Journal {
             tenant,
             pipeline,
         };
-        let mut lines = String::new(self.alloc);
+        self.lines.clear();
         let made = journal.push_action(
-            &mut lines, self.alloc, &place, items, stamp, action, outcome,
+            &mut self.lines,
+            self.alloc,
+            &place,
+            items,
+            stamp,
+            action,
+            outcome,
         );
-        self.write(made, &lines);
+        self.write(made);
     }
 
     /// Writes the line behind which nothing comes of a pipeline.
@@ -114,9 +123,9 @@ impl Journal {
             tenant,
             pipeline,
         };
-        let mut line = String::new(self.alloc);
-        let made = push_end(&mut line, self.alloc, &place, finished);
-        self.write(made, &line);
+        self.lines.clear();
+        let made = push_end(&mut self.lines, self.alloc, &place, finished);
+        self.write(made);
     }
 
     /// Why lines are missing, if any are.
@@ -125,10 +134,12 @@ impl Journal {
     }
 
     // Lines that were made go to the file at once. An action that says nothing has none.
-    fn write(&mut self, made: Result<(), Memory>, lines: &String) {
+    fn write(&mut self, made: Result<(), Memory>) {
         if made.is_err() {
             self.fault = Some(JournalFault::Memory);
-        } else if !lines.is_empty() && write_lines(&mut self.file, lines.as_str()).is_err() {
+        } else if !self.lines.is_empty()
+            && write_lines(&mut self.file, self.lines.as_str()).is_err()
+        {
             self.fault = Some(JournalFault::File);
         }
     }
