@@ -1,7 +1,7 @@
 -- Items in the places of tenants, tenant by tenant.
-use Rattle.std.proofs.Common.{◌≡◌, ◌∙◌, refl, sym, ap, subst, ℕ, zero, suc, ◌+◌, ◌-◌, ◌<◌, List, [], ◌∷◌, ◌++◌, map, length, replicate, slice_set, Option, None, option_map, arith}
+use Rattle.std.proofs.Common.{◌≡◌, ◌∙◌, refl, sym, ap, subst, ℕ, zero, suc, ◌+◌, ◌-◌, ◌<◌, List, [], ◌∷◌, ◌++◌, map, length, drop, replicate, slice_set, Option, None, option_map, arith}
 use Rattle.std.specs.List.{cons_option, filter_map, range_with_len}
-use Rattle.std.proofs.Math.Seq.{set-append_seam}
+use Rattle.std.proofs.Math.Seq.{drop-append_seam, set-append_seam}
 use Rattle.std.proofs.lemmas.List.FromFn.{length-map-range_with_len, map-range_with_len_more}
 use Rattle.std.proofs.lemmas.List.{append_assoc}
 use Rattle.gate_record.specs.declared.transit.TenantItem.{TenantItem}
@@ -11,7 +11,7 @@ use Rattle.gate_config.specs.Lookups.{tenants_of}
 use Rattle.gate_forward.specs.Forwarding.{by_tenant, for_tenant}
 use Rattle.gate_forward.specs.Inner.Places.{held}
 
-none_held : (t k : ℕ) → held t (replicate k None) ≡ []
+pub none_held : (t k : ℕ) → held t (replicate k None) ≡ []
 none_held t zero = refl
 none_held t (suc k) = none_held (t + 1) k
 
@@ -45,6 +45,14 @@ module _ (gets : ℕ → Option TenantItem) where
 
   pub none_yet : AreFilled 0 (replicate most_tenants None)
   none_yet = by refl
+
+  -- behind them is nothing
+  pub none_behind : {i : ℕ} {items : List (Option TenantItem)} → AreFilled i items → held i (drop i items) ≡ []
+  none_behind {i} {items} (by is) =
+      ap (λ xs. held i (drop i xs)) is
+      ∙ ap (λ n. held i (drop n (map gets (range_with_len 0 i) ++ replicate (most_tenants - i) None))) (sym (length-map-range_with_len gets 0 i))
+      ∙ ap (held i) (drop-append_seam (map gets (range_with_len 0 i)) (replicate (most_tenants - i) None))
+      ∙ none_held i (most_tenants - i)
 
   -- all tenants have what they get
   pub all_filled : (gens : Generations) {i : ℕ} {items : List (Option TenantItem)} → i ≡ length (tenants_of gens.first) → AreFilled i items → held 0 items ≡ by_tenant gens gets

@@ -1,15 +1,18 @@
-ghost use Rattle.std.specs.Prelude.{◌≡◌, replicate, None};
+ghost use Rattle.std.specs.Prelude.{◌≡◌, ◌<◌, ◌≤◌, [], IfSome, drop, length, replicate, None};
 ghost use Rattle.gate_config.specs.Limits.{most_tenants};
-ghost use Rattle.gate_forward.specs.Inner.Places.{IsFirst};
+ghost use Rattle.gate_forward.specs.Inner.Places.{IsFirst, held};
 
 use gate_config::MAX_TENANTS;
 use gate_record::TenantItem;
 
-// Where the first item stands, from this place on.
-pub(crate) fn first(items: &[Option<TenantItem>], from: usize) -> Option<usize>
-    ensures { IsFirst from items.now result }
+// Where the first item stands, from this place on, where behind an end are none.
+pub(crate) fn first(items: &[Option<TenantItem>], from: usize, end: usize) -> Option<usize>
+    requires within { from ≤ end × (end ≤ length items.now) }
+    requires none { held end (drop end items.now) ≡ [] }
+    ensures first { IsFirst from items.now result }
+    ensures before { IfSome result (λ place. place < end) }
 {
-    for place in from..items.len() {
+    for place in from..end {
         if items[place].is_some() {
             return Some(place);
         }

@@ -5,14 +5,13 @@ ghost use Rattle.gate_config.specs.Selection.{is_listed};
 ghost use Rattle.gate_forward.specs.Forwarding.{forwarded_entry, forwarded_reading, sends};
 ghost use Rattle.gate_forward.specs.Inner.Forwarding.{sends_reading};
 ghost use Rattle.gate_forward.specs.Hands.{conn_of, empty_hand, gens_of, hand_of, moved_out, put_back};
-ghost use Rattle.gate_forward.specs.Inner.Places.{held};
 ghost use Rattle.gate_record.specs.Lines.{IsLine};
 ghost use Rattle.gate_record.specs.declared.reading.Reading.TheVariants as reading;
 ghost use Rattle.gate_record.specs.declared.transit.ConnEntry.TheVariants as entry;
 
 use crate::finding::no_items;
 use crate::places::Places;
-use gate_config::{Generations, MAX_TENANTS};
+use gate_config::Generations;
 use gate_record::{
     ConnId, Event, Memory, Reading, Record, RecordReader, Shared, Stamp, Stamped, TenantId,
     TenantItem,
@@ -53,7 +52,7 @@ impl<'c> Forward<'c> {
             gens,
             conn,
             generation: 0,
-            places: Places::new(no_items()),
+            places: Places::new(no_items(), 0),
             marked: false,
             reader: RecordReader::new(),
         }
@@ -76,8 +75,8 @@ impl<'c> Forward<'c> {
         ensures needs { OnErr result (IsLine line) }
     {
         match self.read(alloc, number, &line) {
-            Ok(items) => {
-                self.places = Places::new(items);
+            Ok(places) => {
+                self.places = places;
                 Ok(())
             }
             Err(Memory) => Err(AllocFailed { value: line }),
@@ -92,7 +91,7 @@ impl<'c> Forward<'c> {
         ensures conn { conn_of self.new ≡ conn_of self.old }
         ensures loads { hand_of self.new ≡ record (hand_of self.old) { items = sends (gens_of self.old) (conn_of self.old) (hand_of self.old).generation entry.End; out = None; marked = true } }
     {
-        self.places = Places::new(self.end_marks());
+        self.places = self.end_marks();
         self.marked = true;
     }
 
@@ -169,37 +168,29 @@ impl<'c> Forward<'c> {
     }
 
     // What the tenants get of a record. Nothing but the reader's room changes.
-    fn read(
-        &mut self,
-        alloc: Global,
-        number: u64,
-        line: &Record,
-    ) -> Result<[Option<TenantItem>; MAX_TENANTS], Memory>
-        ensures items { IfOk result (λ items. held 0 items ≡ sends (gens_of self.old) (conn_of self.old) (hand_of self.old).generation (entry.Numbered number line.now)) }
+    fn read(&mut self, alloc: Global, number: u64, line: &Record) -> Result<Places, Memory>
+        ensures items { IfOk result (λ places. places.items ≡ sends (gens_of self.old) (conn_of self.old) (hand_of self.old).generation (entry.Numbered number line.now)) }
+        ensures out { IfOk result (λ places. places.out ≡ None) }
         ensures needs { OnErr result (IsLine line.now) }
         ensures same { self.new ≡ self.old }
     {
         match self.reader.read(alloc, line)? {
             Reading::Event(event) => self.share(alloc, number, event),
-            Reading::Nothing(_) => Ok(no_items()),
+            Reading::Nothing(_) => Ok(Places::new(no_items(), 0)),
         }
     }
 
     // The event of a record, shared among the tenants that list its project.
-    fn share(
-        &self,
-        alloc: Global,
-        number: u64,
-        event: Event,
-    ) -> Result<[Option<TenantItem>; MAX_TENANTS], Memory>
-        ensures { IfOk result (λ items. held 0 items ≡ sends_reading (gens_of self.now) (conn_of self.now) (hand_of self.now).generation number (reading.Event event)) }
+    fn share(&self, alloc: Global, number: u64, event: Event) -> Result<Places, Memory>
+        ensures items { IfOk result (λ places. places.items ≡ sends_reading (gens_of self.now) (conn_of self.now) (hand_of self.now).generation number (reading.Event event)) }
+        ensures out { IfOk result (λ places. places.out ≡ None) }
     {
         let event = Shared::new(alloc, event)?;
         let mut items = no_items();
         for tenant in 0..self.gens.first().tenants().len() {
             items[tenant] = self.event_for(TenantId(tenant as u32), number, &event)?;
         }
-        Ok(items)
+        Ok(Places::new(items, self.gens.first().tenants().len()))
     }
 
     // The event for a tenant, if it lists the project.
@@ -238,14 +229,15 @@ impl<'c> Forward<'c> {
     }
 
     // The end mark, for the tenants that list the connection.
-    fn end_marks(&self) -> [Option<TenantItem>; MAX_TENANTS]
-        ensures { held 0 result ≡ sends (gens_of self.now) (conn_of self.now) (hand_of self.now).generation entry.End }
+    fn end_marks(&self) -> Places
+        ensures items { result.items ≡ sends (gens_of self.now) (conn_of self.now) (hand_of self.now).generation entry.End }
+        ensures out { result.out ≡ None }
     {
         let mut items = no_items();
         for tenant in 0..self.gens.first().tenants().len() {
             items[tenant] = self.end_mark_for(TenantId(tenant as u32));
         }
-        items
+        Places::new(items, self.gens.first().tenants().len())
     }
 
     // The end mark for a tenant, if it lists the connection.

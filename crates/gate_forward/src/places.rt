@@ -1,4 +1,5 @@
-ghost use Rattle.std.specs.Prelude.{◌≡◌, ◌∷◌, ◌==◌, [], MatchOption, length, is_some, true, Some, None};
+ghost use Rattle.std.specs.Prelude.{◌≡◌, ◌∷◌, ◌==◌, ◌≤◌, [], drop, MatchOption, length, is_some, true, Some, None};
+ghost use Rattle.gate_config.specs.Limits.{most_tenants};
 ghost use Rattle.gate_forward.specs.Inner.Places.{held};
 
 use crate::finding::first;
@@ -12,32 +13,37 @@ pub(crate) struct Places {
     items: [Option<TenantItem>; MAX_TENANTS],
     // The first place whose item wasn't moved out.
     next: usize,
+    // From here on are no items.
+    end: usize,
     // Whether the item of the place before that is out.
     out: bool,
 }
 
 impl Model for Places {
-    ghost use Rattle.std.specs.Prelude.{◌≡◌, ◌<◌, ◌≤◌, true};
+    ghost use Rattle.std.specs.Prelude.{◌≡◌, ◌<◌, ◌≤◌, [], drop, true};
     ghost use Rattle.gate_config.specs.Limits.{most_tenants};
-    ghost use Rattle.gate_forward.specs.Inner.Places.{unsent_from};
+    ghost use Rattle.gate_forward.specs.Inner.Places.{held, unsent_from};
     ghost use Rattle.gate_forward.specs.Unsent.{Unsent};
 
     ghost Value = { Unsent };
 
     ghost view = { λ places. unsent_from places.next places.out places.items };
 
-    ghost invariant = { λ places. places.out ≡ true → (0 < places.next) × (places.next ≤ most_tenants) };
+    ghost invariant = { λ places. (places.out ≡ true → 0 < places.next) × (places.next ≤ places.end) × (places.end ≤ most_tenants) × (held places.end (drop places.end places.items) ≡ []) };
 }
 
 impl Places {
-    // These items, of which none is out.
-    pub(crate) fn new(items: [Option<TenantItem>; MAX_TENANTS]) -> Places
+    // These items, of which none is out, and from an end on none is there.
+    pub(crate) fn new(items: [Option<TenantItem>; MAX_TENANTS], end: usize) -> Places
+        requires within { end ≤ most_tenants }
+        requires none { held end (drop end items) ≡ [] }
         ensures items { result.items ≡ held 0 items }
         ensures out { result.out ≡ None }
     {
         Places {
             items,
             next: 0,
+            end,
             out: false,
         }
     }
@@ -49,7 +55,7 @@ impl Places {
             ((self.old.items ≡ []) × (self.new ≡ self.old))
             (λ first. (self.old.items ≡ first ∷ self.new.items) × (self.new.out ≡ Some first.0)) }
     {
-        let place = first(&self.items, self.next)?;
+        let place = first(&self.items, self.next, self.end)?;
         let item = self.items[place].take()?;
         self.next = place + 1;
         self.out = true;
@@ -79,7 +85,7 @@ impl Places {
     pub(crate) fn is_empty(&self) -> bool
         ensures { result ≡ (length self.now.items == 0) }
     {
-        first(&self.items, self.next).is_none()
+        first(&self.items, self.next, self.end).is_none()
     }
 
     // Whether an item is out.

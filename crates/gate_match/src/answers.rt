@@ -3,7 +3,7 @@ ghost use Rattle.gate_record.specs.declared.event.Event.{Event};
 ghost use Rattle.gate_config.specs.Texts.{texts_of_entry};
 ghost use Rattle.gate_match.specs.Inner.Finding.{HoldsOfEntry, met_in};
 ghost use Rattle.gate_match.specs.Inner.Knowing.{asked_in};
-ghost use Rattle.gate_match.specs.Inner.Marks.{either};
+ghost use Rattle.gate_match.specs.Inner.Marks.{both, either};
 
 use crate::asked::Asked;
 use crate::given::Approvals;
@@ -14,7 +14,6 @@ use gate_intern::{Columns, Field, texts_mark_their_events};
 use gate_record::Memory;
 use gate_rule::Entry;
 use std::alloc::Global;
-use std::collections::BTreeMap;
 
 // The rows of a batch whose field meets the entries of a pattern's text that are negated, or those that aren't.
 #[derive(Drop)]
@@ -25,11 +24,13 @@ pub(crate) struct Answer<'c> {
     rows: Mask,
 }
 
-// What was found so far in a batch: in its fields, by field and number of the pattern, so that no entry is tried twice on a
-// field; and of its approvals. What stands at a place tells of which field and entry it is.
+// What was found so far in a batch: in its fields, so that no entry is tried twice on a field; and of its approvals. An answer tells
+// of which field and entry it is, and nothing is known of the index.
 #[derive(Drop)]
 pub(crate) struct Answers<'c> {
-    known: BTreeMap<usize, Answer<'c>>,
+    known: Vec<Answer<'c>>,
+    // By field and number of the pattern: how many answers were known with the one that stands here, and 0 where none does.
+    index: Vec<u32>,
     pub(crate) approvals: Approvals,
 }
 
@@ -51,7 +52,8 @@ impl<'c> Answers<'c> {
         ensures { (events : List Event) → AreRight events result }
     {
         Answers {
-            known: BTreeMap::new(alloc),
+            known: Vec::new(alloc),
+            index: Vec::new(alloc),
             approvals: Approvals::none(alloc),
         }
     }
@@ -79,14 +81,41 @@ impl<'c> Answers<'c> {
         }
         let rows = rows(alloc, shelf, columns, field, asked)?;
         out.or(&rows);
-        self.keep(place, field, asked, rows)
+        self.keep(alloc, shelf, field, asked, rows)
+    }
+
+    // Leaves of the rows those whose field meets the entry.
+    pub(crate) fn leave(
+        &mut self,
+        alloc: Global,
+        shelf: &Shelf<'c>,
+        columns: &Columns<'_>,
+        field: Field,
+        asked: &Asked<'c>,
+        out: &mut Mask,
+    ) -> Result<(), Memory>
+        requires right { AreRight columns.now self.old }
+        requires len { length out.old ≡ length columns.now }
+        ensures right { AreRight columns.now self.new }
+        ensures len { length out.new ≡ length columns.now }
+        ensures leaves { OnOk result (out.new ≡ both out.old (met_in field asked.now.entry.now columns.now)) }
+    {
+        let place = place(shelf, field, asked);
+        if let Some(rows) = self.find(place, field, asked) {
+            out.and(rows);
+            return Ok(());
+        }
+        let rows = rows(alloc, shelf, columns, field, asked)?;
+        out.and(&rows);
+        self.keep(alloc, shelf, field, asked, rows)
     }
 
     // What is known of the entry in the field.
     fn find(&self, place: usize, field: Field, asked: &Asked<'c>) -> Option<&Mask>
         ensures { (events : List Event) → AreRight events self.now → IfSome result (λ rows. rows.now ≡ met_in field asked.now.entry.now events) }
     {
-        match self.known.get(&place) {
+        let count = *self.index.get(place)? as usize;
+        match self.known.get(count.wrapping_sub(1)) {
             Some(answer) if answer.is_of(field, asked.entry) => Some(&answer.rows),
             _ => None,
         }
@@ -94,7 +123,8 @@ impl<'c> Answers<'c> {
 
     fn keep(
         &mut self,
-        place: usize,
+        alloc: Global,
+        shelf: &Shelf<'c>,
         field: Field,
         asked: &Asked<'c>,
         rows: Mask,
@@ -107,7 +137,21 @@ impl<'c> Answers<'c> {
             negate: asked.entry.negate,
             rows,
         };
-        self.known.insert(place, answer)?;
+        self.known.push(answer)?;
+        self.note_last(alloc, shelf, place(shelf, field, asked))
+    }
+
+    // The answer that came last stands at this place.
+    fn note_last(&mut self, alloc: Global, shelf: &Shelf<'c>, place: usize) -> Result<(), Memory>
+        ensures known { self.new.known.items ≡ self.old.known.items }
+        ensures approvals { self.new.approvals ≡ self.old.approvals }
+    {
+        if self.index.is_empty() {
+            self.index = vec![in alloc; 0; places(shelf)]?;
+        }
+        if let Some(count) = self.index.get_mut(place) {
+            *count = u32::try_from(self.known.len()).unwrap_or(0);
+        }
         Ok(())
     }
 }
@@ -132,7 +176,12 @@ fn rows<'c>(
     )
 }
 
-// Where the answer of an entry is kept: behind the numbers of all patterns for each field before this one, and for each pattern
+// How many places there are: two for each pattern and field.
+fn places(shelf: &Shelf<'_>) -> usize {
+    shelf.len().saturating_mul(14)
+}
+
+// Where the answer of an entry is found: behind the numbers of all patterns for each field before this one, and for each pattern
 // there are two.
 fn place(shelf: &Shelf<'_>, field: Field, asked: &Asked<'_>) -> usize {
     field_place(field)

@@ -149,6 +149,9 @@ fn narrow_in<'c>(
     if asked.is_empty() {
         return Ok(());
     }
+    if let [one] = asked {
+        return answers.leave(alloc, shelf, columns, field, one, out);
+    }
     let met = any_met(alloc, shelf, columns, field, asked, answers)?;
     out.and(&met);
     Ok(())

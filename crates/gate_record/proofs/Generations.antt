@@ -1,7 +1,7 @@
 -- Entries and records with the generations that are in force at them.
-use Rattle.std.proofs.Common.{◌≡◌, ◌∙◌, refl, sym, ap, ℕ, zero, suc, ◌+◌, ◌<◌, ◌≤◌, List, [], ◌∷◌, ◌++◌, Bool, true, false, cond, length, map, fold, take, Option, Some, None, slice_get, option_map, append-nil, append_assoc, subst, add-zero, zero-add, arith}
+use Rattle.std.proofs.Common.{◌≡◌, ◌∙◌, refl, sym, ap, ℕ, zero, suc, ◌+◌, ◌<◌, ◌≤◌, List, [], ◌∷◌, ◌++◌, Bool, true, false, cond, length, map, take, Some, slice_get, option_map, append-nil, append_assoc, subst, add-zero, zero-add, arith}
 use Rattle.std.specs.Prelude.{nat_le, All}
-use Rattle.std.specs.List.{count_by, enumerate_from}
+use Rattle.std.specs.List.{enumerate_from}
 use Rattle.std.proofs.lemmas.Bool.{le-leb, leb-false, leb-true, lt-leb}
 use Rattle.std.proofs.lemmas.List.{length-append, map-append, take-append-le, take_all}
 use Rattle.std.proofs.lemmas.List.Elements.{All-head, All-tail}

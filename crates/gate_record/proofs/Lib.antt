@@ -10,4 +10,5 @@ pub mod Kept
 pub mod LineExamples
 pub mod Numbers
 pub mod Readings
+pub mod Taken
 pub mod Views

@@ -1,5 +1,6 @@
 // What serde_json makes of the text of a JSON number.
 ghost use Rattle.std.specs.Prelude.{◌≡◌, ◌==◌, ◌<◌, length, is_some, option_and_then, option_map, slice_index, true, false, IsTrue};
+ghost use Rattle.std.specs.Str.{all_ascii_digits};
 ghost use Rattle.serde_json.specs.Data.{unsigned};
 ghost use Rattle.serde_json.specs.Find.{as_i64};
 ghost use Rattle.serde_json.specs.Read.{float_of, number_from, number_of};
@@ -10,7 +11,26 @@ use fast_float::Numeral;
 pub(crate) fn is_taken(text: &str) -> bool
     ensures { result ≡ is_some (number_of text.now) }
 {
-    taken(text).is_some()
+    is_short_integer(text.as_bytes()) || taken(text).is_some()
+}
+
+// Whether these are digits alone, so few that each such number has 64 bits.
+#[tactic(auto, using(crate::proofs::Taken::short_is_taken))]
+fn is_short_integer(bytes: &[u8]) -> bool
+    ensures { IsTrue result → is_some (number_of bytes.now) ≡ true }
+{
+    !bytes.is_empty() && bytes.len() <= 18 && are_digits(bytes)
+}
+
+fn are_digits(bytes: &[u8]) -> bool
+    ensures { result ≡ all_ascii_digits bytes.now }
+{
+    for byte in bytes {
+        if !byte.is_ascii_digit() {
+            return false;
+        }
+    }
+    true
 }
 
 /// The `i64` that the number is, as it counts: `-0` and `2.0` are none.

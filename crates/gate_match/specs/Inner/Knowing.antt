@@ -28,4 +28,4 @@ abbrev pub AreGiven : List Event → Approvals → Type 0
 AreGiven events approvals = All (IsGiven events) (values approvals.known)
 
 abbrev pub AreRight : List Event → Answers → Type 0
-AreRight events answers = All (IsRight events) (values answers.known) × AreGiven events answers.approvals
+AreRight events answers = All (IsRight events) answers.known.items × AreGiven events answers.approvals

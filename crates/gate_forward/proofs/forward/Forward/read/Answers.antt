@@ -7,5 +7,5 @@ use Rattle.gate_forward.proofs.forward.Forward.read.Goals as goal
 
 pub returns-in-Nothing-clause-items : goal.returns-in-Nothing-clause-items
 returns-in-Nothing-clause-items c =
-    ap (held 0) c.no_items.ensures ∙ nobody (gens_of c.args.self.now)
+    c.new.ensures.items ∙ ap (held 0) c.no_items.ensures ∙ nobody (gens_of c.args.self.now)
     ∙ ap (sends_reading (gens_of c.args.self.now) (conn_of c.args.self.now) (hand_of c.args.self.now).generation c.args.number) (sym c.in-Nothing.is ∙ c.in_ok-event.ensures.reads)
