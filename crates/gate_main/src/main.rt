@@ -1,39 +1,19 @@
 //! The program `gate`.
 #![tactic(auto)]
 
-mod address;
-mod crossing;
-mod deadline;
-mod fault;
-mod journal;
-mod journal_gate;
-mod port;
-mod program;
-mod replayed;
-mod retrying;
-mod serving;
-mod sessions;
-mod socket_file;
-mod sources;
-mod stream;
-#[cfg(test)]
-mod tests;
-mod timed;
-mod words;
-
+use gate_program::{run_unread, run_words};
 use std::process::ExitCode;
 use std::rt::Env;
 use std::{env, io};
 
 fn main(rt: HostRuntime) -> ExitCode {
-    let mut input = rt.stdin();
-    let mut output = rt.stdout();
     let mut errors = rt.stderr();
     let status = match words_of(&rt) {
         Ok(words) => {
-            program::run_words(&rt, words.as_slice(), &mut input, &mut output, &mut errors)
+            let (mut input, mut output) = (rt.stdin(), rt.stdout());
+            run_words(&rt, words.as_slice(), &mut input, &mut output, &mut errors)
         }
-        Err(error) => program::tell(&words::unread(&error), &mut errors),
+        Err(error) => run_unread(&error, &mut errors),
     };
     ExitCode::from(status)
 }

@@ -1,0 +1,295 @@
+//! `gate serve`: the streams are opened, the port is listened on, and a report is made of what has run.
+ghost use Rattle.std.specs.Prelude.{◌≡◌, ◌-◌, ◌<◌, ◌^◌, All, IfOk, length};
+ghost use Rattle.gate_config.specs.Lookups.{connections_of};
+ghost use Rattle.gate_run.specs.Ports.{IsInboxFor};
+
+use crate::crossing::journaling_crosses;
+use crate::fault::Fault;
+use crate::journal::{Journal, JournalFault, open_journal};
+use crate::journal_gate::{JournalGate, Journaling};
+use crate::port::{Listening, Port, port_address};
+use crate::sessions::Sessions;
+use crate::sources::{Source, open_feeds, sources_of};
+use gate_config::{Config, Generations, read_generations};
+use gate_core::report_text;
+use gate_record::Shared;
+use gate_run::{Inbox, Posts, ReaderFeed, RecordFeed, Served, serve};
+use gate_status::{Board, BoardGate};
+use gate_stream::{Address, SocketFile, Stream};
+use std::alloc::Global;
+use std::fs::File;
+use std::io::ErrorKind;
+use std::mem;
+use std::net::{Net, TcpListener, TcpStream};
+use std::rt::Files;
+use std::sync::{Mutex, Wait};
+use std::thread::{JoinHandle, Threads};
+use std::time::Clock;
+
+/// What a run has come to.
+#[derive(Drop)]
+pub struct Ran {
+    /// The report.
+    pub report: String,
+    /// Why the journal has no lines of what came last, if it hasn't.
+    pub fault: Option<JournalFault>,
+}
+
+/// Runs the configuration of these documents, a generation each, over the streams of these words, with a port where STATUS asks for
+/// one, and a journal at this path, if there is one.
+///
+/// The faults come in this order: those of the documents; `Usage` for STATUS; `Source` for the words; `Listen`; `Journal`; `File` and
+/// `Connect` for the streams, in the order of their words; `Thread`. `Memory` where it is refused.
+pub fn serve_words<X>(
+    rt: &X,
+    documents: &[Vec<u8>],
+    status: &str,
+    words: &[String],
+    journal: Option<&str>,
+) -> Result<Ran, Fault>
+where
+    X: Files<File = File>
+        + Net<Stream = TcpStream, Listener = TcpListener>
+        + Threads
+        + Wait
+        + Clock
+        + AllocGlobal
+        + Copy
+        + Send
+        + Sync
+        + 'static,
+{
+    let alloc = rt.alloc();
+    let gens = read_generations(alloc, documents)?;
+    let address = port_address(status)?;
+    let sources = sources_of(alloc, gens.first(), words)?;
+    let (port, socket) = listen(rt, status, address)?;
+    let ran = open_and_run(rt, gens, sources.as_slice(), port, journal);
+    // While it is listened on, nobody else takes the socket for an abandoned one.
+    if let Some(socket) = socket {
+        let _ = socket.remove(rt);
+    }
+    let (ran, _port) = ran?;
+    Ok(ran)
+}
+
+fn open_and_run<X>(
+    rt: &X,
+    gens: Generations,
+    sources: &[Source<'_>],
+    port: Option<Port>,
+    journal: Option<&str>,
+) -> Result<(Ran, Option<Port>), Fault>
+where
+    X: Files<File = File>
+        + Net<Stream = TcpStream, Listener = TcpListener>
+        + Threads
+        + Wait
+        + Clock
+        + AllocGlobal
+        + Copy
+        + Send
+        + Sync
+        + 'static,
+{
+    let file = journal_file(rt, journal)?;
+    let feeds = open_feeds(rt, gens.first(), sources)?;
+    run(rt, gens, feeds, port, file)
+}
+
+/// Opens a journal, if there is to be one, and writes the line of a start. `Journal` where that can't be done.
+pub fn journal_file<X: Files<File = File> + AllocGlobal>(
+    rt: &X,
+    path: Option<&str>,
+) -> Result<Option<File>, Fault> {
+    let Some(path) = path else {
+        return Ok(None);
+    };
+    match open_journal(rt, path) {
+        Ok(file) => Ok(Some(file)),
+        Err(fault) => Err(journal_fault(rt.alloc(), path, fault)),
+    }
+}
+
+/// The fault of the program where a journal has one.
+pub fn journal_fault(alloc: Global, path: &str, fault: JournalFault) -> Fault {
+    match (fault, String::from_str(alloc, path)) {
+        (JournalFault::File, Ok(path)) => Fault::Journal(path),
+        _ => Fault::Memory,
+    }
+}
+
+fn listen<'a, X>(
+    rt: &X,
+    word: &str,
+    address: Option<Address<'a>>,
+) -> Result<(Option<Port>, Option<SocketFile<'a>>), Fault>
+where
+    X: Files<File = File> + Net<Stream = TcpStream, Listener = TcpListener> + Clock + AllocGlobal,
+{
+    let Some(address) = address else {
+        return Ok((None, None));
+    };
+    match Listening::at(rt, address) {
+        Ok(Listening { port, file }) => Ok((Some(port), file)),
+        Err(error) if error.kind() == ErrorKind::OutOfMemory => Err(Fault::Memory),
+        Err(_) => Err(Fault::Listen(String::from_str(rt.alloc(), word)?)),
+    }
+}
+
+// Runs until the streams are worked off or a session has ended by `stop`; where there is a port, one has to. What came of it, and
+// the port.
+fn run<X>(
+    rt: &X,
+    gens: Generations,
+    feeds: Vec<ReaderFeed<Stream>>,
+    port: Option<Port>,
+    file: Option<File>,
+) -> Result<(Ran, Option<Port>), Fault>
+where
+    X: Threads + Wait + Clock + AllocGlobal + Copy + Send + Sync + 'static,
+    requires feeds { length feeds.items ≡ length (connections_of gens.first) }
+    requires few { All (λ feed. ⟦<ReaderFeed<Stream> as RecordFeed>⟧.fault_count feed < 2 ^ 64 - 1) feeds.items }
+{
+    let gens = Shared::new(rt.alloc(), gens)?;
+    let ran = run_shared(rt, &gens, feeds, port, file);
+    if ran.is_ok() {
+        // The program ends behind this, and the system takes it back at once.
+        mem::forget(gens);
+    }
+    ran
+}
+
+fn run_shared<X>(
+    rt: &X,
+    gens: &Shared<Generations>,
+    feeds: Vec<ReaderFeed<Stream>>,
+    port: Option<Port>,
+    file: Option<File>,
+) -> Result<(Ran, Option<Port>), Fault>
+where
+    X: Threads + Wait + Clock + AllocGlobal + Copy + Send + Sync + 'static,
+    requires feeds { length feeds.items ≡ length (connections_of gens.now.first) }
+    requires few { All (λ feed. ⟦<ReaderFeed<Stream> as RecordFeed>⟧.fault_count feed < 2 ^ 64 - 1) feeds.items }
+{
+    let alloc = rt.alloc();
+    let board = Shared::new(alloc, Mutex::new(Board::new(alloc, gens.get().first())?))?;
+    match port {
+        Some(port) => run_with_port(rt, gens, &board, feeds, port, file),
+        None => run_alone(rt, gens, &board, feeds, file),
+    }
+}
+
+fn run_alone<X>(
+    rt: &X,
+    gens: &Shared<Generations>,
+    board: &Shared<Mutex<Board>>,
+    feeds: Vec<ReaderFeed<Stream>>,
+    file: Option<File>,
+) -> Result<(Ran, Option<Port>), Fault>
+where
+    X: Threads + Wait + Clock + AllocGlobal + Copy + Send + Sync + 'static,
+    requires feeds { length feeds.items ≡ length (connections_of gens.now.first) }
+    requires few { All (λ feed. ⟦<ReaderFeed<Stream> as RecordFeed>⟧.fault_count feed < 2 ^ 64 - 1) feeds.items }
+{
+    let inbox = Inbox::without_posts(rt.alloc(), gens.get().first())?;
+    Ok((run_told(rt, gens, board, feeds, inbox, file)?, None))
+}
+
+fn run_with_port<X>(
+    rt: &X,
+    gens: &Shared<Generations>,
+    board: &Shared<Mutex<Board>>,
+    feeds: Vec<ReaderFeed<Stream>>,
+    port: Port,
+    file: Option<File>,
+) -> Result<(Ran, Option<Port>), Fault>
+where
+    X: Threads + Wait + Clock + AllocGlobal + Copy + Send + Sync + 'static,
+    requires feeds { length feeds.items ≡ length (connections_of gens.now.first) }
+    requires few { All (λ feed. ⟦<ReaderFeed<Stream> as RecordFeed>⟧.fault_count feed < 2 ^ 64 - 1) feeds.items }
+{
+    let (sessions, inbox) = start_sessions(rt, gens, board, port)?;
+    let ran = run_told(rt, gens, board, feeds, inbox, file)?;
+    let port = sessions.join(rt);
+    Ok((ran, Some(port)))
+}
+
+// Runs with the board and the journal told of what the pipelines do.
+fn run_told<X>(
+    rt: &X,
+    gens: &Shared<Generations>,
+    board: &Shared<Mutex<Board>>,
+    feeds: Vec<ReaderFeed<Stream>>,
+    inbox: Inbox,
+    file: Option<File>,
+) -> Result<Ran, Fault>
+where
+    X: Threads + Wait + Clock + AllocGlobal + Copy + Send + Sync + 'static,
+    requires feeds { length feeds.items ≡ length (connections_of gens.now.first) }
+    requires few { All (λ feed. ⟦<ReaderFeed<Stream> as RecordFeed>⟧.fault_count feed < 2 ^ 64 - 1) feeds.items }
+    requires for_config { IsInboxFor gens.now.first inbox }
+{
+    let alloc = rt.alloc();
+    journaling_crosses();
+    let journal = journaling(alloc, gens, &inbox, file)?;
+    let gate = JournalGate::new(BoardGate::new(board.get()), journal.as_ref());
+    let served = serve(rt, alloc, gens.get(), feeds, inbox, &gate)?;
+    let report = report(alloc, gens.get().first(), served)?;
+    let fault = journal.and_then(|journal| journal.lock(rt).fault());
+    Ok(Ran { report, fault })
+}
+
+// The journal that goes to a file, if there is one.
+fn journaling(
+    alloc: Global,
+    gens: &Shared<Generations>,
+    inbox: &Inbox,
+    file: Option<File>,
+) -> Result<Option<Mutex<Journaling>>, Fault> {
+    let Some(file) = file else {
+        return Ok(None);
+    };
+    let Ok(journal) = Journal::new(alloc, gens.share()?, file) else {
+        return Err(Fault::Memory);
+    };
+    Ok(Some(Mutex::new(Journaling::new(journal, inbox.stopper()?))))
+}
+
+// The sessions of the port, in their thread, and the inbox of what they post.
+fn start_sessions<X>(
+    rt: &X,
+    gens: &Shared<Generations>,
+    board: &Shared<Mutex<Board>>,
+    port: Port,
+) -> Result<(JoinHandle<Port>, Inbox), Fault>
+where
+    X: Threads + Wait + Clock + AllocGlobal + Copy + Send + 'static,
+    ensures { IfOk result (λ started. IsInboxFor gens.now.first started.1) }
+{
+    let alloc = rt.alloc();
+    let gens_of_sessions = gens.share()?;
+    let board = board.share()?;
+    let (posts, inbox) = Posts::open(alloc, gens.get())?;
+    let sessions = Sessions::new(port, gens_of_sessions, board, posts);
+    Ok((sessions.start(rt, (*rt, alloc))?, inbox))
+}
+
+// The text of the report of a run, whose pipelines the system takes back when the program ends, right behind this.
+fn report(
+    alloc: Global,
+    config: &Config,
+    served: Served<ReaderFeed<Stream>>,
+) -> Result<String, Fault> {
+    let Served {
+        report,
+        pipelines,
+        feeds,
+        inbox: _inbox,
+    } = served;
+    // A stream may stand where standard output was closed.
+    drop(feeds);
+    let text = report_text(alloc, config, &report)?;
+    mem::forget(pipelines);
+    Ok(text)
+}
