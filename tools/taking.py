@@ -3,7 +3,7 @@ import contextlib
 import os
 from pathlib import Path
 
-from wrong_bodies.checks import rt
+from mutation.checks import rt
 
 ROOT = str(Path(__file__).resolve().parent.parent)
 

@@ -1,4 +1,4 @@
-"""Wrong bodies as edits of a crate's sources, and the functions that they change."""
+"""Mutants as edits of a crate's sources, and the functions that they change."""
 import collections
 import dataclasses
 import os
@@ -14,7 +14,7 @@ OF_CONTRACT = re.compile(r"(\S+-)?(returns|invariant_of|loop-\S+-(init|preserved
 
 
 class Unfit(Exception):
-    """Why an edit can't be judged as a wrong body."""
+    """Why an edit can't be judged as a mutant."""
 
 
 @dataclasses.dataclass(frozen=True)
@@ -36,7 +36,7 @@ class Change:
 
 @dataclasses.dataclass(eq=False)
 class Body:
-    """A wrong body, or a control."""
+    """A mutant, or a control."""
 
     name: str
     # The text of its edit.
@@ -76,7 +76,7 @@ class Body:
 
 def tokens(file, data):
     """Returns the kind and the text of each word of a source."""
-    with tempfile.TemporaryDirectory(prefix="wrong-bodies-") as room:
+    with tempfile.TemporaryDirectory(prefix="mutants-") as room:
         whole = f"{room}/{os.path.basename(file)}"
         with open(whole, "wb") as it:
             it.write(data)
@@ -90,7 +90,7 @@ class Sources:
     """A crate's sources, and its edits."""
 
     def __init__(self, crate):
-        self.folder = f"{crate.folder}/wrong-bodies"
+        self.folder = f"{crate.folder}/mutants"
         self.read = sources.Source(crate.folder)
         self.read.read("src/lib.rt")
         self.bodies, self.controls, self.unfit = [], [], []
@@ -126,7 +126,7 @@ class Sources:
 
     def change(self, path, old, new):
         if not path.startswith("src/"):
-            raise Unfit(f"it edits {path}, and a wrong body edits code below src/ alone")
+            raise Unfit(f"it edits {path}, and a mutant edits code below src/ alone")
         if path not in self.read.data:
             raise Unfit(f"there is no file {path}, or only tests have it")
         found = self.read.data[path].count(old)

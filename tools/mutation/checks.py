@@ -12,7 +12,7 @@ import sys
 import tempfile
 import time
 
-KIT = os.path.dirname(os.path.realpath(shutil.which("rt") or sys.exit("bin/wrong-bodies: rt is not on PATH")))
+KIT = os.path.dirname(os.path.realpath(shutil.which("rt") or sys.exit("tools/mutants: rt is not on PATH")))
 
 
 def load(name):
@@ -95,7 +95,7 @@ def check(crate, texts, kept, until=None):
     """Checks a copy of the crate with these texts, over what kept holds if it is given. Once each function's verdict is
     printed and one isn't proved the check is ended: lines to start proofs with, which follow, take half as long again. Where it
     isn't done by then, it is ended, too, and there is nothing to return."""
-    with tempfile.TemporaryDirectory(prefix="wrong-bodies-") as room:
+    with tempfile.TemporaryDirectory(prefix="mutants-") as room:
         for part in filter(lambda it: os.path.isdir(f"{crate.folder}/{it}"), rtlib.PARTS):
             shutil.copytree(f"{crate.folder}/{part}", f"{room}/{part}")
         for path, text in texts.items():

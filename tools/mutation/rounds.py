@@ -1,4 +1,4 @@
-"""The wrong bodies of a crate, judged in rounds."""
+"""The mutants of a crate, judged in rounds."""
 import os
 import shutil
 import sys
@@ -16,9 +16,9 @@ printing = threading.Lock()
 # Checks go side by side, whichever crate they are of: one a processor, each with one job. With more, or over nothing that was
 # kept, copies of rattle try failing proofs first, and then it tries them again.
 slots = Slots(rt.processors())
-# How many seconds before the time is up the last check of wrong bodies may begin.
+# How many seconds before the time is up the last check of mutants may begin.
 LAST = 480
-# The fewest and the most wrong bodies of a round, where there are as many: a third of a round of twelve goes into reading the
+# The fewest and the most mutants of a round, where there are as many: a third of a round of twelve goes into reading the
 # libraries, and rounds go side by side.
 FEWEST, MOST = 6, 24
 
@@ -34,7 +34,7 @@ def folder_of(symbol):
 
 
 class Judging:
-    """A crate whose wrong bodies are judged. Those that the repository records aren't, unless all of the crate are to be:
+    """A crate whose mutants are judged. Those that the repository records aren't, unless all of the crate are to be:
     anew, to be recorded, or as a sample, of which each verdict has to be as it is recorded."""
 
     def __init__(self, crate, is_anew=False, until=None, is_recording=False, is_sample=False):
@@ -43,12 +43,12 @@ class Judging:
         self.is_recording, self.skips_recorded = is_recording, not (is_anew or is_recording or is_sample)
         self.is_sample = is_sample
         self.lines = crate.count(b"\n")
-        # When all checks of wrong bodies have to be done, by the monotonic clock, and how many of them were put off for that.
+        # When all checks of mutants have to be done, by the monotonic clock, and how many of them were put off for that.
         self.until, self.put_off = until, 0
         # The crate's functions, by their names in a check.
         self.named = []
         self.refused, self.failed, self.old, self.recorded = 0, 0, 0, 0
-        # The verdicts of this run and why, by the names of the wrong bodies, and those that are recorded of what stands here.
+        # The verdicts of this run and why, by the names of the mutants, and those that are recorded of what stands here.
         self.verdicts = {}
         self.records = {it.name: self.kept.record(it) for it in self.sources.bodies}
         self.is_controlled, self.asking = None, threading.Lock()
@@ -64,16 +64,16 @@ class Judging:
         self.verdicts[name] = verdict, why
 
     def has_work(self):
-        """Whether there is a wrong body that is neither recorded nor judged by an earlier run on this machine."""
+        """Whether there is a mutant that is neither recorded nor judged by an earlier run on this machine."""
         left = [it for it in self.sources.bodies if not (self.skips_recorded and self.records[it.name])]
         return not self.sources.bodies or any(not self.kept.verdict(it) for it in left)
 
     def urgency(self):
-        """The work that is left, by which crates take turns: a check of many lines takes longer, and so do many wrong bodies."""
+        """The work that is left, by which crates take turns: a check of many lines takes longer, and so do many mutants."""
         return self.lines * (20 + sum(it.name not in self.verdicts for it in self.sources.bodies))
 
     def is_late(self):
-        """Whether it is too late to begin a check of wrong bodies."""
+        """Whether it is too late to begin a check of mutants."""
         return self.until is not None and time.monotonic() > self.until - LAST
 
     def note(self, text):
@@ -81,7 +81,7 @@ class Judging:
         print(f"    {self.name}: {text}", file=sys.stderr, flush=True)
 
     def judge(self):
-        """Judges the wrong bodies, but for those that are recorded, or that an earlier run on this machine has judged."""
+        """Judges the mutants, but for those that are recorded, or that an earlier run on this machine has judged."""
         bodies = self.sources.bodies
         self.leave_recorded()
         self.tell_kept()
@@ -97,7 +97,7 @@ class Judging:
             self.sources.bodies = left
 
     def judge_bodies(self):
-        with tempfile.TemporaryDirectory(prefix="wrong-bodies-") as self.room, ThreadPoolExecutor() as self.pool:
+        with tempfile.TemporaryDirectory(prefix="mutants-") as self.room, ThreadPoolExecutor() as self.pool:
             self.begin(f"{self.room}/kept")
             self.judge_all()
 
@@ -107,7 +107,7 @@ class Judging:
             shutil.copytree(f"{self.crate.folder}/out/incremental", kept)
 
     def tell_kept(self):
-        """Tells the verdicts of earlier runs, and leaves the other wrong bodies to be judged."""
+        """Tells the verdicts of earlier runs, and leaves the other mutants to be judged."""
         found = {it: self.kept.verdict(it) for it in self.sources.bodies}
         for body, verdict in found.items():
             if verdict:
@@ -122,7 +122,7 @@ class Judging:
         for line in self.kept.unread:
             self.tell("verdicts", "FAILED", f"the record has a line that isn't a name, a verdict and a sum: {line}")
         for name in sorted(self.kept.recorded.keys() - {it.name for it in self.sources.bodies}):
-            self.tell(name, "FAILED", "the record has a line of it, and there is no such wrong body")
+            self.tell(name, "FAILED", "the record has a line of it, and there is no such mutant")
 
     def judge_all(self):
         controls = self.sources.controls
@@ -158,7 +158,7 @@ class Judging:
         return body.is_inside and body.functions[0] not in controlled and self.symbol(body.functions[0]) is not None
 
     def batch(self, waiting, most):
-        """Chooses so many wrong bodies of different functions, none of which is one through which another fell."""
+        """Chooses so many mutants of different functions, none of which is one through which another fell."""
         batch, left, avoided, symbols, functions = [], [], set(), set(), set()
         for it in waiting:
             own = self.symbol(it.functions[0])
@@ -172,7 +172,7 @@ class Judging:
         return batch, left
 
     def round(self, batch, alone):
-        """Tries wrong bodies of different functions at once, and returns those that are for a later round."""
+        """Tries mutants of different functions at once, and returns those that are for a later round."""
         bodies = [*self.sources.controls, *batch]
         said = self.check(bodies, in_time=True)
         if said is None:
@@ -263,7 +263,7 @@ class Judging:
         return {name: it for name, it in said.functions.items() if not it.is_proved and is_of(name, own)}
 
     def is_for_later(self, body, said, alone):
-        """Tells the verdict on a wrong body where the round shows it; else says whether it is for a later round, or alone."""
+        """Tells the verdict on a mutant where the round shows it; else says whether it is for a later round, or alone."""
         fell = self.fell(body, said)
         body.tries += 1
         if any(map(body.failed, fell.values())):
