@@ -17,7 +17,7 @@
 #define PLACES 2                /* of a queue with a bound */
 #endif
 #define ROOM 2                  /* of a batch: MAX_GATHERED of gate_tenant */
-#define MANY 2                  /* puts for which a wake-up is due: MANY of owed.rt */
+#define MANY 2                  /* puts for which a wake-up is due: MANY of wake_ups.rt */
 #ifndef MANY_TAKEN
 #define MANY_TAKEN 4            /* takings for which all are due: MANY_TAKEN of forwarder.rt */
 #endif
@@ -197,7 +197,7 @@ out:
 
 /* ---- forwarder.rt */
 
-/* Debts::pay. What isn't paid stays owed. */
+/* ForwarderWakeUps::give. What isn't given stays pending. */
 inline pay(to_reader, to_dispatcher) {
     if
     :: taken > 0 && to_reader != LEFT_OUT -> atomic { taken = 0; wake(to_reader, READER) }

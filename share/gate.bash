@@ -13,7 +13,7 @@ _gate() {
     *.*.:)
         ;;
     explain.[23].*)
-        [[ $word != -* ]] || words='--dot'
+        [[ $word != -* ]] || words='--dot --settings'
         ;;
     serve.3.*)
         compopt -o nospace

@@ -1,8 +1,8 @@
-// Refuses memory and threads to the program that this library is preloaded to (tools/refusing.py): a call of malloc or realloc that
-// stands in the program itself, and not in a library of it, is counted from 1, over all threads. Call REFUSE_CALL is answered NULL,
-// with REFUSE_TIMES that many from it on, and with REFUSE_ALWAYS each one behind it, too. Thread REFUSE_THREAD, counted from 1, isn't
-// started. The file REFUSE_COUNT has three numbers of 64 bits, how many calls there were, how many of them were refused, and how many
-// threads were asked for; it is mapped, so it says that however the program ends.
+// Refuses memory and threads to the program that this library is preloaded to (tools/refusals): a call of malloc or realloc that
+// stands in the program itself, and not in a library of it, is counted from 1, over all threads. From call REFUSE_CALL on REFUSE_TIMES
+// calls are answered NULL. Thread REFUSE_THREAD, counted from 1, isn't started. The file REFUSE_COUNT has three numbers of 64 bits, how
+// many calls there were, how many of them were refused, and how many threads were asked for; it is mapped, so it says that however the
+// program ends.
 #define _GNU_SOURCE
 #include <dlfcn.h>
 #include <errno.h>
@@ -19,11 +19,8 @@ struct counts {
     _Atomic uint64_t calls, refused, threads;
 };
 
-static void *(*real_malloc)(size_t);
-static void *(*real_realloc)(void *, size_t);
-static int (*real_create)(pthread_t *, const pthread_attr_t *, void *(*)(void *), void *);
 static struct counts unwritten, *counts = &unwritten;
-static uint64_t refused_call, times = 1, always, refused_thread;
+static uint64_t refused_call, times, refused_thread;
 static uintptr_t first, behind;
 
 // The first object is the program: where its code stands.
@@ -36,28 +33,24 @@ static int find_program(struct dl_phdr_info *object, size_t size, void *unused) 
     return 1;
 }
 
-static void find_calls(void) {
-    real_malloc = dlsym(RTLD_NEXT, "malloc");
-    real_realloc = dlsym(RTLD_NEXT, "realloc");
-    real_create = dlsym(RTLD_NEXT, "pthread_create");
+static uint64_t number(const char *name) {
+    const char *text = getenv(name);
+    return text ? strtoull(text, NULL, 10) : 0;
 }
 
 __attribute__((constructor)) static void begin(void) {
-    const char *call = getenv("REFUSE_CALL"), *more = getenv("REFUSE_ALWAYS"), *row = getenv("REFUSE_TIMES"), *path = getenv("REFUSE_COUNT");
-    const char *thread = getenv("REFUSE_THREAD");
+    const char *path = getenv("REFUSE_COUNT");
     int file = path ? open(path, O_RDWR | O_CREAT, 0600) : -1;
     if (file >= 0 && ftruncate(file, sizeof(struct counts)) == 0) {
         void *map = mmap(NULL, sizeof(struct counts), PROT_READ | PROT_WRITE, MAP_SHARED, file, 0);
         if (map != MAP_FAILED)
-            counts = map, counts->calls = counts->refused = counts->threads = 0;
+            counts = map;
     }
     if (file >= 0)
         close(file);
-    refused_call = call ? strtoull(call, NULL, 10) : 0;
-    always = more && *more == '1';
-    times = row ? strtoull(row, NULL, 10) : 1;
-    refused_thread = thread ? strtoull(thread, NULL, 10) : 0;
-    find_calls();
+    refused_call = number("REFUSE_CALL");
+    times = number("REFUSE_TIMES");
+    refused_thread = number("REFUSE_THREAD");
     dl_iterate_phdr(find_program, NULL);
 }
 
@@ -65,7 +58,7 @@ static int is_refused(void *caller) {
     if ((uintptr_t)caller < first || (uintptr_t)caller >= behind)
         return 0;
     uint64_t call = ++counts->calls;
-    if (!refused_call || call < refused_call || (!always && call - refused_call >= times))
+    if (!refused_call || call < refused_call || call - refused_call >= times)
         return 0;
     counts->refused++;
     errno = ENOMEM;
@@ -73,19 +66,22 @@ static int is_refused(void *caller) {
 }
 
 void *malloc(size_t size) {
-    if (!real_malloc)
-        find_calls();
-    return is_refused(__builtin_return_address(0)) ? NULL : real_malloc(size);
+    static void *(*real)(size_t);
+    if (!real)
+        real = dlsym(RTLD_NEXT, "malloc");
+    return is_refused(__builtin_return_address(0)) ? NULL : real(size);
 }
 
 void *realloc(void *old, size_t size) {
-    if (!real_realloc)
-        find_calls();
-    return is_refused(__builtin_return_address(0)) ? NULL : real_realloc(old, size);
+    static void *(*real)(void *, size_t);
+    if (!real)
+        real = dlsym(RTLD_NEXT, "realloc");
+    return is_refused(__builtin_return_address(0)) ? NULL : real(old, size);
 }
 
 int pthread_create(pthread_t *thread, const pthread_attr_t *attributes, void *(*begin)(void *), void *given) {
-    if (!real_create)
-        find_calls();
-    return ++counts->threads == refused_thread ? EAGAIN : real_create(thread, attributes, begin, given);
+    static int (*real)(pthread_t *, const pthread_attr_t *, void *(*)(void *), void *);
+    if (!real)
+        real = dlsym(RTLD_NEXT, "pthread_create");
+    return ++counts->threads == refused_thread ? EAGAIN : real(thread, attributes, begin, given);
 }

@@ -1,6 +1,5 @@
 """The mutants of a crate, judged in rounds."""
 import os
-import shutil
 import sys
 import tempfile
 import threading
@@ -104,7 +103,7 @@ class Judging:
     def begin(self, kept):
         """Begins with what a check of this checkout kept: it saves the first check most of its time."""
         if not self.kept.is_anew and self.crate.has_kept():
-            shutil.copytree(f"{self.crate.folder}/out/incremental", kept)
+            rt.linked(f"{self.crate.folder}/out/incremental", kept)
 
     def tell_kept(self):
         """Tells the verdicts of earlier runs, and leaves the other mutants to be judged."""
@@ -134,7 +133,7 @@ class Judging:
             return
         if not said.is_proved:
             return self.tell("control", "FAILED", "the crate itself isn't proved")
-        self.named = [*said.functions]
+        self.named, self.left = [*said.functions], rt.listing(f"{self.room}/kept")
         waiting = [it for it in self.sources.bodies if self.is_for_rounds(it)]
         alone = [it for it in self.sources.bodies if it not in waiting]
         while waiting:
@@ -146,6 +145,8 @@ class Judging:
                 waiting += later
         for _ in self.pool.map(self.judge_alone, alone):
             pass
+        if rt.listing(f"{self.room}/kept") != self.left:
+            return self.tell("control", "FAILED", "a round changed what was kept, so the rounds show nothing")
         if self.verdicts and not self.check([]).is_proved:
             return self.tell("control", "FAILED", "the crate itself isn't proved over what was kept, so the rounds show nothing")
         if self.is_controlled is not False:
@@ -205,8 +206,8 @@ class Judging:
 
     def check(self, bodies, over_kept=True, in_time=False):
         """Checks the crate with these bodies, over a copy of what the check of the crate itself kept, so that none of them
-        leaves anything behind. That check is the first one. Where it has to be done in time there may be nothing to return: it
-        isn't begun late, and ended when the time is up."""
+        leaves anything behind: by links, since a check replaces such a file and changes none (which is looked at in the end). That check is the
+        first one. Where it has to be done in time there may be nothing to return: it isn't begun late, and ended when the time is up."""
         texts = {file: data.decode() for file, data in self.sources.edited(bodies).items()}
         for it in bodies:
             texts.update(it.proofs)
@@ -216,7 +217,8 @@ class Judging:
                 return None
             start = time.monotonic()
             if bodies and over_kept:
-                kept = shutil.copytree(kept, f"{copy}/kept")
+                rt.linked(kept, f"{copy}/kept")
+                kept = f"{copy}/kept"
             said = check(self.crate, texts, kept if over_kept else None, self.until if in_time else None)
             took = time.monotonic() - start
         how = "s for" if said else "s, and not to its end, for"

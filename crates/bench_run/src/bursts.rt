@@ -101,8 +101,6 @@ impl<'a> Gate for Holds<'a> {
             thread::yield_now();
         }
     }
-
-    fn last<R: Wait>(&self, _rt: &R, _tenant: TenantId, _pipeline: PipelineId, _state: &Pipeline) {}
 }
 
 /// Runs so many bursts, and says whether both pipelines have processed all events in order.

@@ -4,8 +4,6 @@ use crate::repeated::Repeated;
 use anyhow::{Context, Result, bail};
 use gate_config::{Generations, read_config};
 use gate_core::RunReport;
-use gate_pipeline::Pipeline;
-use gate_record::{PipelineId, TenantId};
 use gate_run::{Gate, Posts, RecordFeed, serve};
 use std::alloc::Global;
 use std::sync::Wait;
@@ -16,17 +14,7 @@ use std::time::Clock;
 #[derive(Drop)]
 pub struct Silent;
 
-impl Gate for Silent {
-    fn before<R: Wait>(
-        &self,
-        _rt: &R,
-        _tenant: TenantId,
-        _pipeline: PipelineId,
-        _state: &Pipeline,
-    ) {}
-
-    fn last<R: Wait>(&self, _rt: &R, _tenant: TenantId, _pipeline: PipelineId, _state: &Pipeline) {}
-}
+impl Gate for Silent {}
 
 /// Runs so many connections with so many records each, and says how many trigger events were processed.
 pub fn serve_all<R: Threads + Wait + Clock + Sync>(

@@ -57,8 +57,6 @@ impl Gate for Stresses {
             }
         }
     }
-
-    fn last<R: Wait>(&self, _rt: &R, _tenant: TenantId, _pipeline: PipelineId, _state: &Pipeline) {}
 }
 
 // A result of the first item's job, if there is an item. One of five has failed.

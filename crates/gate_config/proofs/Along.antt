@@ -1,6 +1,7 @@
 -- Loops over the items of a list, each with its checks by the items before it.
 use Rattle.std.proofs.Common.{◌≡◌, ◌∙◌, ◌+◌, ◌<◌, ◌≤◌, ℕ, List, [], ◌∷◌, ◌++◌, map, length, get_or, take, drop, refl, sym, ap, subst, append_assoc, append-nil, Option, Bor, String, Global}
 use Rattle.std.proofs.lemmas.List.{map-append, take_all}
+use Rattle.gate_config.specs.declared.path.Step.{Step}
 use Rattle.gate_config.specs.declared.fault.ConfigFault.{ConfigFault}
 use Rattle.serde_json.specs.Data.{Data}
 use Rattle.gate_config.specs.declared.document.Found.{Found}
@@ -51,11 +52,11 @@ module _ {X A : Type 0} {checks : List A → A → List Check} {v : X → A} {it
   along_all {i} h t = subst (λ xs. HasPassed (along checks (map v xs))) (take_all i items h) t.passed
 
 -- the first i connections of a tenant pass, and these are the names with theirs
-pub record SourcesSoFar (known : List (List ℕ)) (place : List ℕ) (sources : Option Data) (keys : List (Bor (String Global))) (i : ℕ) (names : List (List ℕ)) : Type 0 where
+pub record SourcesSoFar (known : List (List ℕ)) (place : List Step) (sources : Option Data) (keys : List (Bor (String Global))) (i : ℕ) (names : List (List ℕ)) : Type 0 where
   pub tested : AlongSoFar (source_checks known place sources) key_view keys i
   pub says : names ≡ with_names known (map key_view (take i keys))
 
-module _ {known : List (List ℕ)} {place : List ℕ} {sources : Option Data} {keys : List (Bor (String Global))} where
+module _ {known : List (List ℕ)} {place : List Step} {sources : Option Data} {keys : List (Bor (String Global))} where
   pub sources_none : SourcesSoFar known place sources keys 0 known
   sources_none = record { tested = along_none; says = refl }
 

@@ -21,6 +21,7 @@ use Rattle.gate_config.specs.Inner.Found.{key_view}
 use Rattle.gate_config.specs.Inner.Faults.{HasPassed}
 use Rattle.gate_config.specs.Parts.{keys_in, keys_of, optional, unless_null}
 use Rattle.gate_config.specs.Texts.{texts_of_rule}
+use Rattle.gate_config.specs.declared.path.Step.{Step}
 use Rattle.gate_config.proofs.Each.{TestedSoFar, map_more, tested_more, tested_none}
 
 -- what stands at k, if k is among the keys
@@ -125,11 +126,11 @@ start : (rule : Data) → unlisted ≡ seen_texts rule []
 start rule = refl
 
 -- the first i attributes pass, and the rule is as they say
-pub record AttributesSoFar (here : List ℕ) (rule : Data) (keys : List (Bor (String Global))) (i : ℕ) (read : Rule) : Type 0 where
+pub record AttributesSoFar (here : List Step) (rule : Data) (keys : List (Bor (String Global))) (i : ℕ) (read : Rule) : Type 0 where
   pub tested : TestedSoFar (λ _. attribute_checks here rule) key_view keys i
   pub says : texts_of_rule read ≡ seen_texts rule (map key_view (take i keys))
 
-module _ {here : List ℕ} {rule : Data} {keys : List (Bor (String Global))} where
+module _ {here : List Step} {rule : Data} {keys : List (Bor (String Global))} where
   pub attributes_none : {read : Rule} → texts_of_rule read ≡ unlisted → AttributesSoFar here rule keys 0 read
   attributes_none e = record { tested = tested_none; says = e ∙ start rule }
 

@@ -2,6 +2,7 @@
 use Rattle.std.proofs.Common.{◌≡◌, ◌∙◌, ◌≤◌, ◌++◌, ℕ, length, nat_le, rules, List, [], ◌∷◌, Bool, true, false, Result, Ok, Err, inl, inr, sym, ap, subst}
 use Rattle.std.specs.Prelude.{not}
 use Rattle.std.specs.Result.{IsErrAnd}
+use Rattle.gate_config.specs.declared.path.Step.{Step}
 use Rattle.gate_config.specs.declared.fault.ConfigFault.{ConfigFault}
 use Rattle.gate_config.specs.declared.fault.ConfigFault.TheVariants as fault
 use Rattle.gate_config.specs.Faults.{Check, Asks, AllPass, IsFirstFault, IsFaultOf}
@@ -60,10 +61,10 @@ pub after_one : {T : Type 0} {x : Check} (ys : List Check) (P : T → Type 0) (r
 after_one ys P r p h = after ys P r p h
 
 -- the test that a name is new
-pub new : {b : Bool} (place : List ℕ) → b ≡ false → HasPassed (Asks (not b) (fault.Repeated place) ∷ [])
+pub new : {b : Bool} (place : List Step) → b ≡ false → HasPassed (Asks (not b) (fault.Repeated place) ∷ [])
 new place e = record { all = (ap not e, tt) }
 
-pub taken : {b : Bool} {place found : List ℕ} → b ≡ true → found ≡ place → HasFault (Asks (not b) (fault.Repeated place) ∷ []) (fault.Repeated found)
+pub taken : {b : Bool} {place found : List Step} → b ≡ true → found ≡ place → HasFault (Asks (not b) (fault.Repeated place) ∷ []) (fault.Repeated found)
 taken e p = record { first = inr (inl (ap not e, ap fault.Repeated p)) }
 
 -- a reader that gives nothing, and what else is known once it has passed

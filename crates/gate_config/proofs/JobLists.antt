@@ -1,6 +1,7 @@
 -- Lists of names, each once.
-use Rattle.std.proofs.Common.{◌≡◌, ◌∙◌, ◌==◌, arith, ◌+◌, ◌<◌, ℕ, List, [], ◌∷◌, ◌++◌, Bool, true, false, cond, Option, Some, None, Result, Ok, Err, map, length, get_or, take, refl, sym, ap, option_to_list}
+use Rattle.std.proofs.Common.{◌≡◌, ◌∙◌, ◌==◌, arith, ◌+◌, ◌<◌, ℕ, List, [], ◌∷◌, ◌++◌, Bool, true, false, cond, Option, Some, None, Result, Ok, Err, map, length, get_or, take, refl, sym, ap, option_to_list, BTreeSet, String, Global}
 use Rattle.std.specs.Prelude.{◌||◌, unwrap_or}
+use Rattle.std.specs.BTreeSet.{contains_text}
 use Rattle.std.specs.Result.{OnOk}
 use Rattle.std.specs.List.{filter_map, flat_map, list_any}
 use Rattle.std.specs.Str.{bytes_eq}
@@ -15,7 +16,7 @@ use Rattle.gate_config.proofs.Attributes.{same_bytes}
 use Rattle.gate_config.proofs.Each.{map_more}
 use Rattle.gate_config.proofs.Picked.{filter_map_more}
 use Rattle.gate_config.specs.Document.{name_in}
-use Rattle.gate_config.specs.Inner.Jobs.{with_job, with_jobs}
+use Rattle.gate_config.specs.Inner.Jobs.{HasAll, with_job, with_jobs}
 
 -- ---- one more name
 
@@ -31,6 +32,14 @@ one_more names job name =
     either (bytes_eq job name) (list_any (bytes_eq name) names)
     ∙ ap (λ b. list_any (bytes_eq name) names || (b || false)) (same_bytes job name)
     ∙ sym (list_any-append (bytes_eq name) names (job ∷ []))
+
+-- a set that has gained the name
+pub has_one_more : (names : List (List ℕ)) (set next : BTreeSet (String Global)) (key name : List ℕ) → ((other : List ℕ) → contains_text next other ≡ cond (bytes_eq key other) true (contains_text set other)) → key ≡ name → HasAll names set → HasAll (names ++ name ∷ []) next
+has_one_more names set next key name updated is has = λ other.
+    updated other
+    ∙ ap (λ b. cond (bytes_eq key other) true b) (has other)
+    ∙ ap (λ k. cond (bytes_eq k other) true (list_any (bytes_eq other) names)) is
+    ∙ one_more names name other
 
 -- ---- several more names
 

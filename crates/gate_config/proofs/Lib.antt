@@ -3,6 +3,7 @@ pub mod Attributes
 pub mod Documents
 pub mod Each
 pub mod Faults
+pub mod Filters
 pub mod InOrder
 pub mod JobLists
 pub mod Keyed

@@ -11,6 +11,7 @@ use Rattle.gate_config.specs.Document.{vote_at, votes_of}
 use Rattle.gate_config.specs.Inner.Found.{key_view}
 use Rattle.gate_config.specs.Inner.Faults.{HasPassed, HasFault}
 use Rattle.gate_config.specs.Places.{nth}
+use Rattle.gate_config.specs.declared.path.Step.{Step}
 use Rattle.gate_config.specs.declared.fault.ConfigFault.{ConfigFault}
 use Rattle.gate_config.proofs.Each.{TestedSoFar, count, map_more, tested_all, tested_fault, tested_more, tested_none}
 use Rattle.gate_config.proofs.Faults.{fault_front, fault_rest, passed_both}
@@ -18,7 +19,7 @@ use Rattle.gate_config.proofs.Listed.{flat_map-append}
 use Rattle.gate_config.proofs.Picked.{filter_map_more}
 
 -- the first i keys of an object pass, and their votes stand behind those from before
-pub record VotesSoFar (place here : List ℕ) (object : Data) (start : List (List ℕ × ℤ)) (keys : List (Bor (String Global))) (i : ℕ) (out : List (List ℕ × ℤ)) : Type 0 where
+pub record VotesSoFar (place here : List Step) (object : Data) (start : List (List ℕ × ℤ)) (keys : List (Bor (String Global))) (i : ℕ) (out : List (List ℕ × ℤ)) : Type 0 where
   pub tested : TestedSoFar (λ index. vote_checks place here object (length start + index)) key_view keys i
   pub says : out ≡ start ++ filter_map (vote_at object) (map key_view (take i keys))
   pub many : length out ≡ length start + i
@@ -27,7 +28,7 @@ one : {A : Type 0} (o : Option A) → is_some o ≡ true → length (option_to_l
 one None e = cc
 one (Some x) e = refl
 
-module _ {place here : List ℕ} {object : Data} {start : List (List ℕ × ℤ)} {keys : List (Bor (String Global))} where
+module _ {place here : List Step} {object : Data} {start : List (List ℕ × ℤ)} {keys : List (Bor (String Global))} where
   pub votes_none : VotesSoFar place here object start keys 0 start
   votes_none = record { tested = tested_none; says = sym (append-nil start); many = sym (add-zero (length start)) }
 
@@ -48,7 +49,7 @@ module _ {place here : List ℕ} {object : Data} {start : List (List ℕ × ℤ)
   votes_all {i} h v = (tested_all h v.tested, v.says ∙ ap (λ ks. start ++ filter_map (vote_at object) (map key_view ks)) (take_all i keys h))
 
 -- objects that stand behind others
-objects-append : (place : List ℕ) (p n : ℕ) (xs ys : List Data) → objects_checks place p n (xs ++ ys) ≡ objects_checks place p n xs ++ objects_checks place (p + length xs) (n + length (flat_map votes_of xs)) ys
+objects-append : (place : List Step) (p n : ℕ) (xs ys : List Data) → objects_checks place p n (xs ++ ys) ≡ objects_checks place p n xs ++ objects_checks place (p + length xs) (n + length (flat_map votes_of xs)) ys
 objects-append place p n [] ys = (λ i. objects_checks place (sym (add-zero p) i) (sym (add-zero n) i) ys)
 objects-append place p n (x ∷ xs) ys =
     ap (λ rest. votes_checks place (nth place p) n x ++ rest) (objects-append place (p + 1) (n + length (votes_of x)) xs ys
@@ -57,12 +58,12 @@ objects-append place p n (x ∷ xs) ys =
     ∙ sym (append_assoc (votes_checks place (nth place p) n x) (objects_checks place (p + 1) (n + length (votes_of x)) xs) (objects_checks place (p + length (x ∷ xs)) (n + length (flat_map votes_of (x ∷ xs))) ys))
 
 -- the first i objects pass, and these are their votes
-pub record ObjectsSoFar (place : List ℕ) (items : List Value) (i : ℕ) (out : List (List ℕ × ℤ)) : Type 0 where
+pub record ObjectsSoFar (place : List Step) (items : List Value) (i : ℕ) (out : List (List ℕ × ℤ)) : Type 0 where
   pub tested : HasPassed (objects_checks place 0 0 (map view (take i items)))
   pub says : out ≡ flat_map votes_of (map view (take i items))
 
 -- the checks of one more object
-behind : (place : List ℕ) (items : List Value) (i : ℕ) (out : List (List ℕ × ℤ)) (ys : List Data) → i < length items → out ≡ flat_map votes_of (map view (take i items)) → objects_checks place 0 0 (map view (take i items) ++ ys) ≡ objects_checks place 0 0 (map view (take i items)) ++ objects_checks place i (length out) ys
+behind : (place : List Step) (items : List Value) (i : ℕ) (out : List (List ℕ × ℤ)) (ys : List Data) → i < length items → out ≡ flat_map votes_of (map view (take i items)) → objects_checks place 0 0 (map view (take i items) ++ ys) ≡ objects_checks place 0 0 (map view (take i items)) ++ objects_checks place i (length out) ys
 behind place items i out ys h e =
     objects-append place 0 0 (map view (take i items)) ys
     ∙ ap (λ n. objects_checks place 0 0 (map view (take i items)) ++ objects_checks place n (0 + length (flat_map votes_of (map view (take i items)))) ys) at_place
@@ -71,7 +72,7 @@ behind place items i out ys h e =
     at_place : 0 + length (map view (take i items)) ≡ i
     at_place = zero-add (length (map view (take i items))) ∙ count view items i h
 
-module _ {place : List ℕ} {items : List Value} where
+module _ {place : List Step} {items : List Value} where
   pub objects_none : ObjectsSoFar place items 0 []
   objects_none = record { tested = record { all = tt }; says = refl }
 

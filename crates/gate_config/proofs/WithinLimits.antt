@@ -9,7 +9,8 @@ use Rattle.gate_config.specs.Document.{names_in, pipeline_items, sources_of, ten
 use Rattle.gate_config.specs.Faults.{Check, Asks, AllPass}
 use Rattle.gate_config.specs.Inner.Faults.{HasPassed}
 use Rattle.gate_config.specs.Parts.{optional}
-use Rattle.gate_config.specs.Places.{below, nth}
+use Rattle.gate_config.specs.Places.{below, nth, whole}
+use Rattle.gate_config.specs.declared.path.Step.{Step}
 use Rattle.gate_config.specs.declared.fault.ConfigFault.{ConfigFault}
 use Rattle.gate_config.specs.Limits.{most_connections, most_pipelines, most_tenants}
 use Rattle.gate_config.specs.Names.{with_name, with_names}
@@ -33,7 +34,7 @@ at_most_along checks m below before (x ∷ xs) h p =
     (at_most_along checks m below (before ++ x ∷ []) xs more (rest_passed (checks before x) (along_from checks (before ++ x ∷ []) xs) p))
 
 -- the connections of a tenant, with those known before
-few_sources : (known : List (List ℕ)) (here : List ℕ) (sources : Option Data) (before keys : List (List ℕ)) → length (with_names known before) ≤ most_connections → AllPass (along_from (source_checks known here sources) before keys) → length (with_names known (before ++ keys)) ≤ most_connections
+few_sources : (known : List (List ℕ)) (here : List Step) (sources : Option Data) (before keys : List (List ℕ)) → length (with_names known before) ≤ most_connections → AllPass (along_from (source_checks known here sources) before keys) → length (with_names known (before ++ keys)) ≤ most_connections
 few_sources known here sources before [] h p = rw (append-nil before) h
 few_sources known here sources before (key ∷ keys) h p =
     let few : length (with_name key (with_names known before)) ≤ most_connections = leb-true (length (with_name key (with_names known before))) most_connections p.0 in
@@ -57,7 +58,7 @@ few_names before (entry ∷ entries) h p =
     let passed : AllPass (tenant_checks before entry) = front_passed (tenant_checks before entry) (along_from tenant_checks (before ++ entry ∷ []) entries) p in
     let tenant = tenant_of entry.1 in
     let few : length (with_names (names_in before) (tenant_sources entry)) ≤ most_connections =
-    few_sources (names_in before) (below (tenant_place (nth (codes "tenants") entry.0) entry.1) (codes "source")) (optional (codes "source") tenant) [] (sources_of tenant) h passed.1.1.1.1.1 in
+    few_sources (names_in before) (below (tenant_place (nth (below whole (codes "tenants")) entry.0) entry.1) (codes "source")) (optional (codes "source") tenant) [] (sources_of tenant) h passed.1.1.1.1.1 in
     subst (λ es. length (names_in es) ≤ most_connections) (append_assoc before (entry ∷ []) entries)
     (few_names (before ++ entry ∷ []) entries (subst (λ names. length names ≤ most_connections) (sym (names-append before entry)) few)
     (rest_passed (tenant_checks before entry) (along_from tenant_checks (before ++ entry ∷ []) entries) p))
@@ -74,7 +75,7 @@ few_read texts gives read items m e h =
 pub few_tenants : {X A T B : Type 0} (v : X → A) (items : List X) (texts : T → B) (gives : A → B) (read : List T) {found : ConfigFault} → map texts read ≡ map gives (map v items) → HasPassed (Asks (nat_le (length (map v items)) most_tenants) found ∷ []) → length read ≤ most_tenants
 few_tenants v items texts gives read e p = few_read texts gives read (map v items) most_tenants e (leb-true (length (map v items)) most_tenants p.all.0)
 
-pub few_pipelines : {T B : Type 0} (connections : List (List ℕ)) (place : List ℕ) (items : List Data) (texts : T → B) (gives : ℕ × Data → B) (read : List T) →
+pub few_pipelines : {T B : Type 0} (connections : List (List ℕ)) (place : List Step) (items : List Data) (texts : T → B) (gives : ℕ × Data → B) (read : List T) →
     HasPassed (items_checks connections place items) → map texts read ≡ map gives (pipeline_items items) → length read ≤ most_pipelines
 few_pipelines connections place items texts gives read p e =
     let passed : AllPass (along (pipeline_checks connections place) (pipeline_items items)) = rest_passed (each (item_checks place) items) (along (pipeline_checks connections place) (pipeline_items items)) p.all in
@@ -82,5 +83,5 @@ few_pipelines connections place items texts gives read p e =
     few_read texts gives read (pipeline_items items) most_pipelines e few
 
 -- the same of all items
-pub passed_pipelines : (connections : List (List ℕ)) (place : List ℕ) (items : List Data) → HasPassed (all_items_checks connections place items) → HasPassed (items_checks connections place items)
+pub passed_pipelines : (connections : List (List ℕ)) (place : List Step) (items : List Data) → HasPassed (all_items_checks connections place items) → HasPassed (items_checks connections place items)
 passed_pipelines connections place items p = record { all = front_passed (items_checks connections place items) (stanzas_checks place items) p.all }

@@ -5,12 +5,13 @@ use Rattle.std.specs.Str.{bytes_eq}
 use Rattle.serde_json.specs.Data.{Data, Items}
 use Rattle.serde_json.specs.Find.{get, as_str}
 use Rattle.gate_record.specs.Json.{items_in, json_of}
+use Rattle.gate_config.specs.declared.path.Step.{Step}
 use Rattle.gate_config.specs.declared.fault.ConfigFault.TheVariants.{NotJson, Shape, Limit, Manager, Attribute, Repeated}
 use Rattle.gate_config.specs.Document.{tenant_entries, tenant_of, tenant_name, name_of, name_in, group, sources_of, names_in, config_items, pipeline_items, pipeline_names, project_items, is_stanza, job_list, manager_named, vote_at, votes_of}
 use Rattle.gate_config.specs.Faults.{Check, Asks, Builds}
 use Rattle.gate_config.specs.Names.{with_name, with_names}
 use Rattle.gate_config.specs.Parts.{is_fine, is_flag, is_list, is_object, is_text, is_there, items_of, keys_of, one_or_list, optional, optional_in, text_of_member}
-use Rattle.gate_config.specs.Places.{below, nth}
+use Rattle.gate_config.specs.Places.{below, nth, whole}
 use Rattle.gate_config.specs.Limits.{most_tenants, most_connections, most_pipelines, most_rules, most_entries}
 
 -- the checks of each of the values, by its position from 0
@@ -39,30 +40,30 @@ is_group None entry = not (is_nameless entry)
 abbrev pub is_entry : Data → Bool
 is_entry entry = is_group (group entry) entry
 
-abbrev pub project_checks : List ℕ → ℕ → Data → List Check
+abbrev pub project_checks : List Step → ℕ → Data → List Check
 project_checks place position entry = Asks (is_entry entry) (Shape (nth place position)) ∷ []
 
 -- a project list of what stands at a connection
-abbrev pub list_checks : List ℕ → Option Data → List ℕ → List Check
+abbrev pub list_checks : List Step → Option Data → List ℕ → List Check
 list_checks place source key =
     Asks (is_fine is_list (optional_in key source)) (Shape (below place key))
     ∷ each (project_checks (below place key)) (items_of (optional_in key source))
 
 -- what a tenant lists at a connection: an object or null, with project lists
-abbrev pub listing_checks : List ℕ → Option Data → List Check
+abbrev pub listing_checks : List Step → Option Data → List Check
 listing_checks here source =
     Asks (is_fine is_object source) (Shape here)
     ∷ (list_checks here source (codes "config-projects") ++ list_checks here source (codes "untrusted-projects"))
 
 -- A connection among the sources: with those that earlier tenants list and those before it there are at most
 -- `most_connections` names.
-abbrev pub source_checks : List (List ℕ) → List ℕ → Option Data → List (List ℕ) → List ℕ → List Check
+abbrev pub source_checks : List (List ℕ) → List Step → Option Data → List (List ℕ) → List ℕ → List Check
 source_checks known place sources before key =
     Asks (nat_le (length (with_name key (with_names known before))) most_connections) (Limit (below place key))
     ∷ listing_checks (below place key) (optional_in key sources)
 
 -- the connections that a tenant lists, in byte order
-abbrev pub sources_checks : List (List ℕ) → List ℕ → Data → List Check
+abbrev pub sources_checks : List (List ℕ) → List Step → Data → List Check
 sources_checks known here tenant =
     Asks (is_fine is_object (optional (codes "source") tenant)) (Shape (below here (codes "source")))
     ∷ along (source_checks known (below here (codes "source")) (optional (codes "source") tenant)) (sources_of tenant)
@@ -72,18 +73,18 @@ abbrev pub is_taken : List (ℕ × Data) → List ℕ → Bool
 is_taken before name = list_any (λ (entry : ℕ × Data). bytes_eq (tenant_name entry.1) name) before
 
 -- a tenant at this place: it has a name of its own, and perhaps sources
-abbrev pub named_checks : List (ℕ × Data) → List ℕ → Data → List Check
+abbrev pub named_checks : List (ℕ × Data) → List Step → Data → List Check
 named_checks before here tenant =
     Asks (is_there is_text (get (codes "name") tenant)) (Shape (below here (codes "name")))
     ∷ Asks (not (is_taken before (name_of tenant))) (Repeated (below here (codes "name")))
     ∷ sources_checks (names_in before) here tenant
 
 -- the place of the tenant of an entry
-abbrev pub tenant_place : List ℕ → Data → List ℕ
+abbrev pub tenant_place : List Step → Data → List Step
 tenant_place here entry = if is_some (optional (codes "tenant") entry) then below here (codes "tenant") else here
 
 -- an entry at this place: an object, of which `tenant` is an object if it is there
-abbrev pub tenant_checks_at : List (ℕ × Data) → List ℕ → Data → List Check
+abbrev pub tenant_checks_at : List (ℕ × Data) → List Step → Data → List Check
 tenant_checks_at before here entry =
     Asks (is_object entry) (Shape here)
     ∷ Asks (is_fine is_object (optional (codes "tenant") entry)) (Shape here)
@@ -91,7 +92,7 @@ tenant_checks_at before here entry =
 
 -- an entry of `tenants`, behind those before it
 abbrev pub tenant_checks : List (ℕ × Data) → ℕ × Data → List Check
-tenant_checks before entry = tenant_checks_at before (nth (codes "tenants") entry.0) entry.1
+tenant_checks before entry = tenant_checks_at before (nth (below whole (codes "tenants")) entry.0) entry.1
 
 -- ---- rules
 
@@ -99,11 +100,11 @@ tenant_checks before entry = tenant_checks_at before (nth (codes "tenants") entr
 abbrev pub entry_keys : List (List ℕ)
 entry_keys = codes "negate" ∷ codes "regex" ∷ []
 
-abbrev pub entry_key_checks : List ℕ → List ℕ → List Check
+abbrev pub entry_key_checks : List Step → List ℕ → List Check
 entry_key_checks here key = Asks (list_any (bytes_eq key) entry_keys) (Shape (below here key)) ∷ []
 
 -- an object, whose keys are taken in byte order, with a text `regex` that is built as a pattern, and perhaps `negate`
-abbrev pub regex_checks : List ℕ → Data → List Check
+abbrev pub regex_checks : List Step → Data → List Check
 regex_checks here value =
     Asks (is_object value) (Shape here)
     ∷ (flat_map (entry_key_checks here) (keys_of (Some value))
@@ -113,48 +114,48 @@ regex_checks here value =
     ∷ [])
 
 -- an entry of an attribute of patterns: a text that is built as a pattern, or an object
-abbrev pub text_or_object_checks : List ℕ → Option (List ℕ) → Data → List Check
+abbrev pub text_or_object_checks : List Step → Option (List ℕ) → Data → List Check
 text_or_object_checks here (Some text) value = Builds text here ∷ []
 text_or_object_checks here None value = regex_checks here value
 
-abbrev pub entry_checks_at : List ℕ → Data → List Check
+abbrev pub entry_checks_at : List Step → Data → List Check
 entry_checks_at here value = text_or_object_checks here (as_str value) value
 
 -- an entry of a list, of which at most `most_entries` stand in an attribute
-abbrev pub entry_checks : List ℕ → ℕ → Data → List Check
+abbrev pub entry_checks : List Step → ℕ → Data → List Check
 entry_checks place position value = Asks (nat_lt position most_entries) (Limit place) ∷ entry_checks_at (nth place position) value
 
 -- an attribute of patterns: an entry or a list of entries, if it is there
-abbrev pub pattern_checks : List ℕ → Option Data → List Check
+abbrev pub pattern_checks : List Step → Option Data → List Check
 pattern_checks place None = []
 pattern_checks place (Some value) = one_or_list (each (entry_checks place)) (entry_checks_at place) value
 
 -- The vote at a key of an object of approvals: at most `most_entries` stand in an attribute, and it is a number. `rank` votes
 -- stand before it.
-abbrev pub vote_checks : List ℕ → List ℕ → Data → ℕ → List ℕ → List Check
+abbrev pub vote_checks : List Step → List Step → Data → ℕ → List ℕ → List Check
 vote_checks place here labels rank key =
     Asks (nat_lt rank most_entries) (Limit place) ∷ Asks (is_some (vote_at labels key)) (Shape here) ∷ []
 
 -- an object of approvals, whose keys are taken in byte order; `count` votes stand before it
-abbrev pub votes_checks : List ℕ → List ℕ → ℕ → Data → List Check
+abbrev pub votes_checks : List Step → List Step → ℕ → Data → List Check
 votes_checks place here count labels =
     Asks (is_object labels) (Shape here)
     ∷ each (λ index. vote_checks place here labels (count + index)) (keys_of (Some labels))
 
 -- a list of objects of approvals from a position on
-abbrev pub objects_checks : List ℕ → ℕ → ℕ → List Data → List Check
+abbrev pub objects_checks : List Step → ℕ → ℕ → List Data → List Check
 objects_checks place position count [] = []
 objects_checks place position count (labels ∷ others) =
     votes_checks place (nth place position) count labels
     ++ objects_checks place (position + 1) (count + length (votes_of labels)) others
 
 -- approvals: one object or a list of objects, if it is there
-abbrev pub approval_checks : List ℕ → Option Data → List Check
+abbrev pub approval_checks : List Step → Option Data → List Check
 approval_checks place None = []
 approval_checks place (Some value) = one_or_list (objects_checks place 0 0) (votes_checks place place 0) value
 
 -- true or false, if it is there
-abbrev pub flag_checks : List ℕ → Option Data → List Check
+abbrev pub flag_checks : List Step → Option Data → List Check
 flag_checks place value = Asks (is_fine is_flag value) (Shape place) ∷ []
 
 -- the attributes whose values are patterns
@@ -163,7 +164,7 @@ pattern_attributes =
     codes "event" ∷ codes "branch" ∷ codes "ref" ∷ codes "username" ∷ codes "email" ∷ codes "comment" ∷ []
 
 -- what stands at a key of a rule; a key that is no attribute is refused
-abbrev pub attribute_checks : List ℕ → Data → List ℕ → List Check
+abbrev pub attribute_checks : List Step → Data → List ℕ → List Check
 attribute_checks place rule key =
     if list_any (bytes_eq key) pattern_attributes then pattern_checks (below place key) (optional key rule)
     else (if bytes_eq key (codes "approval") then approval_checks (below place key) (optional key rule)
@@ -175,38 +176,38 @@ abbrev pub is_asking : Data → Bool
 is_asking value = one_or_list (λ items. nat_lt 0 (length items)) (λ other. true) value
 
 -- a rule at this place: an object of attributes, whose keys are taken in byte order; `event` is required
-abbrev pub rule_checks_at : List ℕ → Data → List Check
+abbrev pub rule_checks_at : List Step → Data → List Check
 rule_checks_at here rule =
     Asks (is_object rule) (Shape here)
     ∷ (flat_map (attribute_checks here rule) (keys_of (Some rule))
     ++ Asks (is_there is_asking (optional (codes "event") rule)) (Shape (below here (codes "event"))) ∷ [])
 
-abbrev pub rule_checks : List ℕ → ℕ → Data → List Check
+abbrev pub rule_checks : List Step → ℕ → Data → List Check
 rule_checks place position rule = rule_checks_at (nth place position) rule
 
 -- a list of at most `most_rules` rules
-abbrev pub rule_list_checks : List ℕ → List Data → List Check
+abbrev pub rule_list_checks : List Step → List Data → List Check
 rule_list_checks here rules = Asks (nat_le (length rules) most_rules) (Limit here) ∷ each (rule_checks here) rules
 
 -- a list of rules or one rule, if it is there
-abbrev pub rules_checks : List ℕ → Option Data → List Check
+abbrev pub rules_checks : List Step → Option Data → List Check
 rules_checks here None = []
 rules_checks here (Some value) = one_or_list (rule_list_checks here) (rule_checks_at here) value
 
 -- the rules of a trigger for a connection. What stands at other keys isn't looked into.
-abbrev pub connection_checks : List ℕ → Option Data → List ℕ → List Check
+abbrev pub connection_checks : List Step → Option Data → List ℕ → List Check
 connection_checks place trigger connection = rules_checks (below place connection) (optional_in connection trigger)
 
 -- ---- pipelines
 
-abbrev pub manager_checks : List ℕ → Data → List Check
+abbrev pub manager_checks : List Step → Data → List Check
 manager_checks here pipeline =
     Asks (is_there is_text (get (codes "manager") pipeline)) (Shape (below here (codes "manager")))
     ∷ Asks (is_some (manager_named (text_of_member (codes "manager") pipeline))) (Manager (below here (codes "manager")))
     ∷ []
 
 -- the trigger: an object, of which the connections are read in byte order, which is that of their numbers
-abbrev pub trigger_checks : List (List ℕ) → List ℕ → Data → List Check
+abbrev pub trigger_checks : List (List ℕ) → List Step → Data → List Check
 trigger_checks connections here pipeline =
     Asks (is_fine is_object (optional (codes "trigger") pipeline)) (Shape (below here (codes "trigger")))
     ∷ flat_map (connection_checks (below here (codes "trigger")) (optional (codes "trigger") pipeline)) connections
@@ -216,7 +217,7 @@ abbrev pub is_named : List (ℕ × Data) → List ℕ → Bool
 is_named before name = list_any (λ (entry : ℕ × Data). bytes_eq (name_of entry.1) name) before
 
 -- a pipeline in the item at this place, behind those before it
-abbrev pub pipeline_checks_at : List (List ℕ) → List ℕ → List ℕ → List (ℕ × Data) → Data → List Check
+abbrev pub pipeline_checks_at : List (List ℕ) → List Step → List Step → List (ℕ × Data) → Data → List Check
 pipeline_checks_at connections item here before pipeline =
     Asks (is_object pipeline) (Shape here)
     ∷ Asks (is_there is_text (get (codes "name") pipeline)) (Shape (below here (codes "name")))
@@ -224,72 +225,76 @@ pipeline_checks_at connections item here before pipeline =
     ∷ Asks (nat_lt (length before) most_pipelines) (Limit item)
     ∷ (manager_checks here pipeline ++ trigger_checks connections here pipeline)
 
-abbrev pub pipeline_checks : List (List ℕ) → List ℕ → List (ℕ × Data) → ℕ × Data → List Check
+abbrev pub pipeline_checks : List (List ℕ) → List Step → List (ℕ × Data) → ℕ × Data → List Check
 pipeline_checks connections place before entry =
     pipeline_checks_at connections (nth place entry.0) (below (nth place entry.0) (codes "pipeline")) before entry.1
 
 -- an item of a tenant's list in `config`
-abbrev pub item_checks : List ℕ → ℕ → Data → List Check
+abbrev pub item_checks : List Step → ℕ → Data → List Check
 item_checks place position item = Asks (is_object item) (Shape (nth place position)) ∷ []
 
 -- the items of a tenant's list in `config`: each is an object, and then the pipelines among them
-abbrev pub items_checks : List (List ℕ) → List ℕ → List Data → List Check
+abbrev pub items_checks : List (List ℕ) → List Step → List Data → List Check
 items_checks connections place items =
     each (item_checks place) items ++ along (pipeline_checks connections place) (pipeline_items items)
 
 -- ---- projects' jobs
 
 -- an entry of a list of jobs: a name
-abbrev pub job_checks : List ℕ → ℕ → Data → List Check
+abbrev pub job_checks : List Step → ℕ → Data → List Check
 job_checks place position job = Asks (is_some (name_in job)) (Shape (nth place position)) ∷ []
 
-abbrev pub jobs_checks : List ℕ → Option Data → List Check
+abbrev pub jobs_checks : List Step → Option Data → List Check
 jobs_checks place jobs = Asks (is_fine is_list jobs) (Shape place) ∷ each (job_checks place) (items_of jobs)
 
 -- what a stanza has for the pipeline of this name: an object with a list of jobs, both optional
-abbrev pub part_checks : List ℕ → Data → List ℕ → List Check
+abbrev pub part_checks : List Step → Data → List ℕ → List Check
 part_checks here stanza pipeline =
     Asks (is_fine is_object (optional pipeline stanza)) (Shape (below here pipeline))
     ∷ jobs_checks (below (below here pipeline) (codes "jobs")) (job_list pipeline stanza)
 
-abbrev pub parts_checks : List (List ℕ) → List ℕ → Data → List Check
+abbrev pub parts_checks : List (List ℕ) → List Step → Data → List Check
 parts_checks pipelines here stanza = if is_stanza stanza then flat_map (part_checks here stanza) pipelines else []
 
 -- A project item at this place, for pipelines of these names: an object. What it has for them is looked into where it is
 -- a stanza of a project.
-abbrev pub stanza_checks_at : List (List ℕ) → List ℕ → Data → List Check
+abbrev pub stanza_checks_at : List (List ℕ) → List Step → Data → List Check
 stanza_checks_at pipelines here stanza = Asks (is_object stanza) (Shape here) ∷ parts_checks pipelines here stanza
 
-abbrev pub stanza_checks : List (List ℕ) → List ℕ → ℕ × Data → List Check
+abbrev pub stanza_checks : List (List ℕ) → List Step → ℕ × Data → List Check
 stanza_checks pipelines place entry = stanza_checks_at pipelines (below (nth place entry.0) (codes "project")) entry.1
 
 -- the project items among the items of a tenant's list in `config`
-abbrev pub stanzas_checks : List ℕ → List Data → List Check
+abbrev pub stanzas_checks : List Step → List Data → List Check
 stanzas_checks place items = flat_map (stanza_checks (pipeline_names items) place) (project_items items)
 
 -- the items of a tenant's list in `config`: all pipelines are read before the project items
-abbrev pub all_items_checks : List (List ℕ) → List ℕ → List Data → List Check
+abbrev pub all_items_checks : List (List ℕ) → List Step → List Data → List Check
 all_items_checks connections place items = items_checks connections place items ++ stanzas_checks place items
+
+-- the place of the list of this tenant in `config`
+abbrev pub list_place : List ℕ → List Step
+list_place tenant = below (below whole (codes "config")) tenant
 
 -- a tenant's list in `config`
 abbrev pub config_checks : Option Data → List (List ℕ) → ℕ × Data → List Check
 config_checks config connections entry =
-    Asks (is_fine is_list (optional_in (tenant_name entry.1) config)) (Shape (below (codes "config") (tenant_name entry.1)))
-    ∷ all_items_checks connections (below (codes "config") (tenant_name entry.1)) (config_items config (tenant_name entry.1))
+    Asks (is_fine is_list (optional_in (tenant_name entry.1) config)) (Shape (list_place (tenant_name entry.1)))
+    ∷ all_items_checks connections (list_place (tenant_name entry.1)) (config_items config (tenant_name entry.1))
 
 -- ---- the document
 
 -- all tenants are read before their lists in `config`
 abbrev pub entries_checks : Option Data → List (ℕ × Data) → List Check
 entries_checks config entries =
-    Asks (nat_le (length entries) most_tenants) (Limit (codes "tenants"))
+    Asks (nat_le (length entries) most_tenants) (Limit (below whole (codes "tenants")))
     ∷ (along tenant_checks entries ++ flat_map (config_checks config (names_in entries)) entries)
 
 abbrev pub document_checks : Data → List Check
 document_checks document =
-    Asks (is_object document) (Shape [])
-    ∷ Asks (is_there is_list (get (codes "tenants") document)) (Shape (codes "tenants"))
-    ∷ Asks (is_there is_object (get (codes "config") document)) (Shape (codes "config"))
+    Asks (is_object document) (Shape whole)
+    ∷ Asks (is_there is_list (get (codes "tenants") document)) (Shape (below whole (codes "tenants")))
+    ∷ Asks (is_there is_object (get (codes "config") document)) (Shape (below whole (codes "config")))
     ∷ entries_checks (get (codes "config") document) (tenant_entries document)
 
 abbrev pub checks_of_json : Option Data → List Check

@@ -3,6 +3,7 @@ use Rattle.std.specs.Prelude.{◌≡◌, ◌⊎◌, ℕ, List, [], ◌∷◌, Bo
 use Rattle.gate_rule.specs.declared.pattern.Pattern.{Pattern}
 use Rattle.gate_rule.specs.Built.{IsRefused}
 use Rattle.gate_rule.specs.Pattern.{text_of}
+use Rattle.gate_config.specs.declared.path.Step.{Step}
 use Rattle.gate_config.specs.declared.fault.ConfigFault.{ConfigFault}
 use Rattle.gate_config.specs.declared.fault.ConfigFault.TheVariants as fault
 
@@ -11,7 +12,7 @@ pub data Check : Type 0 where
   -- a test, and the fault where it doesn't hold
   Asks : (holds : Bool) → (fault : ConfigFault) → Check
   -- a text that is built as a pattern, and its place
-  Builds : (text place : List ℕ) → Check
+  Builds : (text : List ℕ) (place : List Step) → Check
 
 -- the test holds; the text was built as a pattern
 abbrev pub Passes : Check → Type 0

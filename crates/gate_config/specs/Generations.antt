@@ -13,6 +13,7 @@ use Rattle.gate_config.specs.Checks.{checks_of}
 use Rattle.gate_config.specs.Faults.{AllPass, IsFirstFault}
 use Rattle.gate_config.specs.InForce.{in_force}
 use Rattle.gate_config.specs.Limits.{most_generations}
+use Rattle.gate_config.specs.Places.{whole}
 use Rattle.gate_config.specs.Structure.{Structure, structure_of}
 use Rattle.gate_config.specs.Texts.{IsReadFrom}
 
@@ -38,10 +39,10 @@ common_in bytes = option_map structure_of (json_of bytes)
 abbrev pub PassesBeside : Option Structure → List ℕ → Type 0
 PassesBeside common bytes = AllPass (checks_of bytes) × (common_in bytes ≡ common)
 
--- This is the document's fault: the first of its own checks, or `Shape` at the empty place where all of these pass and it says
+-- This is the document's fault: the first of its own checks, or `Shape` at the whole document where all of these pass and it says
 -- something else.
 abbrev pub FailsBeside : Option Structure → List ℕ → ConfigFault → Type 0
-FailsBeside common bytes found = IsFirstFault (checks_of bytes) found ⊎ (AllPass (checks_of bytes) × (common_in bytes ≢ common) × (found ≡ config_fault.Shape []))
+FailsBeside common bytes found = IsFirstFault (checks_of bytes) found ⊎ (AllPass (checks_of bytes) × (common_in bytes ≢ common) × (found ≡ config_fault.Shape whole))
 
 -- all documents before this one pass, and this is its fault
 abbrev pub IsFirstToFail : Option Structure → List (List ℕ) → ℕ → ConfigFault → Type 0

@@ -3,8 +3,10 @@ pub mod Attributes
 pub mod Comparing
 pub mod Faults
 pub mod Documents
+pub mod Filters
 pub mod Found
 pub mod Jobs
 pub mod Keyed
 pub mod Lookups
+pub mod Steps
 pub mod Structures

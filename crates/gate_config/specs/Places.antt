@@ -1,12 +1,16 @@
--- Places in a document: keys joined by dots, with list positions in brackets from 0. The whole document is the empty text.
-use Rattle.std.specs.Prelude.{ℕ, List, [], ◌∷◌, ◌++◌, decimal}
-use Rattle.gate_record.specs.Characters.{full_stop, left_bracket, right_bracket}
+-- Places in a document: the steps to them from the whole document on.
+use Rattle.std.specs.Prelude.{ℕ, List, [], ◌∷◌, ◌++◌}
+use Rattle.gate_config.specs.declared.path.Step.{Step}
+use Rattle.gate_config.specs.declared.path.Step.TheVariants.{Member, Item}
+
+-- the whole document
+abbrev pub whole : List Step
+whole = []
 
 -- the member of this key
-abbrev pub below : List ℕ → List ℕ → List ℕ
-below [] key = key
-below (b ∷ bs) key = (b ∷ bs) ++ full_stop ∷ key
+abbrev pub below : List Step → List ℕ → List Step
+below place key = place ++ Member key ∷ []
 
 -- the item at this position
-abbrev pub nth : List ℕ → ℕ → List ℕ
-nth place position = place ++ left_bracket ∷ (decimal position ++ right_bracket ∷ [])
+abbrev pub nth : List Step → ℕ → List Step
+nth place position = place ++ Item position ∷ []

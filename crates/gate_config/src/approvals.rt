@@ -7,12 +7,13 @@ ghost use Rattle.gate_config.specs.Checks.{each, approval_checks, objects_checks
 ghost use Rattle.gate_config.specs.Document.{vote_at, votes, votes_of};
 ghost use Rattle.gate_config.specs.Inner.Found.{key_view};
 ghost use Rattle.gate_config.specs.Inner.Faults.{Reads};
+ghost use Rattle.gate_config.specs.Inner.Steps.{steps_of};
 ghost use Rattle.gate_config.specs.Places.{nth};
 
 use crate::fault::ConfigFault;
 use crate::limits::MAX_ENTRIES;
 use crate::parts::{check_object, keys, list};
-use crate::places::item_place;
+use crate::places::Place;
 use gate_record::{Sequence, Text, category, read_number};
 use serde_json::Value;
 use std::alloc::Global;
@@ -20,10 +21,10 @@ use std::alloc::Global;
 // The votes of `approval`, if it is there: an object of categories and numbers, or a list of such objects.
 pub(crate) fn read_approvals(
     alloc: Global,
-    place: &str,
+    place: &Place<'_>,
     value: Option<&Value>,
 ) -> Result<Sequence<(Text, i64)>, ConfigFault>
-    ensures { Reads (approval_checks place.now (option_map (λ v. view v.now) value.entry))
+    ensures { Reads (approval_checks (steps_of place.now) (option_map (λ v. view v.now) value.entry))
         (λ read. read ≡ votes (option_map (λ v. view v.now) value.entry)) result }
 {
     match value {
@@ -37,10 +38,10 @@ pub(crate) fn read_approvals(
 
 fn read_object(
     alloc: Global,
-    place: &str,
+    place: &Place<'_>,
     object: &Value,
 ) -> Result<Sequence<(Text, i64)>, ConfigFault>
-    ensures { Reads (votes_checks place.now place.now 0 (view object.now)) (λ read. read ≡ votes_of (view object.now)) result }
+    ensures { Reads (votes_checks (steps_of place.now) (steps_of place.now) 0 (view object.now)) (λ read. read ≡ votes_of (view object.now)) result }
 {
     let mut votes = Sequence::empty(alloc);
     push_object(alloc, place, place, object, &mut votes)?;
@@ -49,10 +50,10 @@ fn read_object(
 
 fn read_objects(
     alloc: Global,
-    place: &str,
+    place: &Place<'_>,
     items: &[Value],
 ) -> Result<Sequence<(Text, i64)>, ConfigFault>
-    ensures { Reads (objects_checks place.now 0 0 (map view items.now)) (λ read. read ≡ flat_map votes_of (map view items.now)) result }
+    ensures { Reads (objects_checks (steps_of place.now) 0 0 (map view items.now)) (λ read. read ≡ flat_map votes_of (map view items.now)) result }
 {
     let mut votes = Sequence::empty(alloc);
     for (position, item) in items.iter().enumerate() {
@@ -64,27 +65,27 @@ fn read_objects(
 // The object at this position of the list.
 fn push_item(
     alloc: Global,
-    place: &str,
+    place: &Place<'_>,
     position: usize,
     item: &Value,
     votes: &mut Sequence<(Text, i64)>,
 ) -> Result<(), ConfigFault>
-    ensures { Reads (votes_checks place.now (nth place.now position) (length votes.old) (view item.now))
+    ensures { Reads (votes_checks (steps_of place.now) (nth (steps_of place.now) position) (length votes.old) (view item.now))
         (λ _. votes.new ≡ votes.old ++ votes_of (view item.now)) result }
 {
-    let here = item_place(alloc, place, position)?;
-    push_object(alloc, place, here.as_str(), item, votes)
+    let here = place.item(position);
+    push_object(alloc, place, &here, item, votes)
 }
 
 // An object of categories and numbers, at `here`.
-fn push_object(
+fn push_object<'p>(
     alloc: Global,
-    place: &str,
-    here: &str,
+    place: &Place<'p>,
+    here: &Place<'p>,
     object: &Value,
     votes: &mut Sequence<(Text, i64)>,
 ) -> Result<(), ConfigFault>
-    ensures { Reads (votes_checks place.now here.now (length votes.old) (view object.now))
+    ensures { Reads (votes_checks (steps_of place.now) (steps_of here.now) (length votes.old) (view object.now))
         (λ _. votes.new ≡ votes.old ++ votes_of (view object.now)) result }
 {
     check_object(alloc, here, object)?;
@@ -94,13 +95,13 @@ fn push_object(
 
 fn push_votes(
     alloc: Global,
-    place: &str,
-    here: &str,
+    place: &Place<'_>,
+    here: &Place<'_>,
     object: &Value,
     keys: &[&String],
     votes: &mut Sequence<(Text, i64)>,
 ) -> Result<(), ConfigFault>
-    ensures { Reads (each (λ index. vote_checks place.now here.now (view object.now) (length votes.old + index)) (map key_view keys.now))
+    ensures { Reads (each (λ index. vote_checks (steps_of place.now) (steps_of here.now) (view object.now) (length votes.old + index)) (map key_view keys.now))
         (λ _. votes.new ≡ votes.old ++ filter_map (vote_at (view object.now)) (map key_view keys.now)) result }
 {
     for key in keys {
@@ -113,17 +114,17 @@ fn push_votes(
 // is no number.
 fn push_vote(
     alloc: Global,
-    place: &str,
-    here: &str,
+    place: &Place<'_>,
+    here: &Place<'_>,
     object: &Value,
     key: &str,
     votes: &mut Sequence<(Text, i64)>,
 ) -> Result<(), ConfigFault>
-    ensures { Reads (vote_checks place.now here.now (view object.now) (length votes.old) key.now)
+    ensures { Reads (vote_checks (steps_of place.now) (steps_of here.now) (view object.now) (length votes.old) key.now)
         (λ _. votes.new ≡ votes.old ++ option_to_list (vote_at (view object.now) key.now)) result }
 {
     if votes.len() >= MAX_ENTRIES {
-        return Err(ConfigFault::Limit(Text::copy(alloc, place)?));
+        return Err(ConfigFault::Limit(place.path(alloc)?));
     }
     match number_member(object, key) {
         Some(vote) => {
@@ -131,7 +132,7 @@ fn push_vote(
             votes.push((Text::new(category), vote))?;
             Ok(())
         }
-        None => Err(ConfigFault::Shape(Text::copy(alloc, here)?)),
+        None => Err(ConfigFault::Shape(here.path(alloc)?)),
     }
 }
 

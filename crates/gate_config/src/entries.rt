@@ -7,6 +7,7 @@ ghost use Rattle.gate_config.specs.Document.{entry_in, entry_said, negates};
 ghost use Rattle.gate_config.specs.Faults.{Asks, Builds};
 ghost use Rattle.gate_config.specs.Inner.Faults.{Reads, Tests};
 ghost use Rattle.gate_config.specs.Inner.Found.{key_view};
+ghost use Rattle.gate_config.specs.Inner.Steps.{steps_of};
 ghost use Rattle.gate_config.specs.Parts.{is_fine, is_flag, is_object, keys_of, optional};
 ghost use Rattle.gate_config.specs.Places.{below};
 ghost use Rattle.gate_config.specs.Texts.{texts_of_entry};
@@ -15,7 +16,7 @@ ghost use Rattle.gate_config.specs.declared.fault.ConfigFault.TheVariants.{Shape
 use crate::fault::ConfigFault;
 use crate::parts::{check_object, keys, member, optional_flag, required_text};
 use crate::pattern_table::PatternTable;
-use crate::places::member_place;
+use crate::places::Place;
 use gate_record::Text;
 use gate_rule::{Entry, Pattern, PatternFault};
 use serde_json::Value;
@@ -25,10 +26,10 @@ use std::alloc::Global;
 pub(crate) fn read_entry(
     alloc: Global,
     table: &mut PatternTable,
-    here: &str,
+    here: &Place<'_>,
     value: &Value,
 ) -> Result<Entry, ConfigFault>
-    ensures { Reads (entry_checks_at here.now (view value.now)) (λ entry. texts_of_entry entry ≡ entry_in (view value.now)) result }
+    ensures { Reads (entry_checks_at (steps_of here.now) (view value.now)) (λ entry. texts_of_entry entry ≡ entry_in (view value.now)) result }
 {
     match value.as_str() {
         Some(text) => Ok(Entry::new(build_pattern(alloc, table, here, text)?, false)),
@@ -39,30 +40,30 @@ pub(crate) fn read_entry(
 fn read_object(
     alloc: Global,
     table: &mut PatternTable,
-    here: &str,
+    here: &Place<'_>,
     value: &Value,
 ) -> Result<Entry, ConfigFault>
-    ensures { Reads (regex_checks here.now (view value.now)) (λ entry. texts_of_entry entry ≡ entry_said None (view value.now)) result }
+    ensures { Reads (regex_checks (steps_of here.now) (view value.now)) (λ entry. texts_of_entry entry ≡ entry_said None (view value.now)) result }
 {
     check_keys(alloc, here, value)?;
     let text = required_text(alloc, here, value, "regex")?;
     let negate = read_negate(alloc, here, value)?;
-    let place = member_place(alloc, here, "regex")?;
-    let pattern = build_pattern(alloc, table, place.as_str(), text)?;
+    let place = here.member("regex");
+    let pattern = build_pattern(alloc, table, &place, text)?;
     Ok(Entry::new(pattern, negate))
 }
 
 // An object that has no other keys than those of an entry. `Shape` at the first other one.
-fn check_keys(alloc: Global, here: &str, value: &Value) -> Result<(), ConfigFault>
-    ensures { Tests (Asks (is_object (view value.now)) (Shape here.now) ∷ flat_map (entry_key_checks here.now) (keys_of (Some (view value.now)))) result }
+fn check_keys(alloc: Global, here: &Place<'_>, value: &Value) -> Result<(), ConfigFault>
+    ensures { Tests (Asks (is_object (view value.now)) (Shape (steps_of here.now)) ∷ flat_map (entry_key_checks (steps_of here.now)) (keys_of (Some (view value.now)))) result }
 {
     check_object(alloc, here, value)?;
     let keys = keys(alloc, Some(value))?;
     check_each_key(alloc, here, keys.as_slice())
 }
 
-fn check_each_key(alloc: Global, here: &str, keys: &[&String]) -> Result<(), ConfigFault>
-    ensures { Tests (flat_map (entry_key_checks here.now) (map key_view keys.now)) result }
+fn check_each_key(alloc: Global, here: &Place<'_>, keys: &[&String]) -> Result<(), ConfigFault>
+    ensures { Tests (flat_map (entry_key_checks (steps_of here.now)) (map key_view keys.now)) result }
 {
     for key in keys {
         check_key(alloc, here, key.as_str())?;
@@ -70,22 +71,22 @@ fn check_each_key(alloc: Global, here: &str, keys: &[&String]) -> Result<(), Con
     Ok(())
 }
 
-fn check_key(alloc: Global, here: &str, key: &str) -> Result<(), ConfigFault>
-    ensures { Tests (entry_key_checks here.now key.now) result }
+fn check_key(alloc: Global, here: &Place<'_>, key: &str) -> Result<(), ConfigFault>
+    ensures { Tests (entry_key_checks (steps_of here.now) key.now) result }
 {
     match key {
         "negate" | "regex" => Ok(()),
-        _ => Err(ConfigFault::Shape(member_place(alloc, here, key)?)),
+        _ => Err(ConfigFault::Shape(here.member(key).path(alloc)?)),
     }
 }
 
 // Whether an entry is negated; it isn't where nothing says so.
-fn read_negate(alloc: Global, here: &str, value: &Value) -> Result<bool, ConfigFault>
-    ensures { Reads (Asks (is_fine is_flag (optional (codes "negate") (view value.now))) (Shape (below here.now (codes "negate"))) ∷ [])
+fn read_negate(alloc: Global, here: &Place<'_>, value: &Value) -> Result<bool, ConfigFault>
+    ensures { Reads (Asks (is_fine is_flag (optional (codes "negate") (view value.now))) (Shape (below (steps_of here.now) (codes "negate"))) ∷ [])
         (λ negate. negate ≡ negates (view value.now)) result }
 {
-    let place = member_place(alloc, here, "negate")?;
-    let negate = optional_flag(alloc, place.as_str(), member(value, "negate"))?;
+    let place = here.member("negate");
+    let negate = optional_flag(alloc, &place, member(value, "negate"))?;
     Ok(negate.unwrap_or(false))
 }
 
@@ -93,14 +94,14 @@ fn read_negate(alloc: Global, here: &str, value: &Value) -> Result<bool, ConfigF
 fn build_pattern(
     alloc: Global,
     table: &mut PatternTable,
-    place: &str,
+    place: &Place<'_>,
     text: &str,
 ) -> Result<Pattern, ConfigFault>
-    ensures { Reads (Builds text.now place.now ∷ []) (λ pattern. text_of pattern ≡ text.now) result }
+    ensures { Reads (Builds text.now (steps_of place.now) ∷ []) (λ pattern. text_of pattern ≡ text.now) result }
 {
     match table.pattern(alloc, text) {
         Ok(pattern) => Ok(pattern),
         Err(PatternFault::Memory) => Err(ConfigFault::Memory),
-        Err(PatternFault::Refused) => Err(ConfigFault::Pattern(Text::copy(alloc, place)?)),
+        Err(PatternFault::Refused) => Err(ConfigFault::Pattern(place.path(alloc)?)),
     }
 }

@@ -1,30 +1,33 @@
-ghost use Rattle.std.specs.Prelude.{◌≡◌, ℕ, List, [], OnOk};
-ghost use Rattle.gate_config.specs.Inner.Jobs.{with_job};
+ghost use Rattle.std.specs.Prelude.{◌≡◌, ◌∷◌, ◌++◌, ℕ, List, [], IfOk, OnOk};
+ghost use Rattle.std.specs.List.{list_any};
+ghost use Rattle.std.specs.Str.{bytes_eq};
+ghost use Rattle.gate_config.specs.Inner.Jobs.{AreSeen, HasAll, with_job};
 
 use gate_record::{Memory, Text};
 use std::alloc::Global;
 use std::collections::BTreeSet;
 use std::marker::Model;
 
-// Names of jobs, each once, which contracts see as the list of them in order. The set has the same names, so that no
-// list is walked to see whether a name is there.
+// How many names are walked to see whether one is there.
+const FEW: usize = 16;
+
+// Names of jobs, each once, which contracts see as the list of them in order. Where there are more than a few there is a set of the
+// same names, so that no long list is walked to see whether a name is there.
 #[derive(Drop)]
 pub(crate) struct JobList {
     names: Vec<Text>,
-    seen: BTreeSet<String>,
+    seen: Option<BTreeSet<String>>,
 }
 
 impl Model for JobList {
-    ghost use Rattle.std.specs.Prelude.{◌≡◌, ℕ, List};
-    ghost use Rattle.std.specs.BTreeSet.{contains_text};
-    ghost use Rattle.std.specs.List.{list_any};
-    ghost use Rattle.std.specs.Str.{bytes_eq};
+    ghost use Rattle.std.specs.Prelude.{ℕ, List};
+    ghost use Rattle.gate_config.specs.Inner.Jobs.{AreSeen};
 
     ghost Value = { List (List ℕ) };
 
     ghost view = { λ l. l.names.items };
 
-    ghost invariant = { λ l. (name : List ℕ) → contains_text l.seen name ≡ list_any (bytes_eq name) l.names.items };
+    ghost invariant = { λ l. AreSeen l.names.items l.seen };
 }
 
 impl JobList {
@@ -34,7 +37,7 @@ impl JobList {
     {
         JobList {
             names: Vec::new(alloc),
-            seen: BTreeSet::new(alloc),
+            seen: None,
         }
     }
 
@@ -49,18 +52,56 @@ impl JobList {
     pub(crate) fn add(&mut self, alloc: Global, name: &str) -> Result<(), Memory>
         ensures { OnOk result (self.new ≡ with_job self.old name.now) }
     {
-        if self.seen.contains(name) {
+        if self.contains(name) {
             return Ok(());
         }
-        let key = String::from_str(alloc, name)?;
-        let text = Text::copy(alloc, name)?;
-        self.names.push(text)?;
-        match self.seen.insert(key) {
-            Ok(_) => Ok(()),
-            Err(_) => {
-                self.names.pop();
-                Err(Memory)
-            }
+        let seen = self.seen.take();
+        self.names.push(Text::copy(alloc, name)?)?;
+        self.seen = seen_behind(alloc, seen, self.names.as_slice(), name)?;
+        Ok(())
+    }
+
+    fn contains(&self, name: &str) -> bool
+        ensures { result ≡ list_any (bytes_eq name.now) self.now }
+    {
+        match &self.seen {
+            Some(seen) => seen.contains(name),
+            None => is_among(name, self.names.as_slice()),
         }
     }
+}
+
+fn is_among(name: &str, names: &[Text]) -> bool
+    ensures { result ≡ list_any (bytes_eq name.now) names.now }
+{
+    names.iter().any(|other| name == other.as_str())
+}
+
+// The set of these names, of which the last was added to those that it had, if there is to be one.
+fn seen_behind(
+    alloc: Global,
+    seen: Option<BTreeSet<String>>,
+    names: &[Text],
+    name: &str,
+) -> Result<Option<BTreeSet<String>>, Memory>
+    ensures { (before : List (List ℕ)) → AreSeen before seen → names.now ≡ before ++ name.now ∷ [] → IfOk result (AreSeen names.now) }
+{
+    match seen {
+        Some(mut seen) => {
+            seen.insert(String::from_str(alloc, name)?)?;
+            Ok(Some(seen))
+        }
+        None if names.len() > FEW => Ok(Some(set_of(alloc, names)?)),
+        None => Ok(None),
+    }
+}
+
+fn set_of(alloc: Global, names: &[Text]) -> Result<BTreeSet<String>, Memory>
+    ensures { IfOk result (HasAll names.now) }
+{
+    let mut set = BTreeSet::new(alloc);
+    for name in names {
+        set.insert(String::from_str(alloc, name.as_str())?)?;
+    }
+    Ok(set)
 }

@@ -14,9 +14,11 @@ mod job_list;
 mod jobs;
 mod laws;
 mod limits;
+mod name_filter;
 mod name_set;
 mod names;
 mod parts;
+mod path;
 mod pattern_table;
 mod patterns;
 mod pipelines;
@@ -40,6 +42,7 @@ pub use laws::{look_ups_are_of_the_document, one_document_selects_alike};
 pub use limits::{
     MAX_CONNECTIONS, MAX_ENTRIES, MAX_GENERATIONS, MAX_PIPELINES, MAX_RULES, MAX_TENANTS,
 };
+pub use path::{Path, Step};
 pub use read::read_config;
 pub use read_all::read_generations;
 pub use text::check_text;

@@ -5,12 +5,13 @@ ghost use Rattle.gate_record.specs.Json.{items_in};
 ghost use Rattle.gate_config.specs.Inner.Found.{key_view};
 ghost use Rattle.gate_config.specs.Faults.{Asks};
 ghost use Rattle.gate_config.specs.Inner.Faults.{Reads, Tests};
+ghost use Rattle.gate_config.specs.Inner.Steps.{steps_of};
 ghost use Rattle.gate_config.specs.Parts.{is_flag, is_object, is_list, is_text, is_there, is_fine, keys_in, items_of, keys_of, unless_null, optional, optional_in, text_of_member};
 ghost use Rattle.gate_config.specs.Places.{below};
 ghost use Rattle.gate_config.specs.declared.fault.ConfigFault.TheVariants.{Shape};
 
 use crate::fault::ConfigFault;
-use crate::places::member_place;
+use crate::places::Place;
 use gate_record::{Memory, Text};
 use serde_json::{Map, Value};
 use std::alloc::Global;
@@ -88,22 +89,26 @@ fn keys_of_members(alloc: Global, members: &Map<String, Value>) -> Result<Vec<&S
 }
 
 // `Shape` at the place where the value is no object.
-pub(crate) fn check_object(alloc: Global, place: &str, value: &Value) -> Result<(), ConfigFault>
-    ensures { Tests (Asks (is_object (view value.now)) (Shape place.now) ∷ []) result }
+pub(crate) fn check_object(
+    alloc: Global,
+    place: &Place<'_>,
+    value: &Value,
+) -> Result<(), ConfigFault>
+    ensures { Tests (Asks (is_object (view value.now)) (Shape (steps_of place.now)) ∷ []) result }
 {
     if value.is_object() {
         return Ok(());
     }
-    Err(ConfigFault::Shape(Text::copy(alloc, place)?))
+    Err(ConfigFault::Shape(place.path(alloc)?))
 }
 
 // `Shape` at the place where there is a value that is no object.
 pub(crate) fn check_optional_object(
     alloc: Global,
-    place: &str,
+    place: &Place<'_>,
     value: Option<&Value>,
 ) -> Result<(), ConfigFault>
-    ensures { Tests (Asks (is_fine is_object (option_map (λ v. view v.now) value.entry)) (Shape place.now) ∷ [])
+    ensures { Tests (Asks (is_fine is_object (option_map (λ v. view v.now) value.entry)) (Shape (steps_of place.now)) ∷ [])
         result }
 {
     match value {
@@ -115,16 +120,16 @@ pub(crate) fn check_optional_object(
 // The items of an optional list. `Shape` at the place where there is a value that is no list.
 pub(crate) fn optional_list<'v>(
     alloc: Global,
-    place: &str,
+    place: &Place<'_>,
     value: Option<&'v Value>,
 ) -> Result<&'v [Value], ConfigFault>
-    ensures { Reads (Asks (is_fine is_list (option_map (λ v. view v.now) value.entry)) (Shape place.now) ∷ [])
+    ensures { Reads (Asks (is_fine is_list (option_map (λ v. view v.now) value.entry)) (Shape (steps_of place.now)) ∷ [])
         (λ items. map view items.now ≡ items_of (option_map (λ v. view v.now) value.entry)) result }
 {
     match value {
         Some(value) => match list(value) {
             Some(items) => Ok(items),
-            None => Err(ConfigFault::Shape(Text::copy(alloc, place)?)),
+            None => Err(ConfigFault::Shape(place.path(alloc)?)),
         },
         None => Ok(&[]),
     }
@@ -133,16 +138,16 @@ pub(crate) fn optional_list<'v>(
 // True or false, if it is there. `Shape` at the place where the value is another.
 pub(crate) fn optional_flag(
     alloc: Global,
-    place: &str,
+    place: &Place<'_>,
     value: Option<&Value>,
 ) -> Result<Option<bool>, ConfigFault>
-    ensures { Reads (Asks (is_fine is_flag (option_map (λ v. view v.now) value.entry)) (Shape place.now) ∷ [])
+    ensures { Reads (Asks (is_fine is_flag (option_map (λ v. view v.now) value.entry)) (Shape (steps_of place.now)) ∷ [])
         (λ flag. flag ≡ option_and_then as_bool (option_map (λ v. view v.now) value.entry)) result }
 {
     match value {
         Some(value) => match value.as_bool() {
             Some(flag) => Ok(Some(flag)),
-            None => Err(ConfigFault::Shape(Text::copy(alloc, place)?)),
+            None => Err(ConfigFault::Shape(place.path(alloc)?)),
         },
         None => Ok(None),
     }
@@ -151,48 +156,48 @@ pub(crate) fn optional_flag(
 // The text of a required member. `Shape` at its place where it is missing or no text.
 pub(crate) fn required_text<'v>(
     alloc: Global,
-    place: &str,
+    place: &Place<'_>,
     value: &'v Value,
     key: &str,
 ) -> Result<&'v str, ConfigFault>
-    ensures { Reads (Asks (is_there is_text (get key.now (view value.now))) (Shape (below place.now key.now)) ∷ [])
+    ensures { Reads (Asks (is_there is_text (get key.now (view value.now))) (Shape (below (steps_of place.now) key.now)) ∷ [])
         (λ text. text.now ≡ text_of_member key.now (view value.now)) result }
 {
     match value.get(key).and_then(Value::as_str) {
         Some(text) => Ok(text),
-        None => Err(ConfigFault::Shape(member_place(alloc, place, key)?)),
+        None => Err(ConfigFault::Shape(place.member(key).path(alloc)?)),
     }
 }
 
 // The items of a required list. `Shape` at its place where it is missing or no list.
 pub(crate) fn required_list<'v>(
     alloc: Global,
-    place: &str,
+    place: &Place<'_>,
     value: &'v Value,
     key: &str,
 ) -> Result<&'v [Value], ConfigFault>
-    ensures { Reads (Asks (is_there is_list (get key.now (view value.now))) (Shape (below place.now key.now)) ∷ [])
+    ensures { Reads (Asks (is_there is_list (get key.now (view value.now))) (Shape (below (steps_of place.now) key.now)) ∷ [])
         (λ items. map view items.now ≡ items_of (get key.now (view value.now))) result }
 {
     match value.get(key).and_then(list) {
         Some(items) => Ok(items),
-        None => Err(ConfigFault::Shape(member_place(alloc, place, key)?)),
+        None => Err(ConfigFault::Shape(place.member(key).path(alloc)?)),
     }
 }
 
 // A required object. `Shape` at its place where it is missing or no object.
 pub(crate) fn required_object<'v>(
     alloc: Global,
-    place: &str,
+    place: &Place<'_>,
     value: &'v Value,
     key: &str,
 ) -> Result<&'v Value, ConfigFault>
-    ensures { Reads (Asks (is_there is_object (get key.now (view value.now))) (Shape (below place.now key.now)) ∷ [])
+    ensures { Reads (Asks (is_there is_object (get key.now (view value.now))) (Shape (below (steps_of place.now) key.now)) ∷ [])
         (λ found. Some (view found.now) ≡ get key.now (view value.now)) result }
 {
     match value.get(key) {
         Some(found) if found.is_object() => Ok(found),
-        _ => Err(ConfigFault::Shape(member_place(alloc, place, key)?)),
+        _ => Err(ConfigFault::Shape(place.member(key).path(alloc)?)),
     }
 }
 

@@ -3,6 +3,7 @@ ghost use Rattle.serde_json.specs.View.{view};
 ghost use Rattle.gate_config.specs.Checks.{each, entry_checks, entry_checks_at, pattern_checks};
 ghost use Rattle.gate_config.specs.Document.{entry_in, pattern_texts};
 ghost use Rattle.gate_config.specs.Inner.Faults.{Reads};
+ghost use Rattle.gate_config.specs.Inner.Steps.{steps_of};
 ghost use Rattle.gate_config.specs.Texts.{texts_of_entry};
 
 use crate::entries::read_entry;
@@ -10,7 +11,7 @@ use crate::fault::ConfigFault;
 use crate::limits::MAX_ENTRIES;
 use crate::parts::list;
 use crate::pattern_table::PatternTable;
-use crate::places::item_place;
+use crate::places::Place;
 use gate_record::{Sequence, Text};
 use gate_rule::Entry;
 use serde_json::Value;
@@ -20,10 +21,10 @@ use std::alloc::Global;
 pub(crate) fn read_patterns(
     alloc: Global,
     table: &mut PatternTable,
-    place: &str,
+    place: &Place<'_>,
     value: Option<&Value>,
 ) -> Result<Sequence<Entry>, ConfigFault>
-    ensures { Reads (pattern_checks place.now (option_map (λ v. view v.now) value.entry))
+    ensures { Reads (pattern_checks (steps_of place.now) (option_map (λ v. view v.now) value.entry))
         (λ entries. map texts_of_entry entries ≡ pattern_texts (option_map (λ v. view v.now) value.entry)) result }
 {
     match value {
@@ -39,10 +40,10 @@ pub(crate) fn read_patterns(
 fn read_one(
     alloc: Global,
     table: &mut PatternTable,
-    place: &str,
+    place: &Place<'_>,
     value: &Value,
 ) -> Result<Sequence<Entry>, ConfigFault>
-    ensures { Reads (entry_checks_at place.now (view value.now))
+    ensures { Reads (entry_checks_at (steps_of place.now) (view value.now))
         (λ entries. map texts_of_entry entries ≡ entry_in (view value.now) ∷ []) result }
 {
     let entry = read_entry(alloc, table, place, value)?;
@@ -54,10 +55,10 @@ fn read_one(
 fn read_items(
     alloc: Global,
     table: &mut PatternTable,
-    place: &str,
+    place: &Place<'_>,
     items: &[Value],
 ) -> Result<Sequence<Entry>, ConfigFault>
-    ensures { Reads (each (entry_checks place.now) (map view items.now))
+    ensures { Reads (each (entry_checks (steps_of place.now)) (map view items.now))
         (λ entries. map texts_of_entry entries ≡ map entry_in (map view items.now)) result }
 {
     let mut entries = Vec::new(alloc);
@@ -72,15 +73,15 @@ fn read_items(
 fn read_item(
     alloc: Global,
     table: &mut PatternTable,
-    place: &str,
+    place: &Place<'_>,
     position: usize,
     item: &Value,
 ) -> Result<Entry, ConfigFault>
-    ensures { Reads (entry_checks place.now position (view item.now)) (λ entry. texts_of_entry entry ≡ entry_in (view item.now)) result }
+    ensures { Reads (entry_checks (steps_of place.now) position (view item.now)) (λ entry. texts_of_entry entry ≡ entry_in (view item.now)) result }
 {
     if position >= MAX_ENTRIES {
-        return Err(ConfigFault::Limit(Text::copy(alloc, place)?));
+        return Err(ConfigFault::Limit(place.path(alloc)?));
     }
-    let here = item_place(alloc, place, position)?;
-    read_entry(alloc, table, here.as_str(), item)
+    let here = place.item(position);
+    read_entry(alloc, table, &here, item)
 }

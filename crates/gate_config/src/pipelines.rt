@@ -7,6 +7,7 @@ ghost use Rattle.gate_config.specs.Document.{name_of, tenant_texts, pipeline_tex
 ghost use Rattle.gate_config.specs.Inner.Found.{found_view};
 ghost use Rattle.gate_config.specs.Faults.{Asks};
 ghost use Rattle.gate_config.specs.Inner.Faults.{Reads, Tests};
+ghost use Rattle.gate_config.specs.Inner.Steps.{steps_of};
 ghost use Rattle.gate_config.specs.Limits.{most_pipelines};
 ghost use Rattle.gate_config.specs.Lookups.{jobs_under};
 ghost use Rattle.gate_config.specs.Parts.{text_of_member};
@@ -21,7 +22,7 @@ use crate::jobs::Jobs;
 use crate::limits::MAX_PIPELINES;
 use crate::parts::{check_object, member, optional_list, required_text, text_at};
 use crate::pattern_table::PatternTable;
-use crate::places::{item_place, member_place};
+use crate::places::Place;
 use crate::rules::read_trigger;
 use crate::sources::read_sources;
 use crate::stanzas::read_stanzas;
@@ -60,9 +61,11 @@ fn read_tenant(
         (λ tenant. texts_of_tenant tenant ≡ tenant_texts (Some (view config.now)) connections.now (found_view entry.now)) result }
 {
     let name = tenant_name(entry.value);
-    let place = member_place(alloc, "config", name)?;
-    let items = optional_list(alloc, place.as_str(), member(config, name))?;
-    let (pipelines, jobs) = read_all_items(alloc, table, connections, place.as_str(), items)?;
+    let document = Place::Document;
+    let lists = document.member("config");
+    let place = lists.member(name);
+    let items = optional_list(alloc, &place, member(config, name))?;
+    let (pipelines, jobs) = read_all_items(alloc, table, connections, &place, items)?;
     Ok(TenantSpec {
         name: Text::copy(alloc, name)?,
         sources: read_sources(alloc, tenant_of(entry.value), connections)?,
@@ -76,10 +79,10 @@ fn read_all_items(
     alloc: Global,
     table: &mut PatternTable,
     connections: &[Text],
-    place: &str,
+    place: &Place<'_>,
     items: &[Value],
 ) -> Result<(Sequence<PipelineSpec>, Sequence<Jobs>), ConfigFault>
-    ensures { Reads (all_items_checks connections.now place.now (map view items.now))
+    ensures { Reads (all_items_checks connections.now (steps_of place.now) (map view items.now))
         (λ read. (map texts_of_pipeline read.0 ≡ map (pipeline_texts connections.now) (pipeline_items (map view items.now)))
         × (map jobs_under read.1 ≡ map (jobs_in (project_items (map view items.now))) (pipeline_names (map view items.now)))) result }
 {
@@ -93,10 +96,10 @@ fn read_items(
     alloc: Global,
     table: &mut PatternTable,
     connections: &[Text],
-    place: &str,
+    place: &Place<'_>,
     items: &[Value],
 ) -> Result<Sequence<PipelineSpec>, ConfigFault>
-    ensures { Reads (items_checks connections.now place.now (map view items.now))
+    ensures { Reads (items_checks connections.now (steps_of place.now) (map view items.now))
         (λ pipelines. map texts_of_pipeline pipelines ≡ map (pipeline_texts connections.now) (pipeline_items (map view items.now))) result }
 {
     check_each_item(alloc, place, items)?;
@@ -104,8 +107,8 @@ fn read_items(
     read_pipelines(alloc, table, connections, place, entries.as_slice())
 }
 
-fn check_each_item(alloc: Global, place: &str, items: &[Value]) -> Result<(), ConfigFault>
-    ensures { Tests (each (item_checks place.now) (map view items.now)) result }
+fn check_each_item(alloc: Global, place: &Place<'_>, items: &[Value]) -> Result<(), ConfigFault>
+    ensures { Tests (each (item_checks (steps_of place.now)) (map view items.now)) result }
 {
     for (position, item) in items.iter().enumerate() {
         check_item(alloc, place, position, item)?;
@@ -114,23 +117,28 @@ fn check_each_item(alloc: Global, place: &str, items: &[Value]) -> Result<(), Co
 }
 
 // `Shape` at an item that is no object.
-fn check_item(alloc: Global, place: &str, position: usize, item: &Value) -> Result<(), ConfigFault>
-    ensures { Tests (item_checks place.now position (view item.now)) result }
+fn check_item(
+    alloc: Global,
+    place: &Place<'_>,
+    position: usize,
+    item: &Value,
+) -> Result<(), ConfigFault>
+    ensures { Tests (item_checks (steps_of place.now) position (view item.now)) result }
 {
     if item.is_object() {
         return Ok(());
     }
-    Err(ConfigFault::Shape(item_place(alloc, place, position)?))
+    Err(ConfigFault::Shape(place.item(position).path(alloc)?))
 }
 
 fn read_pipelines(
     alloc: Global,
     table: &mut PatternTable,
     connections: &[Text],
-    place: &str,
+    place: &Place<'_>,
     entries: &[Found<'_>],
 ) -> Result<Sequence<PipelineSpec>, ConfigFault>
-    ensures { Reads (along (pipeline_checks connections.now place.now) (map found_view entries.now))
+    ensures { Reads (along (pipeline_checks connections.now (steps_of place.now)) (map found_view entries.now))
         (λ pipelines. map texts_of_pipeline pipelines ≡ map (pipeline_texts connections.now) (map found_view entries.now)) result }
 {
     let mut pipelines = Vec::new(alloc);
@@ -145,24 +153,16 @@ fn read_entry(
     alloc: Global,
     table: &mut PatternTable,
     connections: &[Text],
-    place: &str,
+    place: &Place<'_>,
     before: &[Found<'_>],
     entry: &Found<'_>,
 ) -> Result<PipelineSpec, ConfigFault>
-    ensures { Reads (pipeline_checks connections.now place.now (map found_view before.now) (found_view entry.now))
+    ensures { Reads (pipeline_checks connections.now (steps_of place.now) (map found_view before.now) (found_view entry.now))
         (λ pipeline. texts_of_pipeline pipeline ≡ pipeline_texts connections.now (found_view entry.now)) result }
 {
-    let item = item_place(alloc, place, entry.position)?;
-    let here = member_place(alloc, item.as_str(), "pipeline")?;
-    read_pipeline(
-        alloc,
-        table,
-        connections,
-        item.as_str(),
-        here.as_str(),
-        before,
-        entry.value,
-    )
+    let item = place.item(entry.position);
+    let here = item.member("pipeline");
+    read_pipeline(alloc, table, connections, &item, &here, before, entry.value)
 }
 
 // A pipeline in an item, behind those before it.
@@ -170,12 +170,12 @@ fn read_pipeline(
     alloc: Global,
     table: &mut PatternTable,
     connections: &[Text],
-    item: &str,
-    here: &str,
+    item: &Place<'_>,
+    here: &Place<'_>,
     before: &[Found<'_>],
     pipeline: &Value,
 ) -> Result<PipelineSpec, ConfigFault>
-    ensures { Reads (pipeline_checks_at connections.now item.now here.now (map found_view before.now) (view pipeline.now))
+    ensures { Reads (pipeline_checks_at connections.now (steps_of item.now) (steps_of here.now) (map found_view before.now) (view pipeline.now))
         (λ read. texts_of_pipeline read ≡ pipeline_texts connections.now (0, view pipeline.now)) result }
 {
     check_object(alloc, here, pipeline)?;
@@ -192,11 +192,16 @@ fn read_pipeline(
 }
 
 // `Repeated` at a name that an earlier pipeline has.
-fn check_new(alloc: Global, before: &[Found<'_>], here: &str, name: &str) -> Result<(), ConfigFault>
-    ensures { Tests (Asks (not (is_named (map found_view before.now) name.now)) (Repeated (below here.now (codes "name"))) ∷ []) result }
+fn check_new(
+    alloc: Global,
+    before: &[Found<'_>],
+    here: &Place<'_>,
+    name: &str,
+) -> Result<(), ConfigFault>
+    ensures { Tests (Asks (not (is_named (map found_view before.now) name.now)) (Repeated (below (steps_of here.now) (codes "name"))) ∷ []) result }
 {
     if is_named(before, name) {
-        return Err(ConfigFault::Repeated(member_place(alloc, here, "name")?));
+        return Err(ConfigFault::Repeated(here.member("name").path(alloc)?));
     }
     Ok(())
 }
@@ -210,24 +215,28 @@ fn is_named(before: &[Found<'_>], name: &str) -> bool
 }
 
 // `Limit` at the item of a pipeline that is one too many.
-fn check_room(alloc: Global, before: &[Found<'_>], item: &str) -> Result<(), ConfigFault>
-    ensures { Tests (Asks (nat_lt (length (map found_view before.now)) most_pipelines) (Limit item.now) ∷ []) result }
+fn check_room(alloc: Global, before: &[Found<'_>], item: &Place<'_>) -> Result<(), ConfigFault>
+    ensures { Tests (Asks (nat_lt (length (map found_view before.now)) most_pipelines) (Limit (steps_of item.now)) ∷ []) result }
 {
     if before.len() >= MAX_PIPELINES {
-        return Err(ConfigFault::Limit(Text::copy(alloc, item)?));
+        return Err(ConfigFault::Limit(item.path(alloc)?));
     }
     Ok(())
 }
 
 // The manager of a pipeline.
-fn read_manager(alloc: Global, here: &str, pipeline: &Value) -> Result<ManagerKind, ConfigFault>
-    ensures { Reads (manager_checks here.now (view pipeline.now))
+fn read_manager(
+    alloc: Global,
+    here: &Place<'_>,
+    pipeline: &Value,
+) -> Result<ManagerKind, ConfigFault>
+    ensures { Reads (manager_checks (steps_of here.now) (view pipeline.now))
         (λ manager. Some manager ≡ manager_named (text_of_member (codes "manager") (view pipeline.now))) result }
 {
     let text = required_text(alloc, here, pipeline, "manager")?;
     match manager_of(text) {
         Some(manager) => Ok(manager),
-        None => Err(ConfigFault::Manager(member_place(alloc, here, "manager")?)),
+        None => Err(ConfigFault::Manager(here.member("manager").path(alloc)?)),
     }
 }
 

@@ -1,25 +1,54 @@
-ghost use Rattle.std.specs.Prelude.{◌≡◌, IfOk};
+ghost use Rattle.std.specs.Prelude.{◌≡◌, ◌++◌, IfOk, OnOk};
+ghost use Rattle.gate_config.specs.Inner.Steps.{steps_of};
 ghost use Rattle.gate_config.specs.Places.{below, nth};
 
-use gate_record::{Memory, Text};
+use crate::path::{Path, Step};
+use gate_record::{Memory, Sequence, Text};
 use std::alloc::Global;
 
-// The place of the member of this key.
-pub(crate) fn member_place(alloc: Global, place: &str, key: &str) -> Result<Text, Memory>
-    ensures { IfOk result (λ text. text ≡ below place.now key.now) }
-{
-    if place.is_empty() {
-        return Text::copy(alloc, key);
-    }
-    let mut text = String::from_str(alloc, place)?;
-    text.push_str(".")?;
-    text.push_str(key)?;
-    Ok(Text::new(text))
+// Where in a document something stands, while it is read: one step behind a place, so that no place takes memory.
+#[derive(Clone, Copy)]
+pub(crate) enum Place<'p> {
+    Document,
+    Member(&'p Place<'p>, &'p str),
+    Item(&'p Place<'p>, usize),
 }
 
-// The place of the item at this position.
-pub(crate) fn item_place(alloc: Global, place: &str, position: usize) -> Result<Text, Memory>
-    ensures { IfOk result (λ text. text ≡ nth place.now position) }
+impl<'p> Place<'p> {
+    pub(crate) fn member(&'p self, key: &'p str) -> Place<'p>
+        ensures { steps_of result ≡ below (steps_of self.now) key.now }
+    {
+        Place::Member(self, key)
+    }
+
+    pub(crate) fn item(&'p self, position: usize) -> Place<'p>
+        ensures { steps_of result ≡ nth (steps_of self.now) position }
+    {
+        Place::Item(self, position)
+    }
+
+    // Its path, for a fault.
+    pub(crate) fn path(&self, alloc: Global) -> Result<Path, Memory>
+        ensures { IfOk result (λ path. path ≡ steps_of self.now) }
+    {
+        let mut steps = Sequence::empty(alloc);
+        push_steps(&mut steps, alloc, self)?;
+        Ok(Path::new(steps))
+    }
+}
+
+fn push_steps(steps: &mut Sequence<Step>, alloc: Global, place: &Place<'_>) -> Result<(), Memory>
+    ensures { OnOk result (steps.new ≡ steps.old ++ steps_of place.now) }
 {
-    Ok(Text::new(format!(in alloc; "{place}[{position}]")?))
+    match place {
+        Place::Document => Ok(()),
+        Place::Member(up, key) => {
+            push_steps(steps, alloc, up)?;
+            Ok(steps.push(Step::Member(Text::copy(alloc, key)?))?)
+        }
+        Place::Item(up, position) => {
+            push_steps(steps, alloc, up)?;
+            Ok(steps.push(Step::Item(*position))?)
+        }
+    }
 }

@@ -8,6 +8,7 @@ ghost use Rattle.gate_config.specs.Inner.Found.{found_view};
 ghost use Rattle.gate_config.specs.Faults.{AllPass, Asks, IsFaultOf};
 ghost use Rattle.gate_config.specs.Inner.Faults.{Reads, Tests};
 ghost use Rattle.gate_config.specs.Limits.{most_tenants};
+ghost use Rattle.gate_config.specs.Places.{below, whole};
 ghost use Rattle.gate_config.specs.Texts.{IsReadFrom, texts_of_tenant};
 ghost use Rattle.gate_config.specs.declared.fault.ConfigFault.TheVariants.{Limit};
 
@@ -18,8 +19,8 @@ use crate::limits::MAX_TENANTS;
 use crate::parts::{check_object, required_list, required_object};
 use crate::pattern_table::PatternTable;
 use crate::pipelines::read_tenants;
+use crate::places::Place;
 use crate::tenants::check_tenants;
-use gate_record::Text;
 use serde_json::Value;
 use serde_json::error::Category;
 use std::alloc::Global;
@@ -68,9 +69,10 @@ fn read_document(
         (λ read. (read.connections ≡ connection_names (view document.now))
         × (map texts_of_tenant read.tenants ≡ tenants_in (view document.now))) result }
 {
-    check_object(alloc, "", document)?;
-    let items = required_list(alloc, "", document, "tenants")?;
-    let config = required_object(alloc, "", document, "config")?;
+    let place = Place::Document;
+    check_object(alloc, &place, document)?;
+    let items = required_list(alloc, &place, document, "tenants")?;
+    let config = required_object(alloc, &place, document, "config")?;
     let entries = tenant_entries(alloc, items)?;
     read_entries(alloc, table, config, entries.as_slice())
 }
@@ -98,10 +100,11 @@ fn read_entries(
 
 // `Limit` where there are too many tenants.
 fn check_count(alloc: Global, entries: &[Found<'_>]) -> Result<(), ConfigFault>
-    ensures { Tests (Asks (nat_le (length (map found_view entries.now)) most_tenants) (Limit (codes "tenants")) ∷ []) result }
+    ensures { Tests (Asks (nat_le (length (map found_view entries.now)) most_tenants) (Limit (below whole (codes "tenants"))) ∷ []) result }
 {
     if entries.len() > MAX_TENANTS {
-        return Err(ConfigFault::Limit(Text::copy(alloc, "tenants")?));
+        let document = Place::Document;
+        return Err(ConfigFault::Limit(document.member("tenants").path(alloc)?));
     }
     Ok(())
 }

@@ -11,9 +11,10 @@ use crate::fault::ConfigFault;
 use crate::generation_fault::GenerationFault;
 use crate::generations::Generations;
 use crate::limits::MAX_GENERATIONS;
+use crate::path::Path;
 use crate::pattern_table::PatternTable;
 use crate::read::read_sharing;
-use gate_record::{Sequence, Text};
+use gate_record::Sequence;
 use std::alloc::Global;
 
 /// Reads the generations of a configuration from the bytes of their documents, each as `read_config` reads it. A later document
@@ -115,7 +116,7 @@ fn read_alike(
     if are_alike(first, &config) {
         return Ok(config);
     }
-    Err(ConfigFault::Shape(Text::new(String::new(alloc))))
+    Err(ConfigFault::Shape(Path::new(Sequence::empty(alloc))))
 }
 
 // The fault of the document of this number. Want of memory is of none.

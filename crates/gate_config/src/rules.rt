@@ -7,6 +7,7 @@ ghost use Rattle.gate_config.specs.Document.{flag, rule_texts, rules_at, rules_u
 ghost use Rattle.gate_config.specs.Inner.Found.{key_view};
 ghost use Rattle.gate_config.specs.Faults.{Asks};
 ghost use Rattle.gate_config.specs.Inner.Faults.{Reads, Tests};
+ghost use Rattle.gate_config.specs.Inner.Steps.{steps_of};
 ghost use Rattle.gate_config.specs.Parts.{is_there, keys_of, optional};
 ghost use Rattle.gate_config.specs.Places.{below};
 ghost use Rattle.gate_config.specs.Texts.{texts_of_rule};
@@ -20,7 +21,7 @@ use crate::parts::{
 };
 use crate::pattern_table::PatternTable;
 use crate::patterns::read_patterns;
-use crate::places::{item_place, member_place};
+use crate::places::Place;
 use gate_record::{Sequence, Text};
 use gate_rule::Rule;
 use serde_json::Value;
@@ -31,26 +32,26 @@ pub(crate) fn read_trigger(
     alloc: Global,
     table: &mut PatternTable,
     connections: &[Text],
-    here: &str,
+    here: &Place<'_>,
     pipeline: &Value,
 ) -> Result<Sequence<Sequence<Rule>>, ConfigFault>
-    ensures { Reads (trigger_checks connections.now here.now (view pipeline.now))
+    ensures { Reads (trigger_checks connections.now (steps_of here.now) (view pipeline.now))
         (λ rules. map (map texts_of_rule) rules ≡ map (rules_under (optional (codes "trigger") (view pipeline.now))) connections.now) result }
 {
-    let place = member_place(alloc, here, "trigger")?;
+    let place = here.member("trigger");
     let trigger = member(pipeline, "trigger");
-    check_optional_object(alloc, place.as_str(), trigger)?;
-    read_connections(alloc, table, connections, place.as_str(), trigger)
+    check_optional_object(alloc, &place, trigger)?;
+    read_connections(alloc, table, connections, &place, trigger)
 }
 
 fn read_connections(
     alloc: Global,
     table: &mut PatternTable,
     connections: &[Text],
-    place: &str,
+    place: &Place<'_>,
     trigger: Option<&Value>,
 ) -> Result<Sequence<Sequence<Rule>>, ConfigFault>
-    ensures { Reads (flat_map (connection_checks place.now (option_map (λ v. view v.now) trigger.entry)) connections.now)
+    ensures { Reads (flat_map (connection_checks (steps_of place.now) (option_map (λ v. view v.now) trigger.entry)) connections.now)
         (λ rules. map (map texts_of_rule) rules ≡ map (rules_under (option_map (λ v. view v.now) trigger.entry)) connections.now) result }
 {
     let mut rules = Vec::new(alloc);
@@ -65,25 +66,25 @@ fn read_connections(
 fn read_connection(
     alloc: Global,
     table: &mut PatternTable,
-    place: &str,
+    place: &Place<'_>,
     trigger: Option<&Value>,
     connection: &str,
 ) -> Result<Sequence<Rule>, ConfigFault>
-    ensures { Reads (connection_checks place.now (option_map (λ v. view v.now) trigger.entry) connection.now)
+    ensures { Reads (connection_checks (steps_of place.now) (option_map (λ v. view v.now) trigger.entry) connection.now)
         (λ rules. map texts_of_rule rules ≡ rules_under (option_map (λ v. view v.now) trigger.entry) connection.now) result }
 {
-    let here = member_place(alloc, place, connection)?;
-    read_value(alloc, table, here.as_str(), member_of(trigger, connection))
+    let here = place.member(connection);
+    read_value(alloc, table, &here, member_of(trigger, connection))
 }
 
 // A list of rules or one rule, if it is there.
 fn read_value(
     alloc: Global,
     table: &mut PatternTable,
-    here: &str,
+    here: &Place<'_>,
     value: Option<&Value>,
 ) -> Result<Sequence<Rule>, ConfigFault>
-    ensures { Reads (rules_checks here.now (option_map (λ v. view v.now) value.entry))
+    ensures { Reads (rules_checks (steps_of here.now) (option_map (λ v. view v.now) value.entry))
         (λ rules. map texts_of_rule rules ≡ rules_at (option_map (λ v. view v.now) value.entry)) result }
 {
     match value {
@@ -99,10 +100,10 @@ fn read_value(
 fn read_lone(
     alloc: Global,
     table: &mut PatternTable,
-    here: &str,
+    here: &Place<'_>,
     value: &Value,
 ) -> Result<Sequence<Rule>, ConfigFault>
-    ensures { Reads (rule_checks_at here.now (view value.now))
+    ensures { Reads (rule_checks_at (steps_of here.now) (view value.now))
         (λ rules. map texts_of_rule rules ≡ rule_texts (view value.now) ∷ []) result }
 {
     let rule = read_rule(alloc, table, here, value)?;
@@ -115,14 +116,14 @@ fn read_lone(
 fn read_rules(
     alloc: Global,
     table: &mut PatternTable,
-    here: &str,
+    here: &Place<'_>,
     items: &[Value],
 ) -> Result<Sequence<Rule>, ConfigFault>
-    ensures { Reads (rule_list_checks here.now (map view items.now))
+    ensures { Reads (rule_list_checks (steps_of here.now) (map view items.now))
         (λ rules. map texts_of_rule rules ≡ map rule_texts (map view items.now)) result }
 {
     if items.len() > MAX_RULES {
-        return Err(ConfigFault::Limit(Text::copy(alloc, here)?));
+        return Err(ConfigFault::Limit(here.path(alloc)?));
     }
     read_items(alloc, table, here, items)
 }
@@ -130,10 +131,10 @@ fn read_rules(
 fn read_items(
     alloc: Global,
     table: &mut PatternTable,
-    place: &str,
+    place: &Place<'_>,
     items: &[Value],
 ) -> Result<Sequence<Rule>, ConfigFault>
-    ensures { Reads (each (rule_checks place.now) (map view items.now))
+    ensures { Reads (each (rule_checks (steps_of place.now)) (map view items.now))
         (λ rules. map texts_of_rule rules ≡ map rule_texts (map view items.now)) result }
 {
     let mut rules = Vec::new(alloc);
@@ -148,24 +149,24 @@ fn read_items(
 fn read_item(
     alloc: Global,
     table: &mut PatternTable,
-    place: &str,
+    place: &Place<'_>,
     position: usize,
     item: &Value,
 ) -> Result<Rule, ConfigFault>
-    ensures { Reads (rule_checks place.now position (view item.now)) (λ rule. texts_of_rule rule ≡ rule_texts (view item.now)) result }
+    ensures { Reads (rule_checks (steps_of place.now) position (view item.now)) (λ rule. texts_of_rule rule ≡ rule_texts (view item.now)) result }
 {
-    let here = item_place(alloc, place, position)?;
-    read_rule(alloc, table, here.as_str(), item)
+    let here = place.item(position);
+    read_rule(alloc, table, &here, item)
 }
 
 // A rule: an object of attributes, of which `event` is required.
 fn read_rule(
     alloc: Global,
     table: &mut PatternTable,
-    here: &str,
+    here: &Place<'_>,
     rule: &Value,
 ) -> Result<Rule, ConfigFault>
-    ensures { Reads (rule_checks_at here.now (view rule.now)) (λ read. texts_of_rule read ≡ rule_texts (view rule.now)) result }
+    ensures { Reads (rule_checks_at (steps_of here.now) (view rule.now)) (λ read. texts_of_rule read ≡ rule_texts (view rule.now)) result }
 {
     check_object(alloc, here, rule)?;
     let keys = keys(alloc, Some(rule))?;
@@ -178,12 +179,12 @@ fn read_rule(
 fn read_attributes(
     alloc: Global,
     table: &mut PatternTable,
-    here: &str,
+    here: &Place<'_>,
     rule: &Value,
     keys: &[&String],
 ) -> Result<Rule, ConfigFault>
     requires { map key_view keys.now ≡ keys_of (Some (view rule.now)) }
-    ensures { Reads (flat_map (attribute_checks here.now (view rule.now)) (map key_view keys.now))
+    ensures { Reads (flat_map (attribute_checks (steps_of here.now) (view rule.now)) (map key_view keys.now))
         (λ read. texts_of_rule read ≡ rule_texts (view rule.now)) result }
 {
     let mut read = unlisted(alloc);
@@ -213,46 +214,46 @@ fn unlisted(alloc: Global) -> Rule
 fn read_attribute(
     alloc: Global,
     table: &mut PatternTable,
-    here: &str,
+    here: &Place<'_>,
     rule: &Value,
     key: &str,
     read: &mut Rule,
 ) -> Result<(), ConfigFault>
-    ensures { Reads (attribute_checks here.now (view rule.now) key.now)
+    ensures { Reads (attribute_checks (steps_of here.now) (view rule.now) key.now)
         (λ _. texts_of_rule read.new ≡ with_attribute key.now (optional key.now (view rule.now)) (texts_of_rule read.old)) result }
 {
-    let place = member_place(alloc, here, key)?;
+    let place = here.member(key);
     let value = member(rule, key);
     match key {
-        "event" => read.event = read_patterns(alloc, table, place.as_str(), value)?,
-        "branch" => read.branch = read_patterns(alloc, table, place.as_str(), value)?,
-        "ref" => read.refname = read_patterns(alloc, table, place.as_str(), value)?,
-        "username" => read.username = read_patterns(alloc, table, place.as_str(), value)?,
-        "email" => read.email = read_patterns(alloc, table, place.as_str(), value)?,
-        "comment" => read.comment = read_patterns(alloc, table, place.as_str(), value)?,
-        "approval" => read.approval = read_approvals(alloc, place.as_str(), value)?,
-        "ignore-deletes" => read.ignore_deletes = read_flag(alloc, place.as_str(), value)?,
-        _ => return Err(ConfigFault::Attribute(place)),
+        "event" => read.event = read_patterns(alloc, table, &place, value)?,
+        "branch" => read.branch = read_patterns(alloc, table, &place, value)?,
+        "ref" => read.refname = read_patterns(alloc, table, &place, value)?,
+        "username" => read.username = read_patterns(alloc, table, &place, value)?,
+        "email" => read.email = read_patterns(alloc, table, &place, value)?,
+        "comment" => read.comment = read_patterns(alloc, table, &place, value)?,
+        "approval" => read.approval = read_approvals(alloc, &place, value)?,
+        "ignore-deletes" => read.ignore_deletes = read_flag(alloc, &place, value)?,
+        _ => return Err(ConfigFault::Attribute(place.path(alloc)?)),
     }
     Ok(())
 }
 
 // True or false; true where it isn't there.
-fn read_flag(alloc: Global, place: &str, value: Option<&Value>) -> Result<bool, ConfigFault>
-    ensures { Reads (flag_checks place.now (option_map (λ v. view v.now) value.entry))
+fn read_flag(alloc: Global, place: &Place<'_>, value: Option<&Value>) -> Result<bool, ConfigFault>
+    ensures { Reads (flag_checks (steps_of place.now) (option_map (λ v. view v.now) value.entry))
         (λ read. read ≡ flag (option_map (λ v. view v.now) value.entry)) result }
 {
     Ok(optional_flag(alloc, place, value)?.unwrap_or(true))
 }
 
 // `Shape` at an `event` that is missing, null or an empty list.
-fn check_listed(alloc: Global, here: &str, rule: &Value) -> Result<(), ConfigFault>
-    ensures { Tests (Asks (is_there is_asking (optional (codes "event") (view rule.now))) (Shape (below here.now (codes "event"))) ∷ []) result }
+fn check_listed(alloc: Global, here: &Place<'_>, rule: &Value) -> Result<(), ConfigFault>
+    ensures { Tests (Asks (is_there is_asking (optional (codes "event") (view rule.now))) (Shape (below (steps_of here.now) (codes "event"))) ∷ []) result }
 {
     if is_listed(member(rule, "event")) {
         return Ok(());
     }
-    Err(ConfigFault::Shape(member_place(alloc, here, "event")?))
+    Err(ConfigFault::Shape(here.member("event").path(alloc)?))
 }
 
 fn is_listed(value: Option<&Value>) -> bool

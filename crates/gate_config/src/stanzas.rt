@@ -8,6 +8,7 @@ ghost use Rattle.gate_config.specs.Inner.Faults.{Reads, Tests};
 ghost use Rattle.gate_config.specs.Inner.Jobs.{with_jobs};
 ghost use Rattle.gate_config.specs.Lookups.{jobs_under};
 ghost use Rattle.gate_config.specs.Inner.Lookups.{names_of};
+ghost use Rattle.gate_config.specs.Inner.Steps.{steps_of};
 
 use crate::config::PipelineSpec;
 use crate::document::{Found, entries_at};
@@ -15,7 +16,7 @@ use crate::fault::ConfigFault;
 use crate::jobs::Jobs;
 use crate::names::name_in;
 use crate::parts::{check_object, check_optional_object, items, member, member_of, optional_list};
-use crate::places::{item_place, member_place};
+use crate::places::Place;
 use gate_record::{Memory, Sequence};
 use serde_json::Value;
 use std::alloc::Global;
@@ -24,10 +25,10 @@ use std::alloc::Global;
 pub(crate) fn read_stanzas(
     alloc: Global,
     pipelines: &[PipelineSpec],
-    place: &str,
+    place: &Place<'_>,
     items: &[Value],
 ) -> Result<Sequence<Jobs>, ConfigFault>
-    ensures { Reads (flat_map (stanza_checks (names_of pipelines.now) place.now) (project_items (map view items.now)))
+    ensures { Reads (flat_map (stanza_checks (names_of pipelines.now) (steps_of place.now)) (project_items (map view items.now)))
         (λ jobs. map jobs_under jobs ≡ map (jobs_in (project_items (map view items.now))) (names_of pipelines.now)) result }
 {
     let entries = entries_at(alloc, items, "project")?;
@@ -39,10 +40,10 @@ pub(crate) fn read_stanzas(
 fn check_stanzas(
     alloc: Global,
     pipelines: &[PipelineSpec],
-    place: &str,
+    place: &Place<'_>,
     entries: &[Found<'_>],
 ) -> Result<(), ConfigFault>
-    ensures { Tests (flat_map (stanza_checks (names_of pipelines.now) place.now) (map found_view entries.now)) result }
+    ensures { Tests (flat_map (stanza_checks (names_of pipelines.now) (steps_of place.now)) (map found_view entries.now)) result }
 {
     for entry in entries {
         check_entry(alloc, pipelines, place, entry)?;
@@ -53,24 +54,24 @@ fn check_stanzas(
 fn check_entry(
     alloc: Global,
     pipelines: &[PipelineSpec],
-    place: &str,
+    place: &Place<'_>,
     entry: &Found<'_>,
 ) -> Result<(), ConfigFault>
-    ensures { Tests (stanza_checks (names_of pipelines.now) place.now (found_view entry.now)) result }
+    ensures { Tests (stanza_checks (names_of pipelines.now) (steps_of place.now) (found_view entry.now)) result }
 {
-    let item = item_place(alloc, place, entry.position)?;
-    let here = member_place(alloc, item.as_str(), "project")?;
-    check_stanza(alloc, pipelines, here.as_str(), entry.value)
+    let item = place.item(entry.position);
+    let here = item.member("project");
+    check_stanza(alloc, pipelines, &here, entry.value)
 }
 
 // A project item: an object. What it has for the pipelines is looked into where it is of a project.
 fn check_stanza(
     alloc: Global,
     pipelines: &[PipelineSpec],
-    here: &str,
+    here: &Place<'_>,
     stanza: &Value,
 ) -> Result<(), ConfigFault>
-    ensures { Tests (stanza_checks_at (names_of pipelines.now) here.now (view stanza.now)) result }
+    ensures { Tests (stanza_checks_at (names_of pipelines.now) (steps_of here.now) (view stanza.now)) result }
 {
     check_object(alloc, here, stanza)?;
     check_parts(alloc, pipelines, here, stanza)
@@ -79,10 +80,10 @@ fn check_stanza(
 fn check_parts(
     alloc: Global,
     pipelines: &[PipelineSpec],
-    here: &str,
+    here: &Place<'_>,
     stanza: &Value,
 ) -> Result<(), ConfigFault>
-    ensures { Tests (parts_checks (names_of pipelines.now) here.now (view stanza.now)) result }
+    ensures { Tests (parts_checks (names_of pipelines.now) (steps_of here.now) (view stanza.now)) result }
 {
     match project_of(stanza) {
         Some(_) => check_each_part(alloc, pipelines, here, stanza),
@@ -93,10 +94,10 @@ fn check_parts(
 fn check_each_part(
     alloc: Global,
     pipelines: &[PipelineSpec],
-    here: &str,
+    here: &Place<'_>,
     stanza: &Value,
 ) -> Result<(), ConfigFault>
-    ensures { Tests (flat_map (part_checks here.now (view stanza.now)) (names_of pipelines.now)) result }
+    ensures { Tests (flat_map (part_checks (steps_of here.now) (view stanza.now)) (names_of pipelines.now)) result }
 {
     for pipeline in pipelines {
         check_part(alloc, pipeline.name.as_str(), here, stanza)?;
@@ -105,26 +106,31 @@ fn check_each_part(
 }
 
 // What a stanza has for a pipeline: an object with a list of jobs, both optional.
-fn check_part(alloc: Global, pipeline: &str, here: &str, stanza: &Value) -> Result<(), ConfigFault>
-    ensures { Tests (part_checks here.now (view stanza.now) pipeline.now) result }
+fn check_part(
+    alloc: Global,
+    pipeline: &str,
+    here: &Place<'_>,
+    stanza: &Value,
+) -> Result<(), ConfigFault>
+    ensures { Tests (part_checks (steps_of here.now) (view stanza.now) pipeline.now) result }
 {
-    let place = member_place(alloc, here, pipeline)?;
+    let place = here.member(pipeline);
     let part = member(stanza, pipeline);
-    check_optional_object(alloc, place.as_str(), part)?;
-    let list = member_place(alloc, place.as_str(), "jobs")?;
-    check_jobs(alloc, list.as_str(), member_of(part, "jobs"))
+    check_optional_object(alloc, &place, part)?;
+    let list = place.member("jobs");
+    check_jobs(alloc, &list, member_of(part, "jobs"))
 }
 
 // A list of jobs, if it is there.
-fn check_jobs(alloc: Global, place: &str, jobs: Option<&Value>) -> Result<(), ConfigFault>
-    ensures { Tests (jobs_checks place.now (option_map (λ v. view v.now) jobs.entry)) result }
+fn check_jobs(alloc: Global, place: &Place<'_>, jobs: Option<&Value>) -> Result<(), ConfigFault>
+    ensures { Tests (jobs_checks (steps_of place.now) (option_map (λ v. view v.now) jobs.entry)) result }
 {
     let jobs = optional_list(alloc, place, jobs)?;
     check_each_job(alloc, place, jobs)
 }
 
-fn check_each_job(alloc: Global, place: &str, jobs: &[Value]) -> Result<(), ConfigFault>
-    ensures { Tests (each (job_checks place.now) (map view jobs.now)) result }
+fn check_each_job(alloc: Global, place: &Place<'_>, jobs: &[Value]) -> Result<(), ConfigFault>
+    ensures { Tests (each (job_checks (steps_of place.now)) (map view jobs.now)) result }
 {
     for (position, job) in jobs.iter().enumerate() {
         check_job(alloc, place, position, job)?;
@@ -133,13 +139,18 @@ fn check_each_job(alloc: Global, place: &str, jobs: &[Value]) -> Result<(), Conf
 }
 
 // `Shape` at a job that has no name.
-fn check_job(alloc: Global, place: &str, position: usize, job: &Value) -> Result<(), ConfigFault>
-    ensures { Tests (job_checks place.now position (view job.now)) result }
+fn check_job(
+    alloc: Global,
+    place: &Place<'_>,
+    position: usize,
+    job: &Value,
+) -> Result<(), ConfigFault>
+    ensures { Tests (job_checks (steps_of place.now) position (view job.now)) result }
 {
     if name_in(job).is_some() {
         return Ok(());
     }
-    Err(ConfigFault::Shape(item_place(alloc, place, position)?))
+    Err(ConfigFault::Shape(place.item(position).path(alloc)?))
 }
 
 // The project that a stanza is of; one without such a name is ignored.

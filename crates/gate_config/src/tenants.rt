@@ -7,6 +7,7 @@ ghost use Rattle.gate_config.specs.Document.{names_in, sources_of, tenant_name, 
 ghost use Rattle.gate_config.specs.Inner.Found.{found_view, key_view};
 ghost use Rattle.gate_config.specs.Faults.{Asks};
 ghost use Rattle.gate_config.specs.Inner.Faults.{Reads, Tests};
+ghost use Rattle.gate_config.specs.Inner.Steps.{steps_of};
 ghost use Rattle.gate_config.specs.Names.{with_name, with_names};
 ghost use Rattle.gate_config.specs.Parts.{is_fine, is_object, optional};
 ghost use Rattle.gate_config.specs.Places.{below};
@@ -20,9 +21,8 @@ use crate::parts::{
     check_object, check_optional_object, keys, member, member_of, optional_list, required_text,
     text_at,
 };
-use crate::places::{item_place, member_place};
+use crate::places::Place;
 use crate::projects::is_entry;
-use gate_record::{Memory, Text};
 use serde_json::Value;
 use std::alloc::Global;
 
@@ -48,27 +48,29 @@ fn check_entry(
     ensures { Reads (tenant_checks (map found_view before.now) (found_view entry.now))
         (λ _. names.new ≡ with_names names.old (sources_of (tenant_of (found_view entry.now).1))) result }
 {
-    let here = item_place(alloc, "tenants", entry.position)?;
-    check_wrapper(alloc, here.as_str(), entry.value)?;
-    let place = tenant_place(alloc, here.as_str(), entry.value)?;
-    check_tenant(alloc, before, place.as_str(), tenant_of(entry.value), names)
+    let document = Place::Document;
+    let tenants = document.member("tenants");
+    let here = tenants.item(entry.position);
+    check_wrapper(alloc, &here, entry.value)?;
+    let place = tenant_place(&here, entry.value);
+    check_tenant(alloc, before, &place, tenant_of(entry.value), names)
 }
 
 // `Shape` at an entry that is no object, or whose `tenant` is none.
-fn check_wrapper(alloc: Global, here: &str, entry: &Value) -> Result<(), ConfigFault>
-    ensures { Tests (Asks (is_object (view entry.now)) (Shape here.now) ∷ Asks (is_fine is_object (optional (codes "tenant") (view entry.now))) (Shape here.now) ∷ []) result }
+fn check_wrapper(alloc: Global, here: &Place<'_>, entry: &Value) -> Result<(), ConfigFault>
+    ensures { Tests (Asks (is_object (view entry.now)) (Shape (steps_of here.now)) ∷ Asks (is_fine is_object (optional (codes "tenant") (view entry.now))) (Shape (steps_of here.now)) ∷ []) result }
 {
     check_object(alloc, here, entry)?;
     check_optional_object(alloc, here, member(entry, "tenant"))
 }
 
 // The place of the tenant of an entry.
-fn tenant_place(alloc: Global, here: &str, entry: &Value) -> Result<Text, Memory>
-    ensures { IfOk result (λ place. place ≡ tenant_place here.now (view entry.now)) }
+fn tenant_place<'p>(here: &'p Place<'p>, entry: &Value) -> Place<'p>
+    ensures { steps_of result ≡ tenant_place (steps_of here.now) (view entry.now) }
 {
     match member(entry, "tenant") {
-        Some(_) => member_place(alloc, here, "tenant"),
-        None => Text::copy(alloc, here),
+        Some(_) => here.member("tenant"),
+        None => *here,
     }
 }
 
@@ -76,12 +78,12 @@ fn tenant_place(alloc: Global, here: &str, entry: &Value) -> Result<Text, Memory
 fn check_tenant(
     alloc: Global,
     before: &[Found<'_>],
-    here: &str,
+    here: &Place<'_>,
     tenant: &Value,
     names: &mut NameSet,
 ) -> Result<(), ConfigFault>
     requires { names.old ≡ names_in (map found_view before.now) }
-    ensures { Reads (named_checks (map found_view before.now) here.now (view tenant.now))
+    ensures { Reads (named_checks (map found_view before.now) (steps_of here.now) (view tenant.now))
         (λ _. names.new ≡ with_names names.old (sources_of (view tenant.now))) result }
 {
     let name = required_text(alloc, here, tenant, "name")?;
@@ -90,11 +92,16 @@ fn check_tenant(
 }
 
 // `Repeated` at a name that an earlier tenant has.
-fn check_new(alloc: Global, before: &[Found<'_>], here: &str, name: &str) -> Result<(), ConfigFault>
-    ensures { Tests (Asks (not (is_taken (map found_view before.now) name.now)) (Repeated (below here.now (codes "name"))) ∷ []) result }
+fn check_new(
+    alloc: Global,
+    before: &[Found<'_>],
+    here: &Place<'_>,
+    name: &str,
+) -> Result<(), ConfigFault>
+    ensures { Tests (Asks (not (is_taken (map found_view before.now) name.now)) (Repeated (below (steps_of here.now) (codes "name"))) ∷ []) result }
 {
     if is_taken(before, name) {
-        return Err(ConfigFault::Repeated(member_place(alloc, here, "name")?));
+        return Err(ConfigFault::Repeated(here.member("name").path(alloc)?));
     }
     Ok(())
 }
@@ -115,27 +122,27 @@ pub(crate) fn tenant_name(entry: &Value) -> &str
 // The connections of a tenant, in byte order.
 fn check_sources(
     alloc: Global,
-    here: &str,
+    here: &Place<'_>,
     tenant: &Value,
     names: &mut NameSet,
 ) -> Result<(), ConfigFault>
-    ensures { Reads (sources_checks names.old here.now (view tenant.now)) (λ _. names.new ≡ with_names names.old (sources_of (view tenant.now))) result }
+    ensures { Reads (sources_checks names.old (steps_of here.now) (view tenant.now)) (λ _. names.new ≡ with_names names.old (sources_of (view tenant.now))) result }
 {
-    let place = member_place(alloc, here, "source")?;
+    let place = here.member("source");
     let sources = member(tenant, "source");
-    check_optional_object(alloc, place.as_str(), sources)?;
+    check_optional_object(alloc, &place, sources)?;
     let keys = keys(alloc, sources)?;
-    check_each_source(alloc, place.as_str(), sources, keys.as_slice(), names)
+    check_each_source(alloc, &place, sources, keys.as_slice(), names)
 }
 
 fn check_each_source(
     alloc: Global,
-    place: &str,
+    place: &Place<'_>,
     sources: Option<&Value>,
     keys: &[&String],
     names: &mut NameSet,
 ) -> Result<(), ConfigFault>
-    ensures { Reads (along (source_checks names.old place.now (option_map (λ v. view v.now) sources.entry)) (map key_view keys.now))
+    ensures { Reads (along (source_checks names.old (steps_of place.now) (option_map (λ v. view v.now) sources.entry)) (map key_view keys.now))
         (λ _. names.new ≡ with_names names.old (map key_view keys.now)) result }
 {
     for key in keys {
@@ -147,25 +154,25 @@ fn check_each_source(
 // A connection among the sources. `Limit` at its key where it is one too many.
 fn check_source(
     alloc: Global,
-    place: &str,
+    place: &Place<'_>,
     sources: Option<&Value>,
     key: &str,
     names: &mut NameSet,
 ) -> Result<(), ConfigFault>
-    ensures { Reads (source_checks names.old place.now (option_map (λ v. view v.now) sources.entry) [] key.now)
+    ensures { Reads (source_checks names.old (steps_of place.now) (option_map (λ v. view v.now) sources.entry) [] key.now)
         (λ _. names.new ≡ with_name key.now names.old) result }
 {
-    let here = member_place(alloc, place, key)?;
+    let here = place.member(key);
     names.insert(alloc, key)?;
     if names.len() > MAX_CONNECTIONS {
-        return Err(ConfigFault::Limit(here));
+        return Err(ConfigFault::Limit(here.path(alloc)?));
     }
-    check_listing(alloc, here.as_str(), member_of(sources, key))
+    check_listing(alloc, &here, member_of(sources, key))
 }
 
 // What a tenant lists at a connection: an object or null, with project lists.
-fn check_listing(alloc: Global, here: &str, source: Option<&Value>) -> Result<(), ConfigFault>
-    ensures { Tests (listing_checks here.now (option_map (λ v. view v.now) source.entry)) result }
+fn check_listing(alloc: Global, here: &Place<'_>, source: Option<&Value>) -> Result<(), ConfigFault>
+    ensures { Tests (listing_checks (steps_of here.now) (option_map (λ v. view v.now) source.entry)) result }
 {
     check_optional_object(alloc, here, source)?;
     check_projects(alloc, here, source, "config-projects")?;
@@ -175,19 +182,23 @@ fn check_listing(alloc: Global, here: &str, source: Option<&Value>) -> Result<()
 // A list of projects.
 fn check_projects(
     alloc: Global,
-    place: &str,
+    place: &Place<'_>,
     source: Option<&Value>,
     key: &str,
 ) -> Result<(), ConfigFault>
-    ensures { Tests (list_checks place.now (option_map (λ v. view v.now) source.entry) key.now) result }
+    ensures { Tests (list_checks (steps_of place.now) (option_map (λ v. view v.now) source.entry) key.now) result }
 {
-    let here = member_place(alloc, place, key)?;
-    let projects = optional_list(alloc, here.as_str(), member_of(source, key))?;
-    check_each_project(alloc, here.as_str(), projects)
+    let here = place.member(key);
+    let projects = optional_list(alloc, &here, member_of(source, key))?;
+    check_each_project(alloc, &here, projects)
 }
 
-fn check_each_project(alloc: Global, place: &str, projects: &[Value]) -> Result<(), ConfigFault>
-    ensures { Tests (each (project_checks place.now) (map view projects.now)) result }
+fn check_each_project(
+    alloc: Global,
+    place: &Place<'_>,
+    projects: &[Value],
+) -> Result<(), ConfigFault>
+    ensures { Tests (each (project_checks (steps_of place.now)) (map view projects.now)) result }
 {
     for (position, project) in projects.iter().enumerate() {
         check_project(alloc, place, position, project)?;
@@ -198,14 +209,14 @@ fn check_each_project(alloc: Global, place: &str, projects: &[Value]) -> Result<
 // `Shape` at an entry that names no project.
 fn check_project(
     alloc: Global,
-    place: &str,
+    place: &Place<'_>,
     position: usize,
     project: &Value,
 ) -> Result<(), ConfigFault>
-    ensures { Tests (project_checks place.now position (view project.now)) result }
+    ensures { Tests (project_checks (steps_of place.now) position (view project.now)) result }
 {
     if is_entry(project) {
         return Ok(());
     }
-    Err(ConfigFault::Shape(item_place(alloc, place, position)?))
+    Err(ConfigFault::Shape(place.item(position).path(alloc)?))
 }

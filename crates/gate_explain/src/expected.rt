@@ -1,177 +1,118 @@
 //! Faults of a configuration: what is expected where one stands, and what was found.
-mod finding;
-mod found;
-mod spot;
+use crate::document::items;
+use crate::kind::Kind;
+use crate::names::{Added, Meant, Quoted, front, nearest};
+use crate::table::{item_kind, nearest_key, read_kind};
+use gate_config::{ConfigFault, Path, Step};
+use gate_record::Memory;
+use serde_json::Value;
 
-use crate::expected::finding::{Seen, find};
-use crate::expected::found::Found;
-use crate::expected::spot::Spot;
-use crate::generations::push_number;
-use crate::near::{nearest, push_meant};
-use crate::parts::members;
-use crate::quoted::QuotedFront;
-use gate_config::ConfigFault;
-use gate_record::{Memory, read_number};
-use serde_json::{Error, Value};
-
-const ATTRIBUTES: [&str; 8] = [
-    "approval",
-    "branch",
-    "comment",
-    "email",
-    "event",
-    "ignore-deletes",
-    "ref",
-    "username",
-];
-
-// The keys of an entry of patterns that is an object.
-const KEYS: [&str; 2] = ["regex", "negate"];
-
-/// Adds the fault of the bytes of a generation that are no JSON, and where they aren't.
-pub fn push_unread(out: &mut String, g: u32, error: &Error) -> Result<(), Memory> {
-    push_number(out, g)?;
-    write!(out, "not-json\nThe document is no JSON: {error}.")?;
-    Ok(())
-}
-
-/// Adds a fault of the document of a generation as `check` has it, and a line that says what is expected there and what was found.
-pub fn push_fault(
-    out: &mut String,
-    g: u32,
-    document: &Value,
-    fault: &ConfigFault,
-) -> Result<(), Memory> {
-    push_number(out, g)?;
-    writeln!(out, "{fault}")?;
+/// Adds what is expected where a document has this fault, and what was found.
+pub fn push_expected(out: &mut String, document: &Value, fault: &ConfigFault) -> Added {
     match fault {
         ConfigFault::Memory => Err(Memory),
         ConfigFault::NotJson => Ok(out.push_str("The document is no JSON.")?),
-        ConfigFault::Shape(place) => push_shape(out, &find(document, place.as_str())),
-        ConfigFault::Limit(place) => push_limit(out, &find(document, place.as_str())),
-        ConfigFault::Manager(place) => push_manager(out, &find(document, place.as_str())),
-        ConfigFault::Attribute(place) => push_attribute(out, &find(document, place.as_str())),
-        ConfigFault::Pattern(place) => push_pattern(out, &find(document, place.as_str())),
-        ConfigFault::Repeated(place) => push_repeated(out, &find(document, place.as_str())),
-    }
-}
-
-// A value of another kind, or none; or a key that an entry doesn't have.
-fn push_shape(out: &mut String, seen: &Seen<'_>) -> Result<(), Memory> {
-    match seen.spot {
-        Spot::EntryKey => push_key(out, seen.key),
-        _ => push_kind(out, seen),
-    }
-}
-
-fn push_kind(out: &mut String, seen: &Seen<'_>) -> Result<(), Memory> {
-    let expected = seen.spot.expected();
-    let found = Found(seen.value);
-    write!(out, "Expected {expected}; found {found}")?;
-    push_inside(out, seen)?;
-    out.push_str(".")?;
-    Ok(())
-}
-
-fn push_key(out: &mut String, key: &str) -> Result<(), Memory> {
-    let found = QuotedFront(key);
-    write!(out, "Expected one of the keys regex, negate; found {found}")?;
-    push_meant(out, nearest(key, KEYS.as_slice()))?;
-    out.push_str(". An entry that left it out might be met by other texts, so it isn't ignored.")?;
-    Ok(())
-}
-
-// What inside the value is of another kind, where the fault stands at the whole.
-fn push_inside(out: &mut String, seen: &Seen<'_>) -> Result<(), Memory> {
-    match (seen.spot, seen.value) {
-        (Spot::Entry, Some(entry)) if entry.is_object() => {
-            let tenant = Found(entry.get("tenant"));
-            write!(out, ", whose `tenant` is {tenant}")?;
+        ConfigFault::Shape(path) => push_shape(out, Seen::at(document, path)),
+        ConfigFault::Limit(path) => {
+            let most = Seen::at(document, path).kind.most();
+            Ok(write!(out, "Expected at most {most}; found more.")?)
         }
-        (Spot::Approvals | Spot::Approval, Some(approval)) => push_vote(out, approval)?,
-        _ => {}
+        ConfigFault::Manager(path) => push_value(out, MANAGER, Seen::at(document, path)),
+        ConfigFault::Attribute(path) => push_attribute(out, Seen::at(document, path).key),
+        ConfigFault::Pattern(path) => push_value(out, PATTERN, Seen::at(document, path)),
+        ConfigFault::Repeated(path) => push_value(out, NEW_NAME, Seen::at(document, path)),
     }
-    Ok(())
 }
 
-// The first vote that is no number.
-fn push_vote(out: &mut String, approval: &Value) -> Result<(), Memory> {
-    if let Some(members) = members(Some(approval)) {
-        for (category, vote) in members.iter() {
-            if read_number(vote).is_none() {
-                let category = QuotedFront(category.as_str());
-                let vote = Found(Some(vote));
-                write!(out, ", whose vote for {category} is {vote}")?;
-                return Ok(());
-            }
+const MANAGER: &str = "one of the managers \"independent\" and \"dependent\"";
+
+const ATTRIBUTES: &str =
+    "attributes event branch ref username email comment approval ignore-deletes";
+
+const PATTERN: &str =
+    "a pattern that `regex` builds: it has no look-around and no references back, and what is built isn't too large";
+
+const NEW_NAME: &str = "a name that none before it has";
+
+/// What was come to along a path.
+#[derive(Clone, Copy)]
+struct Seen<'v> {
+    kind: Kind,
+    /// The value, if there is one.
+    value: Option<&'v Value>,
+    /// The last key of the path.
+    key: &'v str,
+}
+
+impl<'v> Seen<'v> {
+    // What stands at a path of a document.
+    fn at(document: &'v Value, path: &'v Path) -> Seen<'v> {
+        let mut seen = Seen {
+            kind: Kind::Document,
+            value: Some(document),
+            key: "",
+        };
+        for step in path.steps() {
+            seen = seen.below(step);
         }
+        seen
     }
-    Ok(())
-}
 
-fn push_limit(out: &mut String, seen: &Seen<'_>) -> Result<(), Memory> {
-    let most = seen.spot.most();
-    write!(out, "Expected at most {most}; found more")?;
-    match seen.spot {
-        // The length of the list isn't what is counted.
-        Spot::Approvals => out.push_str(".")?,
-        Spot::Source | Spot::Item => out.push_str(": this is the first that is too many.")?,
-        _ => {
-            let found = Found(seen.value);
-            write!(out, ": {found}.")?;
+    fn below(self, step: &'v Step) -> Seen<'v> {
+        match (step, self.value) {
+            (Step::Item(position), list) => Seen {
+                kind: item_kind(self.kind),
+                value: items(list).get(*position),
+                key: self.key,
+            },
+            (Step::Member(key), Some(value)) => Seen {
+                kind: read_kind(self.kind.of(value), key.as_str()).unwrap_or(Kind::Other),
+                value: value.get(key.as_str()),
+                key: key.as_str(),
+            },
+            (Step::Member(_), None) => self,
         }
     }
-    Ok(())
 }
 
-fn push_manager(out: &mut String, seen: &Seen<'_>) -> Result<(), Memory> {
-    let found = Found(seen.value);
-    write!(
-        out,
-        "Expected one of the managers \"independent\" and \"dependent\"; found {found}"
-    )?;
-    if let Some(Value::String(manager)) = seen.value {
-        push_meant(
-            out,
-            nearest(manager.as_str(), &["independent", "dependent"]),
-        )?;
+// A value of another kind, or none; or a key that an entry of patterns doesn't have.
+fn push_shape(out: &mut String, seen: Seen<'_>) -> Added {
+    if seen.kind != Kind::Other {
+        return push_value(out, seen.kind.expected(), seen);
     }
-    out.push_str(".")?;
-    Ok(())
+    push_key(out, Kind::Pattern, "keys regex negate", seen.key)?;
+    Ok(out.push_str(" An entry without it might be met by other texts, so it isn't ignored.")?)
 }
 
-fn push_attribute(out: &mut String, seen: &Seen<'_>) -> Result<(), Memory> {
-    let key = QuotedFront(seen.key);
-    out.push_str("Expected one of the attributes")?;
-    let mut before = " ";
-    for attribute in ATTRIBUTES.as_slice() {
-        write!(out, "{before}{attribute}")?;
-        before = ", ";
-    }
-    write!(out, "; found {key}")?;
-    push_meant(out, nearest(seen.key, ATTRIBUTES.as_slice()))?;
-    out.push_str(". A rule that left it out would select more, so it isn't ignored.")?;
-    Ok(())
+fn push_attribute(out: &mut String, key: &str) -> Added {
+    push_key(out, Kind::Rule, ATTRIBUTES, key)?;
+    Ok(out.push_str(" A rule that left it out would select more, so it isn't ignored.")?)
 }
 
-fn push_pattern(out: &mut String, seen: &Seen<'_>) -> Result<(), Memory> {
-    let found = Found(seen.value);
-    write!(
-        out,
-        "Expected a pattern that `regex` builds: it has no look-around and no references back, and what is built isn't too large; found {found}."
-    )?;
-    Ok(())
+fn push_key(out: &mut String, kind: Kind, known: &str, found: &str) -> Added {
+    let meant = Meant(nearest_key(kind, found));
+    let found = Quoted(found);
+    Ok(write!(out, "Expected one of the {known}; found {found}{meant}.")?)
 }
 
-fn push_repeated(out: &mut String, seen: &Seen<'_>) -> Result<(), Memory> {
-    let whose = match seen.spot {
-        Spot::TenantName => "tenant",
-        _ => "pipeline of the tenant",
+// How many letters of what was found are written.
+const LETTERS: usize = 200;
+
+// Adds what is expected, and the front of what was found, as JSON text.
+fn push_value(out: &mut String, expected: &str, seen: Seen<'_>) -> Added {
+    write!(out, "Expected {expected}; found ")?;
+    let Some(value) = seen.value else {
+        return Ok(out.push_str("nothing.")?);
     };
-    let found = Found(seen.value);
-    write!(
-        out,
-        "Expected a name that no earlier {whose} has; found {found}."
-    )?;
-    Ok(())
+    let alloc = *out.allocator();
+    let text = format!(in alloc; "{value}")?;
+    let manager = value.as_str().unwrap_or("");
+    match front(text.as_str(), LETTERS) {
+        Some(front) => Ok(write!(out, "{front}..")?),
+        None => Ok(write!(
+            out,
+            "{text}{}.",
+            Meant(nearest(manager, "independent dependent"))
+        )?),
+    }
 }

@@ -1,38 +1,61 @@
 //! The program `gate_explain`: what a configuration says and what comes of a script, in plain words, or a picture of a configuration.
 #![tactic(auto)]
 
-mod beside;
 mod changes;
+mod document;
 mod expected;
 mod explaining;
 mod fault;
-mod generations;
-mod near;
-mod parts;
+mod kind;
+mod names;
 mod picture;
 mod program;
-mod quoted;
 mod script;
 mod sentences;
+mod table;
 mod telling;
-mod tenants;
 mod unapplied;
-mod words;
 
+use crate::fault::Fault;
+use crate::program::told;
+use std::io::Write;
 use std::process::ExitCode;
-use std::rt::Env;
+use std::rt::{Env, Files};
 use std::{env, io};
 
 fn main(rt: HostRuntime) -> ExitCode {
     let mut output = rt.stdout();
     let mut errors = rt.stderr();
-    let status = match words_of(&rt) {
-        Ok(words) => program::run_words(&rt, words.as_slice(), &mut output, &mut errors),
-        Err(error) => program::tell(&words::unread(&error), &mut errors),
-    };
-    ExitCode::from(status)
+    match run(&rt, &mut output) {
+        Ok(()) => ExitCode::from(0),
+        Err(fault) => {
+            let _ = writeln!(errors, "fault: {fault}");
+            ExitCode::from(fault.status())
+        }
+    }
 }
 
+// Nothing is written where there is a fault before.
+fn run(rt: &(impl Env + Files + AllocGlobal), output: &mut impl Write) -> Result<(), Fault> {
+    let text = match words_of(rt) {
+        Ok(words) => told(rt, words.as_slice())?,
+        Err(error) => match error.kind() {
+            io::ErrorKind::OutOfMemory => return Err(Fault::Memory),
+            _ => return Err(Fault::Usage),
+        },
+    };
+    match write_text(output, text.as_str()) {
+        Ok(()) => Ok(()),
+        Err(_) => Err(Fault::Write),
+    }
+}
+
+// Words that aren't UTF-8 are an error.
 fn words_of(rt: &(impl Env + AllocGlobal)) -> io::Result<Vec<String>> {
     Ok(env::args(rt)?.collect(rt.alloc())?)
+}
+
+fn write_text(output: &mut impl Write, text: &str) -> io::Result<()> {
+    output.write_all(text.as_bytes())?;
+    output.flush()
 }

@@ -1,80 +1,74 @@
-use crate::explaining::{draw, explain};
+//! What the program's words ask for, and what is told for them.
+use crate::explaining::{Wanted, explain};
 use crate::fault::Fault;
-use crate::words::{Wanted, task_of};
-use std::io::{ErrorKind, Write};
+use crate::table::push_settings;
+use std::fs;
+use std::io::ErrorKind;
 use std::rt::Files;
-use std::{fs, io};
 
-/// Does what the program's words ask for, its name first, and gives the exit status: 0, or that of the fault, whose
-/// lines then stand on the second writer. What is explained goes to the first writer, and nothing does where there is a
-/// fault before it.
-pub fn run_words<X, O, E>(rt: &X, words: &[String], output: &mut O, errors: &mut E) -> u8
-where
-    X: Files + AllocGlobal,
-    O: Write,
-    E: Write,
-{
-    match run_task(rt, words, output) {
-        Ok(()) => 0,
-        Err(fault) => tell(&fault, errors),
-    }
-}
-
-/// Writes the lines of a fault, and gives its status.
-pub fn tell<E: Write>(fault: &Fault, errors: &mut E) -> u8 {
-    let _ = writeln!(errors, "fault: {fault}");
-    fault.status()
-}
-
-fn run_task<X, O>(rt: &X, words: &[String], output: &mut O) -> Result<(), Fault>
-where
-    X: Files + AllocGlobal,
-    O: Write,
-{
-    let text = explained(rt, words)?;
-    match write_text(output, text.as_str()) {
-        Ok(()) => Ok(()),
-        Err(_) => Err(Fault::Write),
-    }
-}
-
-// All files are read before any is looked into.
-fn explained<X>(rt: &X, words: &[String]) -> Result<String, Fault>
-where
-    X: Files + AllocGlobal,
-{
+/// What is told for the program's words, its name first. All files are read before any is looked into.
+pub fn told(rt: &(impl Files + AllocGlobal), words: &[String]) -> Result<String, Fault> {
     let alloc = rt.alloc();
-    let task = task_of(alloc, words)?;
-    let documents = files(rt, task.config)?;
-    match task.wanted {
-        Wanted::Words => explain(alloc, documents.as_slice(), None),
-        Wanted::Script(path) => {
-            let script = file(rt, path)?;
-            explain(alloc, documents.as_slice(), Some(script.as_slice()))
+    match words_in(words) {
+        Some(("", Some(config), None)) => {
+            explain(alloc, files(rt, config)?.as_slice(), Wanted::Words)
         }
-        Wanted::Picture => draw(alloc, documents.as_slice()),
+        Some(("", Some(config), Some(script))) => {
+            let files = files(rt, config)?;
+            let script = file(rt, script)?;
+            explain(alloc, files.as_slice(), Wanted::Script(script.as_slice()))
+        }
+        Some(("--dot", Some(config), None)) => {
+            explain(alloc, files(rt, config)?.as_slice(), Wanted::Picture)
+        }
+        Some(("--settings", None, None)) => {
+            let mut out = String::new(alloc);
+            push_settings(&mut out)?;
+            Ok(out)
+        }
+        _ => Err(Fault::Usage),
     }
 }
 
-fn write_text<O: Write>(output: &mut O, text: &str) -> io::Result<()> {
-    output.write_all(text.as_bytes())?;
-    output.flush()
+// An option, if there is one, and the paths of a configuration and a script. A word that begins with `-` is an option, unless it is `-`
+// alone or stands behind `--`.
+type Words<'w> = (&'w str, Option<&'w str>, Option<&'w str>);
+
+fn words_in(words: &[String]) -> Option<Words<'_>> {
+    let mut found: Words<'_> = ("", None, None);
+    let mut ended = false;
+    for word in words.iter().skip(1) {
+        let word = word.as_str();
+        if !ended && word == "--" {
+            ended = true;
+            continue;
+        }
+        let is_option = !ended && word != "-" && word.starts_with("-");
+        found = match found {
+            ("", config, script) if is_option => (word, config, script),
+            (option, None, None) if !is_option => (option, Some(word), None),
+            (option, config, None) if !is_option => (option, config, Some(word)),
+            _ => return None,
+        };
+    }
+    Some(found)
 }
 
-fn files<X: Files + AllocGlobal>(rt: &X, paths: Vec<String>) -> Result<Vec<Vec<u8>>, Fault> {
+// The files at paths that are joined by commas.
+fn files(rt: &(impl Files + AllocGlobal), paths: &str) -> Result<Vec<Vec<u8>>, Fault> {
     let mut files = Vec::new(rt.alloc());
-    for path in paths {
+    for path in paths.split(',') {
         files.push(file(rt, path)?)?;
     }
     Ok(files)
 }
 
-fn file<X: Files + AllocGlobal>(rt: &X, path: String) -> Result<Vec<u8>, Fault> {
-    match fs::read(rt, path.as_str()) {
+fn file(rt: &(impl Files + AllocGlobal), path: &str) -> Result<Vec<u8>, Fault> {
+    match fs::read(rt, path) {
         Ok(bytes) => Ok(bytes),
         Err(error) => match error.kind() {
             ErrorKind::OutOfMemory => Err(Fault::Memory),
-            _ => Err(Fault::File(path)),
+            _ => Err(Fault::File(String::from_str(rt.alloc(), path)?)),
         },
     }
 }

@@ -1,88 +1,61 @@
 //! A script, line by line: what each line answered, with names in place of numbers.
 mod answers;
-mod asked;
-mod lines;
+mod part;
 mod player;
-mod ways;
 mod wrong;
 
 use crate::fault::Fault;
-use crate::script::lines::{Lines, push_line};
+use crate::names::Added;
 use crate::script::player::Player;
-use crate::script::wrong::push_wrong;
+use crate::script::wrong::wrong_line;
 use gate_config::Generations;
-use gate_core::{ScriptFault, Scripted, read_script};
-use gate_line::is_skipped;
-use gate_record::{Memory, Queue};
-use std::alloc::Global;
+use gate_core::read_script_line;
+use gate_line::{first_line, is_skipped};
 
 /// Adds what comes of a script. `Faulty` where a line of it stands for nothing.
-pub fn push_script(
-    out: &mut String,
-    alloc: Global,
-    gens: &Generations,
-    script: &[u8],
-) -> Result<(), Fault> {
-    match read_script(alloc, script) {
-        Ok(read) => Ok(push_played(out, alloc, gens, script, read)?),
-        Err(ScriptFault::Memory) => Err(Fault::Memory),
-        Err(ScriptFault::Script(line)) => Err(refused(alloc, script, line)),
-    }
-}
-
-fn push_played(
-    out: &mut String,
-    alloc: Global,
-    gens: &Generations,
-    script: &[u8],
-    read: Queue<Scripted>,
-) -> Result<(), Memory> {
+pub fn push_script(out: &mut String, gens: &Generations, script: &[u8]) -> Result<(), Fault> {
     out.push_str("\nThe script, line by line:\n")?;
-    let mut player = Player::new(alloc, gens)?;
-    push_lines(out, alloc, &mut player, script, read)
+    let mut player = Player::new(*out.allocator(), gens)?;
+    push_lines(out, &mut player, script)
 }
 
-fn push_lines(
-    out: &mut String,
-    alloc: Global,
-    player: &mut Player<'_>,
-    script: &[u8],
-    read: Queue<Scripted>,
-) -> Result<(), Memory> {
-    let mut read = read;
+fn push_lines(out: &mut String, player: &mut Player<'_>, script: &[u8]) -> Result<(), Fault> {
     let mut number: u64 = 0;
-    for line in Lines::of(script) {
+    let mut rest = script;
+    while !rest.is_empty() {
+        let (line, more) = first_line(rest);
         number = number.saturating_add(1);
         if !is_skipped(line) {
-            push_next(out, alloc, player, number, line, &mut read)?;
+            push_line(out, player, number, line)?;
         }
+        rest = more;
     }
     Ok(())
 }
 
-// A line that isn't skipped stands for the next of what was read.
-fn push_next(
+fn push_line(
     out: &mut String,
-    alloc: Global,
     player: &mut Player<'_>,
     number: u64,
     line: &[u8],
-    read: &mut Queue<Scripted>,
-) -> Result<(), Memory> {
-    match read.pop() {
-        Some(scripted) => {
-            push_line(out, alloc, number, line)?;
-            player.push_answer(out, scripted)
+) -> Result<(), Fault> {
+    let alloc = *out.allocator();
+    match read_script_line(alloc, line) {
+        Ok(scripted) => {
+            push_front(out, number, line)?;
+            Ok(player.push(out, scripted)?)
         }
-        None => Ok(()),
+        Err(fault) => Err(Fault::Faulty(wrong_line(alloc, number, line, fault)?)),
     }
 }
 
-// The fault of a script at the line of this number.
-fn refused(alloc: Global, script: &[u8], line: usize) -> Fault {
+// Adds the number of a line, and as much of it as there is room for, with spaces for control characters.
+fn push_front(out: &mut String, number: u64, line: &[u8]) -> Added {
+    let alloc = *out.allocator();
     let mut text = String::new(alloc);
-    match push_wrong(&mut text, alloc, script, line) {
-        Ok(()) => Fault::Faulty(text),
-        Err(Memory) => Fault::Memory,
+    for letter in String::from_utf8_lossy(alloc, line)?.as_str().chars() {
+        text.push(if letter < ' ' { ' ' } else { letter })?;
     }
+    let text = text.as_str();
+    Ok(write!(out, "{number:>6}  {text:<42.42}  ")?)
 }

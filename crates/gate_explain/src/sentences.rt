@@ -1,5 +1,5 @@
 //! What rules ask for, in words.
-use crate::quoted::Quoted;
+use crate::names::Quoted;
 use gate_record::Text;
 use gate_rule::{Entry, Rule};
 use std::fmt;
@@ -11,54 +11,65 @@ pub struct RuleSentence<'r>(pub &'r Rule);
 impl fmt::Display for RuleSentence<'_> {
     fn fmt<W: fmt::Write>(&self, f: &mut fmt::Formatter<W>) -> fmt::Result {
         let rule = self.0;
-        let event = Entries(Searched::AtFront, rule.event.as_slice());
-        write!(f, "its type {event}")?;
-        write_texts(f, rule)?;
+        f.write_str("its type ")?;
+        write_entries(f, AT_FRONT, rule.event.as_slice())?;
+        write_attribute(f, "branch", AT_FRONT, rule.branch.as_slice())?;
+        write_attribute(f, "ref", AT_FRONT, rule.refname.as_slice())?;
+        write_attribute(f, "account's username", WITHIN, rule.username.as_slice())?;
+        write_attribute(f, "account's email address", WITHIN, rule.email.as_slice())?;
+        write_attribute(f, "comment", WITHIN, rule.comment.as_slice())?;
         write_approvals(f, rule.approval.as_slice())?;
         write_deletes(f, rule)
     }
 }
 
-fn write_texts<W: fmt::Write>(f: &mut fmt::Formatter<W>, rule: &Rule) -> fmt::Result {
-    write_front(f, "branch", rule.branch.as_slice())?;
-    write_front(f, "ref", rule.refname.as_slice())?;
-    write_within(f, "account's username", rule.username.as_slice())?;
-    write_within(f, "account's email address", rule.email.as_slice())?;
-    write_within(f, "comment", rule.comment.as_slice())
-}
+// What is said of a pattern that is to match, and of one that isn't.
+type Words = (&'static str, &'static str);
 
-fn write_front<W: fmt::Write>(
-    f: &mut fmt::Formatter<W>,
-    field: &str,
-    entries: &[Entry],
-) -> fmt::Result {
-    write_attribute(f, field, Entries(Searched::AtFront, entries))
-}
+const AT_FRONT: Words = ("begins with a match of ", "doesn't begin with a match of ");
 
-fn write_within<W: fmt::Write>(
-    f: &mut fmt::Formatter<W>,
-    field: &str,
-    entries: &[Entry],
-) -> fmt::Result {
-    write_attribute(f, field, Entries(Searched::Anywhere, entries))
-}
+const WITHIN: Words = ("has a match of ", "has no match of ");
 
 // An attribute that isn't listed asks nothing. What isn't there meets no entry, which goes without saying where none is negated.
 fn write_attribute<W: fmt::Write>(
     f: &mut fmt::Formatter<W>,
     field: &str,
-    entries: Entries<'_>,
+    words: Words,
+    entries: &[Entry],
 ) -> fmt::Result {
-    if entries.1.is_empty() {
+    if entries.is_empty() {
         return Ok(());
     }
-    let has_negated = entries.1.iter().any(|entry| entry.negate);
-    let there = if has_negated {
-        ", which has to be there,"
-    } else {
-        ""
-    };
-    write!(f, "; its {field}{there} {entries}")
+    write!(f, "; its {field} ")?;
+    if entries.iter().any(|entry| entry.negate) {
+        f.write_str("has to be there, and ")?;
+    }
+    write_entries(f, words, entries)
+}
+
+// The entries of an attribute, of which one is to be met: patterns together, then each negated one by itself, since "no match of one or
+// of another" would ask for more.
+fn write_entries<W: fmt::Write>(
+    f: &mut fmt::Formatter<W>,
+    words: Words,
+    entries: &[Entry],
+) -> fmt::Result {
+    let mut before = words.0;
+    let mut between = "";
+    for entry in entries {
+        if !entry.negate {
+            write!(f, "{before}{}", Quoted(entry.pattern.text()))?;
+            before = " or ";
+            between = " or ";
+        }
+    }
+    for entry in entries {
+        if entry.negate {
+            write!(f, "{between}{}{}", words.1, Quoted(entry.pattern.text()))?;
+            between = " or ";
+        }
+    }
+    Ok(())
 }
 
 // The approvals, all of which are asked for.
@@ -67,10 +78,8 @@ fn write_approvals<W: fmt::Write>(
     approvals: &[(Text, i64)],
 ) -> fmt::Result {
     let mut before = "; its approvals have ";
-    for approval in approvals {
-        let category = Quoted(approval.0.as_str());
-        let vote = approval.1;
-        write!(f, "{before}{category} {vote}")?;
+    for (category, vote) in approvals {
+        write!(f, "{before}{} {vote}", Quoted(category.as_str()))?;
         before = " and ";
     }
     Ok(())
@@ -92,75 +101,10 @@ fn write_deletes<W: fmt::Write>(f: &mut fmt::Formatter<W>, rule: &Rule) -> fmt::
 // begins with it, and its negation is met where it doesn't; any other pattern may match or not.
 fn may_mean_refs(entry: &Entry) -> bool {
     let pattern = entry.pattern.text();
-    !is_plain_word(pattern) || entry.negate != "ref-updated".starts_with(pattern)
+    !pattern.as_bytes().iter().all(|byte| is_plain(*byte))
+        || entry.negate != "ref-updated".starts_with(pattern)
 }
 
-fn is_plain_word(pattern: &str) -> bool {
-    pattern.as_bytes().iter().all(|byte| is_plain_letter(*byte))
-}
-
-fn is_plain_letter(byte: u8) -> bool {
+fn is_plain(byte: u8) -> bool {
     byte == b'-' || byte.is_ascii_lowercase()
-}
-
-/// Where an attribute's patterns are searched for in its field.
-#[derive(Clone, Copy)]
-enum Searched {
-    AtFront,
-    Anywhere,
-}
-
-impl Searched {
-    fn is_found(self) -> &'static str {
-        match self {
-            Searched::AtFront => "begins with a match of ",
-            Searched::Anywhere => "has a match of ",
-        }
-    }
-
-    fn is_not_found(self) -> &'static str {
-        match self {
-            Searched::AtFront => "doesn't begin with a match of ",
-            Searched::Anywhere => "has no match of ",
-        }
-    }
-}
-
-/// The entries of an attribute, of which one is to be met: patterns together, then each negated one by itself, since "no match of
-/// one or of another" would ask for more.
-#[derive(Clone, Copy)]
-struct Entries<'e>(Searched, &'e [Entry]);
-
-impl fmt::Display for Entries<'_> {
-    fn fmt<W: fmt::Write>(&self, f: &mut fmt::Formatter<W>) -> fmt::Result {
-        let Entries(searched, entries) = *self;
-        let mut before = searched.is_found();
-        let mut between = "";
-        for entry in entries {
-            if !entry.negate {
-                let text = Quoted(entry.pattern.text());
-                write!(f, "{before}{text}")?;
-                before = " or ";
-                between = " or ";
-            }
-        }
-        write_negated(f, searched.is_not_found(), between, entries)
-    }
-}
-
-fn write_negated<W: fmt::Write>(
-    f: &mut fmt::Formatter<W>,
-    asked: &str,
-    first: &'static str,
-    entries: &[Entry],
-) -> fmt::Result {
-    let mut between = first;
-    for entry in entries {
-        if entry.negate {
-            let text = Quoted(entry.pattern.text());
-            write!(f, "{between}{asked}{text}")?;
-            between = " or ";
-        }
-    }
-    Ok(())
 }

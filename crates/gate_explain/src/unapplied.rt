@@ -1,50 +1,214 @@
 //! What a document has that isn't applied, or isn't read at all: a line for each, by its place, with what follows from it.
-mod entries;
-mod items;
-mod pipelines;
-mod settings;
-mod stanzas;
-mod tables;
-mod unused;
+use crate::document::{Document, Tenant, text_at};
+use crate::kind::Kind;
+use crate::names::{Added, Escaped, Meant, is_near};
+use crate::table::{follows_from, item_kind, nearest_key, read_kind};
+use gate_config::PipelineSpec;
+use serde_json::{Map, Value};
 
-use crate::parts::members;
-use crate::tenants::Tenant;
-use crate::unapplied::entries::push_entries;
-use crate::unapplied::items::push_lists;
-use crate::unapplied::tables::DOCUMENT;
-use crate::unapplied::unused::push_unused;
-use gate_config::Config;
-use gate_record::Memory;
-use serde_json::Value;
-use std::alloc::Global;
+const NO_TENANT_HERE: &str = "it has neither `tenant` nor `name`, so it is ignored";
+
+const NAMELESS: &str =
+    "it has no text `name`, so it is ignored, where Zuul takes the project that it stands in";
+
+const PATTERN: &str =
+    "its name begins with `^`, so it is ignored: its jobs aren't those of the projects that it means";
+
+const UNLISTED: &str = "the tenant lists no project of this name, so no event of it enters";
+
+const NO_TENANT: &str = "no tenant has this name, so nothing of it is read";
+
+const NO_CONNECTION: &str =
+    "the tenant lists no connection of this name, so these rules select nothing";
+
+const NO_PIPELINE: &str = "the tenant has no pipeline of this name, so its jobs never run";
+
+const UNKNOWN: &str = "no member of this name is known here, so it is ignored";
 
 /// Adds what of a document isn't applied.
-pub fn push_unapplied(
-    out: &mut String,
-    alloc: Global,
-    document: &Value,
-    config: &Config,
-    tenants: &[Tenant<'_>],
-) -> Result<(), Memory> {
-    out.push_str("What isn't applied, and what follows:\n")?;
-    let before = out.len();
-    push_document(out, document)?;
-    push_entries(out, alloc, document)?;
-    push_lists(out, alloc, document, config, tenants)?;
-    push_unused(out, alloc, config, tenants)?;
-    if out.len() == before {
-        out.push_str("  nothing: all of it is applied\n")?;
+pub fn push_unapplied(out: &mut String, document: &Document<'_>) -> Added {
+    let mut walk = Walk {
+        document,
+        tenant: None,
+        out: String::new(*out.allocator()),
+    };
+    walk.value(&document.value, Kind::Document, "")?;
+    if walk.out.is_empty() {
+        walk.out.push_str("  nothing: all of it is applied\n")?;
     }
-    Ok(())
+    let lines = walk.out.as_str();
+    Ok(write!(out, "What isn't applied, and what follows:\n{lines}")?)
 }
 
-fn push_document(out: &mut String, document: &Value) -> Result<(), Memory> {
-    if let Some(members) = members(Some(document)) {
-        for (key, value) in members.iter() {
-            if key.as_str() != "tenants" && key.as_str() != "config" {
-                DOCUMENT.push_member(out, "", key.as_str(), value)?;
-            }
+/// A way through a document along the table.
+#[derive(Drop)]
+struct Walk<'d, 'v> {
+    document: &'d Document<'v>,
+    /// The tenant whose list is gone through.
+    tenant: Option<&'d Tenant<'v>>,
+    /// The lines so far.
+    out: String,
+}
+
+/// What is done about a member.
+#[derive(Clone, Copy)]
+enum Next<'n> {
+    /// Its value is gone through, which is of this kind.
+    Enter(Kind),
+    /// This is said of it, with the name that was nearly written.
+    Tell(&'static str, Option<&'n str>),
+    /// Nothing is to be said.
+    Skip,
+}
+
+impl<'d, 'v> Walk<'d, 'v> {
+    // Goes through a value of this kind at this place.
+    #[cycle(walk)]
+    fn value(&mut self, value: &Value, kind: Kind, place: &str) -> Added {
+        let kind = kind.of(value);
+        if let Some(follows) = self.whole(value, kind) {
+            return self.push(place, follows, None);
+        }
+        match value {
+            Value::Object(members) => self.members(members, kind, place),
+            Value::Array(list) => self.items(list, item_kind(kind), place),
+            _ => Ok(()),
         }
     }
-    Ok(())
+
+    #[cycle(walk)]
+    fn members(&mut self, members: &Map<String, Value>, kind: Kind, place: &str) -> Added {
+        let alloc = *self.out.allocator();
+        let dot = if place.is_empty() { "" } else { "." };
+        for (key, value) in members.iter() {
+            let here = format!(in alloc; "{place}{dot}{key}")?;
+            match self.next(value, kind, key.as_str()) {
+                Next::Enter(below) => self.value(value, below, here.as_str())?,
+                Next::Tell(follows, meant) => self.push(here.as_str(), follows, meant)?,
+                Next::Skip => {}
+            }
+        }
+        Ok(())
+    }
+
+    #[cycle(walk)]
+    fn items(&mut self, list: &Vec<Value>, kind: Kind, place: &str) -> Added {
+        let alloc = *self.out.allocator();
+        let mut position: usize = 0;
+        for value in list {
+            let here = format!(in alloc; "{place}[{position}]")?;
+            self.value(value, kind, here.as_str())?;
+            position = position.saturating_add(1);
+        }
+        Ok(())
+    }
+
+    // Adds a line about what stands at a place.
+    fn push(&mut self, place: &str, follows: &str, meant: Option<&str>) -> Added {
+        Ok(writeln!(self.out, "  {}: {follows}{}", Escaped(place), Meant(meant))?)
+    }
+
+    // What is to be said of a value as a whole, where there is no more to say of what is in it.
+    fn whole(&self, value: &Value, kind: Kind) -> Option<&'static str> {
+        match kind {
+            Kind::Tenant if text_at(value, "name").is_none() => Some(NO_TENANT_HERE),
+            Kind::Project => self.stanza(text_at(value, "name")),
+            Kind::ListedProject | Kind::ProjectJob if !value.is_object() => follows_from(kind, ""),
+            _ => None,
+        }
+    }
+
+    fn stanza(&self, name: Option<&str>) -> Option<&'static str> {
+        match (name, self.tenant) {
+            (None, _) => Some(NAMELESS),
+            (Some(name), _) if name.starts_with("^") => Some(PATTERN),
+            (Some(name), Some(tenant)) if !tenant.has_project(name) => Some(UNLISTED),
+            _ => None,
+        }
+    }
+
+    fn next(&mut self, value: &Value, kind: Kind, key: &str) -> Next<'d> {
+        let votes = key == "voting" && value.as_bool() == Some(true);
+        if value.is_null() || kind == Kind::ProjectJob && votes {
+            return Next::Skip;
+        }
+        match kind {
+            Kind::Lists => self.list(key),
+            Kind::Trigger => self.connection(key),
+            Kind::Project => self.part(key),
+            _ => match read_kind(kind, key) {
+                Some(below) => Next::Enter(below),
+                None => setting(kind, key),
+            },
+        }
+    }
+
+    fn list(&mut self, name: &str) -> Next<'d> {
+        let document = self.document;
+        self.tenant = document.tenant(name);
+        match self.tenant {
+            Some(_) => Next::Enter(Kind::Items),
+            None => Next::Tell(NO_TENANT, nearest_tenant(document, name)),
+        }
+    }
+
+    // The rules for a connection.
+    fn connection(&self, name: &str) -> Next<'d> {
+        match self.tenant {
+            Some(tenant) if !tenant.listings.iter().any(|it| it.name == name) => {
+                Next::Tell(NO_CONNECTION, nearest_listing(tenant, name))
+            }
+            _ => Next::Skip,
+        }
+    }
+
+    // What a project has for a pipeline, or a setting of it.
+    fn part(&self, key: &str) -> Next<'d> {
+        let pipelines = match self.tenant {
+            Some(tenant) => tenant.pipelines(),
+            None => &[],
+        };
+        if key == "name" {
+            return Next::Skip;
+        }
+        if pipelines
+            .iter()
+            .any(|pipeline| pipeline.name.as_str() == key)
+        {
+            return Next::Enter(Kind::ProjectPipeline);
+        }
+        if follows_from(Kind::Project, key).is_some() {
+            return setting(Kind::Project, key);
+        }
+        let nearest = nearest_pipeline(pipelines, key).or(nearest_key(Kind::Project, key));
+        Next::Tell(NO_PIPELINE, nearest)
+    }
+}
+
+// A member that isn't read.
+fn setting(kind: Kind, key: &str) -> Next<'static> {
+    match follows_from(kind, key) {
+        Some(follows) => Next::Tell(follows, None),
+        None => Next::Tell(UNKNOWN, nearest_key(kind, key)),
+    }
+}
+
+fn nearest_tenant<'v>(document: &Document<'v>, written: &str) -> Option<&'v str> {
+    let tenant = document
+        .tenants
+        .iter()
+        .find(|it| is_near(written, it.name))?;
+    Some(tenant.name)
+}
+
+fn nearest_listing<'v>(tenant: &Tenant<'v>, written: &str) -> Option<&'v str> {
+    let listing = tenant.listings.iter().find(|it| is_near(written, it.name))?;
+    Some(listing.name)
+}
+
+fn nearest_pipeline<'c>(pipelines: &'c [PipelineSpec], written: &str) -> Option<&'c str> {
+    let pipeline = pipelines
+        .iter()
+        .find(|it| is_near(written, it.name.as_str()))?;
+    Some(pipeline.name.as_str())
 }

@@ -14,7 +14,7 @@ pub record Hand : Type 0 where
   pub generation : ℕ
 
 abbrev pub hand_of : Forward → Hand
-hand_of forward = record { items = forward.places.items; out = forward.places.out; marked = forward.marked; generation = forward.generation }
+hand_of forward = record { items = forward.outbox.items; out = forward.outbox.out; marked = forward.marked; generation = forward.generation }
 
 -- the generations of the configuration that it forwards by
 abbrev pub gens_of : Forward → Generations

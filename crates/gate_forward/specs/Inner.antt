@@ -1,3 +1,2 @@
--- What only private contracts, the view of `Places` and proofs cite: no public contract names it.
+-- What only private contracts and proofs cite: no public contract names it.
 pub mod Forwarding
-pub mod Places

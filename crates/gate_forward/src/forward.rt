@@ -1,16 +1,16 @@
 ghost use Rattle.std.specs.Prelude.{◌≡◌, ◌==◌, ◌&&◌, [], true, false, length, is_some, None, IfErr, IfOk, OnErr, OnOk};
 ghost use Rattle.std.specs.Prelude.{◌<◌, ◌≤◌, suc};
 ghost use Rattle.gate_config.specs.Generations.{config_at, count_of};
+ghost use Rattle.gate_config.specs.Lookups.{tenants_of};
 ghost use Rattle.gate_config.specs.Selection.{is_listed};
 ghost use Rattle.gate_forward.specs.Forwarding.{forwarded_entry, forwarded_reading, sends};
-ghost use Rattle.gate_forward.specs.Inner.Forwarding.{sends_reading};
+ghost use Rattle.gate_forward.specs.Inner.Forwarding.{KeepsAllElse, sends_reading};
 ghost use Rattle.gate_forward.specs.Hands.{conn_of, empty_hand, gens_of, hand_of, moved_out, put_back};
 ghost use Rattle.gate_record.specs.Lines.{IsLine};
 ghost use Rattle.gate_record.specs.declared.reading.Reading.TheVariants as reading;
 ghost use Rattle.gate_record.specs.declared.transit.ConnEntry.TheVariants as entry;
 
-use crate::finding::no_items;
-use crate::places::Places;
+use crate::outbox::Outbox;
 use gate_config::Generations;
 use gate_record::{
     ConnId, Event, Memory, Reading, Record, RecordReader, Shared, Stamp, Stamped, TenantId,
@@ -35,7 +35,7 @@ pub struct Forward<'c> {
     pub(crate) conn: ConnId,
     // The generation in force for the next entry.
     pub(crate) generation: u32,
-    pub(crate) places: Places,
+    pub(crate) outbox: Outbox,
     // Whether the end mark was loaded.
     pub(crate) marked: bool,
     pub(crate) reader: RecordReader,
@@ -52,7 +52,7 @@ impl<'c> Forward<'c> {
             gens,
             conn,
             generation: 0,
-            places: Places::new(no_items(), 0),
+            outbox: Outbox::new(),
             marked: false,
             reader: RecordReader::new(),
         }
@@ -75,10 +75,7 @@ impl<'c> Forward<'c> {
         ensures needs { OnErr result (IsLine line) }
     {
         match self.read(alloc, number, &line) {
-            Ok(places) => {
-                self.places = places;
-                Ok(())
-            }
+            Ok(()) => Ok(()),
             Err(Memory) => Err(AllocFailed { value: line }),
         }
     }
@@ -91,7 +88,7 @@ impl<'c> Forward<'c> {
         ensures conn { conn_of self.new ≡ conn_of self.old }
         ensures loads { hand_of self.new ≡ record (hand_of self.old) { items = sends (gens_of self.old) (conn_of self.old) (hand_of self.old).generation entry.End; out = None; marked = true } }
     {
-        self.places = self.end_marks();
+        self.put_end_marks();
         self.marked = true;
     }
 
@@ -122,7 +119,7 @@ impl<'c> Forward<'c> {
         ensures conn { conn_of self.new ≡ conn_of self.old }
         ensures moves { (hand_of self.new, result) ≡ moved_out (hand_of self.old).items (hand_of self.old) }
     {
-        self.places.next()
+        self.outbox.next()
     }
 
     /// The item that was moved out was sent: its place is closed.
@@ -132,7 +129,7 @@ impl<'c> Forward<'c> {
         ensures conn { conn_of self.new ≡ conn_of self.old }
         ensures closes { hand_of self.new ≡ record (hand_of self.old) { out = None } }
     {
-        self.places.close();
+        self.outbox.close();
     }
 
     /// The item that was moved out wasn't sent: its place gets this one, which is the first again.
@@ -142,21 +139,21 @@ impl<'c> Forward<'c> {
         ensures conn { conn_of self.new ≡ conn_of self.old }
         ensures fills { hand_of self.new ≡ put_back item (hand_of self.old).out (hand_of self.old) }
     {
-        self.places.put_back(item);
+        self.outbox.put_back(item);
     }
 
     /// Whether nothing is left to be sent.
     pub fn is_empty(&self) -> bool
         ensures { result ≡ (length (hand_of self.now).items == 0) }
     {
-        self.places.is_empty()
+        self.outbox.is_empty()
     }
 
     /// Whether an item was moved out of which nobody said yet what became of it.
     pub fn is_out(&self) -> bool
         ensures { result ≡ is_some (hand_of self.now).out }
     {
-        self.places.is_out()
+        self.outbox.is_out()
     }
 
     /// Whether the end mark went to all that get it.
@@ -164,33 +161,59 @@ impl<'c> Forward<'c> {
         requires in_hand { (hand_of self.now).out ≡ None }
         ensures { result ≡ ((hand_of self.now).marked && (length (hand_of self.now).items == 0)) }
     {
-        self.marked && self.places.is_empty()
+        self.marked && self.outbox.is_empty()
     }
 
-    // What the tenants get of a record. Nothing but the reader's room changes.
-    fn read(&mut self, alloc: Global, number: u64, line: &Record) -> Result<Places, Memory>
-        ensures items { IfOk result (λ places. places.items ≡ sends (gens_of self.old) (conn_of self.old) (hand_of self.old).generation (entry.Numbered number line.now)) }
-        ensures out { IfOk result (λ places. places.out ≡ None) }
+    // Puts what the tenants get of a record into the outbox.
+    fn read(&mut self, alloc: Global, number: u64, line: &Record) -> Result<(), Memory>
+        requires empty { self.old.outbox.items ≡ [] }
+        requires in_hand { self.old.outbox.out ≡ None }
+        ensures loads { OnOk result (self.new.outbox.items ≡ sends (gens_of self.old) (conn_of self.old) (hand_of self.old).generation (entry.Numbered number line.now)) }
+        ensures refused { OnErr result (self.new.outbox.items ≡ []) }
         ensures needs { OnErr result (IsLine line.now) }
-        ensures same { self.new ≡ self.old }
+        ensures out { self.new.outbox.out ≡ None }
+        ensures same { KeepsAllElse self.old self.new }
     {
         match self.reader.read(alloc, line)? {
             Reading::Event(event) => self.share(alloc, number, event),
-            Reading::Nothing(_) => Ok(Places::new(no_items(), 0)),
+            Reading::Nothing(_) => Ok(()),
         }
     }
 
-    // The event of a record, shared among the tenants that list its project.
-    fn share(&self, alloc: Global, number: u64, event: Event) -> Result<Places, Memory>
-        ensures items { IfOk result (λ places. places.items ≡ sends_reading (gens_of self.now) (conn_of self.now) (hand_of self.now).generation number (reading.Event event)) }
-        ensures out { IfOk result (λ places. places.out ≡ None) }
+    // Puts the event of a record into the outbox, shared among the tenants that list its project.
+    fn share(&mut self, alloc: Global, number: u64, event: Event) -> Result<(), Memory>
+        requires empty { self.old.outbox.items ≡ [] }
+        requires in_hand { self.old.outbox.out ≡ None }
+        ensures loads { OnOk result (self.new.outbox.items ≡ sends_reading (gens_of self.old) (conn_of self.old) (hand_of self.old).generation number (reading.Event event)) }
+        ensures refused { OnErr result (self.new.outbox.items ≡ []) }
+        ensures out { self.new.outbox.out ≡ None }
+        ensures same { KeepsAllElse self.old self.new }
     {
         let event = Shared::new(alloc, event)?;
-        let mut items = no_items();
-        for tenant in 0..self.gens.first().tenants().len() {
-            items[tenant] = self.event_for(TenantId(tenant as u32), number, &event)?;
+        let shared = self.put_shares(number, &event);
+        if shared.is_err() {
+            self.outbox.clear();
         }
-        Ok(Places::new(items, self.gens.first().tenants().len()))
+        shared
+    }
+
+    // Puts a share of an event into the outbox for each tenant that lists its project. The last tenant is looked at first.
+    fn put_shares(&mut self, number: u64, event: &Shared<Event>) -> Result<(), Memory>
+        requires empty { self.old.outbox.items ≡ [] }
+        requires in_hand { self.old.outbox.out ≡ None }
+        ensures loads { OnOk result (self.new.outbox.items ≡ sends_reading (gens_of self.old) (conn_of self.old) (hand_of self.old).generation number (reading.Event event.now)) }
+        ensures out { self.new.outbox.out ≡ None }
+        ensures same { KeepsAllElse self.old self.new }
+    {
+        let mut tenant = self.tenants();
+        while tenant > 0 {
+            tenant -= 1;
+            let to = TenantId(tenant as u32);
+            if let Some(item) = self.event_for(to, number, event)? {
+                self.outbox.put_first(to, item);
+            }
+        }
+        Ok(())
     }
 
     // The event for a tenant, if it lists the project.
@@ -217,6 +240,13 @@ impl<'c> Forward<'c> {
         })))
     }
 
+    // How many tenants there are.
+    fn tenants(&self) -> usize
+        ensures { result ≡ length (tenants_of (gens_of self.now).first) }
+    {
+        self.gens.first().tenants().len()
+    }
+
     // Whether a tenant lists the project of an event under the connection, by the generation in force.
     fn is_listed(&self, tenant: TenantId, event: &Event) -> bool
         ensures { result ≡ is_listed (config_at (gens_of self.now) (hand_of self.now).generation) tenant.0 (conn_of self.now) event.now.project }
@@ -228,16 +258,22 @@ impl<'c> Forward<'c> {
         }
     }
 
-    // The end mark, for the tenants that list the connection.
-    fn end_marks(&self) -> Places
-        ensures items { result.items ≡ sends (gens_of self.now) (conn_of self.now) (hand_of self.now).generation entry.End }
-        ensures out { result.out ≡ None }
+    // Puts the end mark into the outbox for each tenant that lists the connection. The last tenant is looked at first.
+    fn put_end_marks(&mut self)
+        requires empty { self.old.outbox.items ≡ [] }
+        requires in_hand { self.old.outbox.out ≡ None }
+        ensures loads { self.new.outbox.items ≡ sends (gens_of self.old) (conn_of self.old) (hand_of self.old).generation entry.End }
+        ensures out { self.new.outbox.out ≡ None }
+        ensures same { KeepsAllElse self.old self.new }
     {
-        let mut items = no_items();
-        for tenant in 0..self.gens.first().tenants().len() {
-            items[tenant] = self.end_mark_for(TenantId(tenant as u32));
+        let mut tenant = self.tenants();
+        while tenant > 0 {
+            tenant -= 1;
+            let to = TenantId(tenant as u32);
+            if let Some(item) = self.end_mark_for(to) {
+                self.outbox.put_first(to, item);
+            }
         }
-        Places::new(items, self.gens.first().tenants().len())
     }
 
     // The end mark for a tenant, if it lists the connection.

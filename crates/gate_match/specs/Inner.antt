@@ -2,6 +2,7 @@
 pub mod Choosing
 pub mod Compiling
 pub mod Finding
+pub mod Joined
 pub mod Knowing
 pub mod Marks
 pub mod Narrowing

@@ -3,13 +3,13 @@ ghost use Rattle.gate_record.specs.declared.event.Event.{Event};
 ghost use Rattle.gate_config.specs.Texts.{texts_of_entry};
 ghost use Rattle.gate_match.specs.Inner.Finding.{HoldsOfEntry, met_in};
 ghost use Rattle.gate_match.specs.Inner.Knowing.{asked_in};
-ghost use Rattle.gate_match.specs.Inner.Marks.{both, either};
+ghost use Rattle.gate_match.specs.Inner.Joined.{joined};
 
 use crate::asked::Asked;
 use crate::given::Approvals;
-use crate::mask::Mask;
+use crate::mask::{Joining, Mask};
+use crate::matcher_cache::MatcherCache;
 use crate::reach::reach_in;
-use crate::shelf::Shelf;
 use gate_intern::{Columns, Field, texts_mark_their_events};
 use gate_record::Memory;
 use gate_rule::Entry;
@@ -29,7 +29,7 @@ pub(crate) struct Answer<'c> {
 #[derive(Drop)]
 pub(crate) struct Answers<'c> {
     known: Vec<Answer<'c>>,
-    // By field and number of the pattern: how many answers were known with the one that stands here, and 0 where none does.
+    // By an entry's place: how many answers were known with the one that stands here, and 0 where none does.
     index: Vec<u32>,
     pub(crate) approvals: Approvals,
 }
@@ -58,63 +58,37 @@ impl<'c> Answers<'c> {
         }
     }
 
-    // Adds to the rows those whose field meets the entry.
-    pub(crate) fn add(
+    // Takes into the mask the rows whose field meets the entry.
+    pub(crate) fn join(
         &mut self,
         alloc: Global,
-        shelf: &Shelf<'c>,
+        cache: &MatcherCache<'c>,
         columns: &Columns<'_>,
         field: Field,
         asked: &Asked<'c>,
+        joining: Joining,
         out: &mut Mask,
     ) -> Result<(), Memory>
         requires right { AreRight columns.now self.old }
         requires len { length out.old ≡ length columns.now }
         ensures right { AreRight columns.now self.new }
         ensures len { length out.new ≡ length columns.now }
-        ensures adds { OnOk result (out.new ≡ either out.old (met_in field asked.now.entry.now columns.now)) }
+        ensures joins { OnOk result (out.new ≡ joined joining out.old (met_in field asked.now.entry.now columns.now)) }
     {
-        let place = place(shelf, field, asked);
-        if let Some(rows) = self.find(place, field, asked) {
-            out.or(rows);
+        if let Some(rows) = self.find(field, asked) {
+            out.join(joining, rows);
             return Ok(());
         }
-        let rows = rows(alloc, shelf, columns, field, asked)?;
-        out.or(&rows);
-        self.keep(alloc, shelf, field, asked, rows)
-    }
-
-    // Leaves of the rows those whose field meets the entry.
-    pub(crate) fn leave(
-        &mut self,
-        alloc: Global,
-        shelf: &Shelf<'c>,
-        columns: &Columns<'_>,
-        field: Field,
-        asked: &Asked<'c>,
-        out: &mut Mask,
-    ) -> Result<(), Memory>
-        requires right { AreRight columns.now self.old }
-        requires len { length out.old ≡ length columns.now }
-        ensures right { AreRight columns.now self.new }
-        ensures len { length out.new ≡ length columns.now }
-        ensures leaves { OnOk result (out.new ≡ both out.old (met_in field asked.now.entry.now columns.now)) }
-    {
-        let place = place(shelf, field, asked);
-        if let Some(rows) = self.find(place, field, asked) {
-            out.and(rows);
-            return Ok(());
-        }
-        let rows = rows(alloc, shelf, columns, field, asked)?;
-        out.and(&rows);
-        self.keep(alloc, shelf, field, asked, rows)
+        let rows = rows(alloc, cache, columns, field, asked)?;
+        out.join(joining, &rows);
+        self.keep(alloc, cache, field, asked, rows)
     }
 
     // What is known of the entry in the field.
-    fn find(&self, place: usize, field: Field, asked: &Asked<'c>) -> Option<&Mask>
+    fn find(&self, field: Field, asked: &Asked<'c>) -> Option<&Mask>
         ensures { (events : List Event) → AreRight events self.now → IfSome result (λ rows. rows.now ≡ met_in field asked.now.entry.now events) }
     {
-        let count = *self.index.get(place)? as usize;
+        let count = *self.index.get(asked.place)? as usize;
         match self.known.get(count.wrapping_sub(1)) {
             Some(answer) if answer.is_of(field, asked.entry) => Some(&answer.rows),
             _ => None,
@@ -124,7 +98,7 @@ impl<'c> Answers<'c> {
     fn keep(
         &mut self,
         alloc: Global,
-        shelf: &Shelf<'c>,
+        cache: &MatcherCache<'c>,
         field: Field,
         asked: &Asked<'c>,
         rows: Mask,
@@ -138,16 +112,21 @@ impl<'c> Answers<'c> {
             rows,
         };
         self.known.push(answer)?;
-        self.note_last(alloc, shelf, place(shelf, field, asked))
+        self.note_last(alloc, cache, asked.place)
     }
 
     // The answer that came last stands at this place.
-    fn note_last(&mut self, alloc: Global, shelf: &Shelf<'c>, place: usize) -> Result<(), Memory>
+    fn note_last(
+        &mut self,
+        alloc: Global,
+        cache: &MatcherCache<'c>,
+        place: usize,
+    ) -> Result<(), Memory>
         ensures known { self.new.known.items ≡ self.old.known.items }
         ensures approvals { self.new.approvals ≡ self.old.approvals }
     {
         if self.index.is_empty() {
-            self.index = vec![in alloc; 0; places(shelf)]?;
+            self.index = vec![in alloc; 0; cache.questions()]?;
         }
         if let Some(count) = self.index.get_mut(place) {
             *count = u32::try_from(self.known.len()).unwrap_or(0);
@@ -159,7 +138,7 @@ impl<'c> Answers<'c> {
 // The rows whose field meets the entry, and so each entry of its texts.
 fn rows<'c>(
     alloc: Global,
-    shelf: &Shelf<'c>,
+    cache: &MatcherCache<'c>,
     columns: &Columns<'_>,
     field: Field,
     asked: &Asked<'c>,
@@ -167,38 +146,11 @@ fn rows<'c>(
     ensures { IfOk result (λ rows. HoldsOfEntry (texts_of_entry asked.now.entry.now) (λ entry. rows ≡ met_in field entry columns.now)) }
 {
     texts_mark_their_events();
-    shelf.rows(
+    cache.rows(
         alloc,
         asked,
         reach_in(field),
         columns.texts(field),
         columns.column(field),
     )
-}
-
-// How many places there are: two for each pattern and field.
-fn places(shelf: &Shelf<'_>) -> usize {
-    shelf.len().saturating_mul(14)
-}
-
-// Where the answer of an entry is found: behind the numbers of all patterns for each field before this one, and for each pattern
-// there are two.
-fn place(shelf: &Shelf<'_>, field: Field, asked: &Asked<'_>) -> usize {
-    field_place(field)
-        .wrapping_mul(shelf.len())
-        .wrapping_add(asked.number)
-        .wrapping_mul(2)
-        .wrapping_add(usize::from(asked.entry.negate))
-}
-
-fn field_place(field: Field) -> usize {
-    match field {
-        Field::Kind => 0,
-        Field::Project => 1,
-        Field::Branch => 2,
-        Field::Refname => 3,
-        Field::Username => 4,
-        Field::Email => 5,
-        Field::Comment => 6,
-    }
 }

@@ -35,12 +35,12 @@ impl<'c> Program<'c> {
         ensures gens { IfOk result (λ program. gens_of program ≡ gens.entry.now) }
         ensures tenant { IfOk result (λ program. tenant_of program ≡ tenant.0) }
     {
-        let shelf = matchers(alloc, gens, tenant)?;
-        let table = table(alloc, gens, tenant, &shelf)?;
+        let cache = matchers(alloc, gens, tenant)?;
+        let table = table(alloc, gens, tenant, &cache)?;
         Ok(Program {
             gens,
             tenant,
-            shelf,
+            cache,
             table,
         })
     }
@@ -50,7 +50,7 @@ impl<'c> Program<'c> {
     /// and 0 where it doesn't. `Memory` where the masks, or what the searches need, find no room.
     ///
     /// Each entry is tried once on each distinct text of the batch, and only where a rule of a connection and a generation that
-    /// are in the batch asks for it.
+    /// are in the batch asks for it. A batch's answers have an index of four bytes for each different entry.
     pub fn select(
         &self,
         alloc: Global,
@@ -144,7 +144,7 @@ impl<'c> Program<'c> {
         match self.find(active.generation, pipeline, active.conn) {
             Some(rules) => add_meeting(
                 alloc,
-                &self.shelf,
+                &self.cache,
                 columns,
                 rules,
                 answers,
@@ -155,10 +155,10 @@ impl<'c> Program<'c> {
                 let config = self.gens.generation(active.generation);
                 let conn = ConnId(active.conn);
                 let rules = config.rules(self.tenant, PipelineId(pipeline), conn);
-                let rules = compile(alloc, &self.shelf, rules)?;
+                let rules = compile(alloc, &self.cache, rules)?;
                 add_meeting(
                     alloc,
-                    &self.shelf,
+                    &self.cache,
                     columns,
                     rules.as_slice(),
                     answers,

@@ -4,7 +4,8 @@ ghost use Rattle.gate_match.specs.Inner.Narrowing.{entries_of};
 
 use crate::asked::Asked;
 use crate::compiled::Compiled;
-use crate::shelf::Shelf;
+use crate::matcher_cache::MatcherCache;
+use gate_intern::Field;
 use gate_record::Memory;
 use gate_rule::{Entry, Rule};
 use std::alloc::Global;
@@ -12,31 +13,31 @@ use std::alloc::Global;
 // The rules of a connection, in order.
 pub(crate) fn compile<'c>(
     alloc: Global,
-    shelf: &Shelf<'c>,
+    cache: &MatcherCache<'c>,
     rules: &'c [Rule],
 ) -> Result<Vec<Compiled<'c>>, Memory>
     ensures { IfOk result (λ compiled. rules_in compiled.items ≡ rules.entry.now) }
 {
     let mut compiled = Vec::with_capacity(alloc, rules.len())?;
     for rule in rules {
-        compiled.push(compile_rule(alloc, shelf, rule)?)?;
+        compiled.push(compile_rule(alloc, cache, rule)?)?;
     }
     Ok(compiled)
 }
 
 fn compile_rule<'c>(
     alloc: Global,
-    shelf: &Shelf<'c>,
+    cache: &MatcherCache<'c>,
     rule: &'c Rule,
 ) -> Result<Compiled<'c>, Memory>
     ensures { IfOk result (λ compiled. rule_of compiled ≡ rule.entry.now) }
 {
-    let event = all_asked(alloc, shelf, rule.event.as_slice())?;
-    let branch = all_asked(alloc, shelf, rule.branch.as_slice())?;
-    let refname = all_asked(alloc, shelf, rule.refname.as_slice())?;
-    let username = all_asked(alloc, shelf, rule.username.as_slice())?;
-    let email = all_asked(alloc, shelf, rule.email.as_slice())?;
-    let comment = all_asked(alloc, shelf, rule.comment.as_slice())?;
+    let event = all_asked(alloc, cache, Field::Kind, rule.event.as_slice())?;
+    let branch = all_asked(alloc, cache, Field::Branch, rule.branch.as_slice())?;
+    let refname = all_asked(alloc, cache, Field::Refname, rule.refname.as_slice())?;
+    let username = all_asked(alloc, cache, Field::Username, rule.username.as_slice())?;
+    let email = all_asked(alloc, cache, Field::Email, rule.email.as_slice())?;
+    let comment = all_asked(alloc, cache, Field::Comment, rule.comment.as_slice())?;
     Ok(Compiled {
         event,
         branch,
@@ -51,14 +52,15 @@ fn compile_rule<'c>(
 
 fn all_asked<'c>(
     alloc: Global,
-    shelf: &Shelf<'c>,
+    cache: &MatcherCache<'c>,
+    field: Field,
     entries: &'c [Entry],
 ) -> Result<Vec<Asked<'c>>, Memory>
     ensures { IfOk result (λ asked. entries_of asked.items ≡ entries.entry.now) }
 {
     let mut asked = Vec::with_capacity(alloc, entries.len())?;
     for entry in entries {
-        asked.push(shelf.asked(entry))?;
+        asked.push(cache.asked(field, entry))?;
     }
     Ok(asked)
 }
@@ -66,20 +68,25 @@ fn all_asked<'c>(
 // Makes the matchers of the patterns in a rule's entries, where their texts have none.
 pub(crate) fn keep_rule<'c>(
     alloc: Global,
-    shelf: &mut Shelf<'c>,
+    cache: &mut MatcherCache<'c>,
     rule: &'c Rule,
 ) -> Result<(), Memory> {
-    keep_all(alloc, shelf, rule.event.as_slice())?;
-    keep_all(alloc, shelf, rule.branch.as_slice())?;
-    keep_all(alloc, shelf, rule.refname.as_slice())?;
-    keep_all(alloc, shelf, rule.username.as_slice())?;
-    keep_all(alloc, shelf, rule.email.as_slice())?;
-    keep_all(alloc, shelf, rule.comment.as_slice())
+    keep_all(alloc, cache, Field::Kind, rule.event.as_slice())?;
+    keep_all(alloc, cache, Field::Branch, rule.branch.as_slice())?;
+    keep_all(alloc, cache, Field::Refname, rule.refname.as_slice())?;
+    keep_all(alloc, cache, Field::Username, rule.username.as_slice())?;
+    keep_all(alloc, cache, Field::Email, rule.email.as_slice())?;
+    keep_all(alloc, cache, Field::Comment, rule.comment.as_slice())
 }
 
-fn keep_all<'c>(alloc: Global, shelf: &mut Shelf<'c>, entries: &'c [Entry]) -> Result<(), Memory> {
+fn keep_all<'c>(
+    alloc: Global,
+    cache: &mut MatcherCache<'c>,
+    field: Field,
+    entries: &'c [Entry],
+) -> Result<(), Memory> {
     for entry in entries {
-        shelf.keep(alloc, &entry.pattern)?;
+        cache.keep(alloc, field, entry)?;
     }
     Ok(())
 }

@@ -7,8 +7,8 @@ ghost use Rattle.gate_match.specs.Inner.Narrowing.{meeting_any};
 use crate::answers::Answers;
 use crate::compiled::Compiled;
 use crate::mask::Mask;
+use crate::matcher_cache::MatcherCache;
 use crate::narrowing::narrow;
-use crate::shelf::Shelf;
 use gate_intern::Columns;
 use gate_record::Memory;
 use std::alloc::Global;
@@ -16,7 +16,7 @@ use std::alloc::Global;
 // Adds of these rows those that meet one of the rules.
 pub(crate) fn add_meeting<'c>(
     alloc: Global,
-    shelf: &Shelf<'c>,
+    cache: &MatcherCache<'c>,
     columns: &Columns<'_>,
     rules: &[Compiled<'c>],
     answers: &mut Answers<'c>,
@@ -33,7 +33,7 @@ pub(crate) fn add_meeting<'c>(
     let mut met = Mask::none(alloc, columns.rows())?;
     for rule in rules {
         met.copy_from(rows);
-        narrow(alloc, shelf, columns, rule, answers, &mut met)?;
+        narrow(alloc, cache, columns, rule, answers, &mut met)?;
         out.or(&met);
     }
     Ok(())

@@ -12,11 +12,11 @@ mod joining;
 mod kept;
 mod listed;
 mod mask;
+mod matcher_cache;
 mod narrowing;
 mod program;
 mod reach;
 mod rules_of_conn;
-mod shelf;
 mod table;
 
 pub use program::Program;

@@ -1,12 +1,20 @@
 ghost use Rattle.std.specs.Prelude.{◌≡◌, ◌%◌, IfOk, false, length, map, not, replicate};
 ghost use Rattle.std.specs.List.{range_with_len};
 ghost use Rattle.gate_lanes.specs.Masks.{is_among, is_in_row};
+ghost use Rattle.gate_match.specs.Inner.Joined.{joined};
 ghost use Rattle.gate_match.specs.Inner.Marks.{both, either, marks_any, marks_of, without, words_of};
 
 use gate_lanes::{and_into, clear_where, count, mark_any, mark_slots, or_into};
 use gate_record::Memory;
 use std::alloc::Global;
 use std::marker::Model;
+
+// How a mask takes another one in: by the rows that both mark, or by those that either does.
+#[derive(Clone, Copy, Drop)]
+pub(crate) enum Joining {
+    Both,
+    Either,
+}
 
 // A mask of a batch, which contracts see as whether each row is marked.
 #[derive(Drop)]
@@ -85,6 +93,18 @@ impl Mask {
         ensures len { length self.new ≡ length self.old }
     {
         or_into(self.words.as_mut_slice(), other.words.as_slice());
+    }
+
+    // Takes the other one in.
+    pub(crate) fn join(&mut self, joining: Joining, other: &Mask)
+        requires { length other.now ≡ length self.old }
+        ensures value { self.new ≡ joined joining self.old other.now }
+        ensures len { length self.new ≡ length self.old }
+    {
+        match joining {
+            Joining::Both => self.and(other),
+            Joining::Either => self.or(other),
+        }
     }
 
     // Takes away the rows that the words mark.

@@ -7,8 +7,8 @@ ghost use Rattle.gate_match.specs.Inner.Narrowing.{any_met_in, approved, meeting
 use crate::answers::Answers;
 use crate::asked::Asked;
 use crate::compiled::Compiled;
-use crate::mask::Mask;
-use crate::shelf::Shelf;
+use crate::mask::{Joining, Mask};
+use crate::matcher_cache::MatcherCache;
 use gate_intern::{Columns, Field};
 use gate_record::{Memory, Text};
 use std::alloc::Global;
@@ -16,7 +16,7 @@ use std::alloc::Global;
 // Leaves of the rows those whose event meets the rule. Where none is left, nothing that remains of the rule is looked for.
 pub(crate) fn narrow<'c>(
     alloc: Global,
-    shelf: &Shelf<'c>,
+    cache: &MatcherCache<'c>,
     columns: &Columns<'_>,
     rule: &Compiled<'c>,
     answers: &mut Answers<'c>,
@@ -28,16 +28,16 @@ pub(crate) fn narrow<'c>(
     ensures len { length out.new ≡ length columns.now }
     ensures leaves { OnOk result (out.new ≡ both out.old (meeting (rule_of rule.now) columns.now)) }
 {
-    narrow_front(alloc, shelf, columns, rule, answers, out)?;
+    narrow_front(alloc, cache, columns, rule, answers, out)?;
     if out.is_none() {
         return Ok(());
     }
-    narrow_rest(alloc, shelf, columns, rule, answers, out)
+    narrow_rest(alloc, cache, columns, rule, answers, out)
 }
 
 fn narrow_front<'c>(
     alloc: Global,
-    shelf: &Shelf<'c>,
+    cache: &MatcherCache<'c>,
     columns: &Columns<'_>,
     rule: &Compiled<'c>,
     answers: &mut Answers<'c>,
@@ -51,7 +51,7 @@ fn narrow_front<'c>(
 {
     narrow_in(
         alloc,
-        shelf,
+        cache,
         columns,
         Field::Kind,
         rule.event.as_slice(),
@@ -63,7 +63,7 @@ fn narrow_front<'c>(
     }
     narrow_in(
         alloc,
-        shelf,
+        cache,
         columns,
         Field::Branch,
         rule.branch.as_slice(),
@@ -75,7 +75,7 @@ fn narrow_front<'c>(
     }
     narrow_in(
         alloc,
-        shelf,
+        cache,
         columns,
         Field::Refname,
         rule.refname.as_slice(),
@@ -86,7 +86,7 @@ fn narrow_front<'c>(
 
 fn narrow_rest<'c>(
     alloc: Global,
-    shelf: &Shelf<'c>,
+    cache: &MatcherCache<'c>,
     columns: &Columns<'_>,
     rule: &Compiled<'c>,
     answers: &mut Answers<'c>,
@@ -100,7 +100,7 @@ fn narrow_rest<'c>(
 {
     narrow_in(
         alloc,
-        shelf,
+        cache,
         columns,
         Field::Username,
         rule.username.as_slice(),
@@ -109,7 +109,7 @@ fn narrow_rest<'c>(
     )?;
     narrow_left_in(
         alloc,
-        shelf,
+        cache,
         columns,
         Field::Email,
         rule.email.as_slice(),
@@ -118,7 +118,7 @@ fn narrow_rest<'c>(
     )?;
     narrow_left_in(
         alloc,
-        shelf,
+        cache,
         columns,
         Field::Comment,
         rule.comment.as_slice(),
@@ -133,7 +133,7 @@ fn narrow_rest<'c>(
 // Leaves of the rows those whose field meets one of the entries. With no entry all stay.
 fn narrow_in<'c>(
     alloc: Global,
-    shelf: &Shelf<'c>,
+    cache: &MatcherCache<'c>,
     columns: &Columns<'_>,
     field: Field,
     asked: &[Asked<'c>],
@@ -150,9 +150,9 @@ fn narrow_in<'c>(
         return Ok(());
     }
     if let [one] = asked {
-        return answers.leave(alloc, shelf, columns, field, one, out);
+        return answers.join(alloc, cache, columns, field, one, Joining::Both, out);
     }
-    let met = any_met(alloc, shelf, columns, field, asked, answers)?;
+    let met = any_met(alloc, cache, columns, field, asked, answers)?;
     out.and(&met);
     Ok(())
 }
@@ -160,7 +160,7 @@ fn narrow_in<'c>(
 // The same where rows are left: where none is, nothing is looked for.
 fn narrow_left_in<'c>(
     alloc: Global,
-    shelf: &Shelf<'c>,
+    cache: &MatcherCache<'c>,
     columns: &Columns<'_>,
     field: Field,
     asked: &[Asked<'c>],
@@ -176,13 +176,13 @@ fn narrow_left_in<'c>(
     if out.is_none() {
         return Ok(());
     }
-    narrow_in(alloc, shelf, columns, field, asked, answers, out)
+    narrow_in(alloc, cache, columns, field, asked, answers, out)
 }
 
 // The rows whose field meets one of the entries.
 fn any_met<'c>(
     alloc: Global,
-    shelf: &Shelf<'c>,
+    cache: &MatcherCache<'c>,
     columns: &Columns<'_>,
     field: Field,
     asked: &[Asked<'c>],
@@ -194,7 +194,7 @@ fn any_met<'c>(
 {
     let mut met = Mask::none(alloc, columns.rows())?;
     for one in asked {
-        answers.add(alloc, shelf, columns, field, one, &mut met)?;
+        answers.join(alloc, cache, columns, field, one, Joining::Either, &mut met)?;
     }
     Ok(met)
 }

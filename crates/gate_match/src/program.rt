@@ -1,7 +1,7 @@
 ghost use Rattle.gate_match.specs.Inner.Tables.{AreOfGenerations};
 
+use crate::matcher_cache::MatcherCache;
 use crate::rules_of_conn::RulesOfConn;
-use crate::shelf::Shelf;
 use gate_config::Generations;
 use gate_record::TenantId;
 
@@ -11,7 +11,7 @@ use gate_record::TenantId;
 pub struct Program<'c> {
     pub(crate) gens: &'c Generations,
     pub(crate) tenant: TenantId,
-    pub(crate) shelf: Shelf<'c>,
+    pub(crate) cache: MatcherCache<'c>,
     pub(crate) table: Vec<RulesOfConn<'c>>,
     ghost compiled: { AreOfGenerations gens.now tenant.0 table.items },
 }

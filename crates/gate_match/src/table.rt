@@ -2,8 +2,8 @@ ghost use Rattle.std.specs.Prelude.{IfOk, OnOk};
 ghost use Rattle.gate_match.specs.Inner.Tables.{AreOfGenerations};
 
 use crate::compiling::{compile, keep_rule};
+use crate::matcher_cache::MatcherCache;
 use crate::rules_of_conn::RulesOfConn;
-use crate::shelf::Shelf;
 use gate_config::{Config, Generations};
 use gate_record::{ConnId, Memory, PipelineId, TenantId};
 use gate_rule::Rule;
@@ -14,32 +14,36 @@ pub(crate) fn matchers<'c>(
     alloc: Global,
     gens: &'c Generations,
     tenant: TenantId,
-) -> Result<Shelf<'c>, Memory> {
-    let mut shelf = Shelf::new(alloc);
+) -> Result<MatcherCache<'c>, Memory> {
+    let mut cache = MatcherCache::new(alloc);
     for generation in 0..gens.count() {
-        keep_generation(alloc, &mut shelf, gens.generation(generation), tenant)?;
+        keep_generation(alloc, &mut cache, gens.generation(generation), tenant)?;
     }
-    Ok(shelf)
+    Ok(cache)
 }
 
 fn keep_generation<'c>(
     alloc: Global,
-    shelf: &mut Shelf<'c>,
+    cache: &mut MatcherCache<'c>,
     config: &'c Config,
     tenant: TenantId,
 ) -> Result<(), Memory> {
     for pipeline in 0..pipelines(config, tenant) {
         for conn in 0..connections(config) {
             let rules = config.rules(tenant, PipelineId(pipeline), ConnId(conn));
-            keep_rules(alloc, shelf, rules)?;
+            keep_rules(alloc, cache, rules)?;
         }
     }
     Ok(())
 }
 
-fn keep_rules<'c>(alloc: Global, shelf: &mut Shelf<'c>, rules: &'c [Rule]) -> Result<(), Memory> {
+fn keep_rules<'c>(
+    alloc: Global,
+    cache: &mut MatcherCache<'c>,
+    rules: &'c [Rule],
+) -> Result<(), Memory> {
     for rule in rules {
-        keep_rule(alloc, shelf, rule)?;
+        keep_rule(alloc, cache, rule)?;
     }
     Ok(())
 }
@@ -49,13 +53,13 @@ pub(crate) fn table<'c>(
     alloc: Global,
     gens: &'c Generations,
     tenant: TenantId,
-    shelf: &Shelf<'c>,
+    cache: &MatcherCache<'c>,
 ) -> Result<Vec<RulesOfConn<'c>>, Memory>
     ensures { IfOk result (λ table. AreOfGenerations gens.entry.now tenant.0 table.items) }
 {
     let mut table = Vec::new(alloc);
     for generation in 0..gens.count() {
-        push_generation(alloc, gens, tenant, generation, shelf, &mut table)?;
+        push_generation(alloc, gens, tenant, generation, cache, &mut table)?;
     }
     Ok(table)
 }
@@ -65,14 +69,14 @@ fn push_generation<'c>(
     gens: &'c Generations,
     tenant: TenantId,
     generation: u32,
-    shelf: &Shelf<'c>,
+    cache: &MatcherCache<'c>,
     table: &mut Vec<RulesOfConn<'c>>,
 ) -> Result<(), Memory>
     requires { AreOfGenerations gens.now tenant.0 table.old.items }
     ensures { OnOk result (AreOfGenerations gens.entry.now tenant.0 table.new.items) }
 {
     for pipeline in 0..pipelines(gens.first(), tenant) {
-        push_pipeline(alloc, gens, tenant, generation, pipeline, shelf, table)?;
+        push_pipeline(alloc, gens, tenant, generation, pipeline, cache, table)?;
     }
     Ok(())
 }
@@ -83,14 +87,14 @@ fn push_pipeline<'c>(
     tenant: TenantId,
     generation: u32,
     pipeline: u32,
-    shelf: &Shelf<'c>,
+    cache: &MatcherCache<'c>,
     table: &mut Vec<RulesOfConn<'c>>,
 ) -> Result<(), Memory>
     requires { AreOfGenerations gens.now tenant.0 table.old.items }
     ensures { OnOk result (AreOfGenerations gens.entry.now tenant.0 table.new.items) }
 {
     for conn in 0..connections(gens.first()) {
-        table.push(rules_of_conn(alloc, gens, tenant, generation, pipeline, conn, shelf)?)?;
+        table.push(rules_of_conn(alloc, gens, tenant, generation, pipeline, conn, cache)?)?;
     }
     Ok(())
 }
@@ -105,13 +109,13 @@ fn rules_of_conn<'c>(
     generation: u32,
     pipeline: u32,
     conn: u32,
-    shelf: &Shelf<'c>,
+    cache: &MatcherCache<'c>,
 ) -> Result<RulesOfConn<'c>, Memory>
     ensures { IfOk result (λ entry. IsOfGenerations gens.entry.now tenant.0 entry) }
 {
     let config = gens.generation(generation);
     let rules = config.rules(tenant, PipelineId(pipeline), ConnId(conn));
-    let rules = compile(alloc, shelf, rules)?;
+    let rules = compile(alloc, cache, rules)?;
     Ok(RulesOfConn {
         generation,
         pipeline,

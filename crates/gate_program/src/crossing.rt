@@ -6,7 +6,7 @@ use gate_run::generations_cross;
 
 /// A journal and what stops its run may be given to another thread.
 #[tactic(auto, using(crate::proofs::Sendings::journaling_send))]
-pub fn journaling_crosses()
+pub(crate) fn journaling_crosses()
     ensures send { IsSend journaling_type.the_row }
 {
     generations_cross();

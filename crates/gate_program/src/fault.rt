@@ -1,5 +1,5 @@
 ghost use Rattle.std.specs.Prelude.{◌≡◌};
-ghost use Rattle.gate_program.specs.Faults.{status_of};
+ghost use Rattle.gate_program.specs.Inner.Faults.{status_of};
 
 use gate_config::GenerationFault;
 use gate_core::ReplayFault;
@@ -10,7 +10,7 @@ use std::fmt;
 
 /// Why the program did not do what its words ask for. Its text stands on standard error behind `fault: `.
 #[derive(Debug, Drop)]
-pub enum Fault {
+pub(crate) enum Fault {
     /// Memory was refused.
     Memory,
     /// A file that can't be read; `-` is standard input.
@@ -38,7 +38,7 @@ pub enum Fault {
 
 impl Fault {
     /// The exit status: 1 for a fault while running, 2 for the command line, 3 for a configuration or a script.
-    pub fn status(&self) -> u8
+    pub(crate) fn status(&self) -> u8
         ensures { result ≡ status_of self.now }
     {
         match self {

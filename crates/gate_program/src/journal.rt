@@ -11,7 +11,7 @@ use std::rt::Files;
 
 /// Why a journal has no lines of what came later.
 #[derive(Clone, Copy, Debug, PartialEq, Eq)]
-pub enum JournalFault {
+pub(crate) enum JournalFault {
     /// Its file can't be opened or written.
     File,
     /// Memory was refused.
@@ -20,7 +20,7 @@ pub enum JournalFault {
 
 /// A journal that is written, until a line of it can't be.
 #[derive(Drop)]
-pub struct Journal {
+pub(crate) struct Journal {
     alloc: Global,
     gens: Shared<Generations>,
     file: File,
@@ -33,7 +33,7 @@ pub struct Journal {
 
 /// Opens the file of a journal, which is made where it is missing and appended to, and writes the line with which a run begins. A FIFO
 /// waits for its reader.
-pub fn open_journal<X: Files<File = File> + AllocGlobal>(
+pub(crate) fn open_journal<X: Files<File = File> + AllocGlobal>(
     rt: &X,
     path: &str,
 ) -> Result<File, JournalFault> {
@@ -60,7 +60,7 @@ impl From<Memory> for JournalFault {
 
 impl Journal {
     /// The journal of a run of these generations, whose pipelines begin with no items.
-    pub fn new(
+    pub(crate) fn new(
         alloc: Global,
         gens: Shared<Generations>,
         file: File,
@@ -77,7 +77,7 @@ impl Journal {
     }
 
     /// Writes the lines of a pipeline's next action, by the items behind it. The stamp is that of a trigger event.
-    pub fn tell(
+    pub(crate) fn tell(
         &mut self,
         tenant: TenantId,
         pipeline: PipelineId,
@@ -114,7 +114,7 @@ impl Journal {
     }
 
     /// Writes the line behind which nothing comes of a pipeline.
-    pub fn end(&mut self, tenant: TenantId, pipeline: PipelineId, finished: bool) {
+    pub(crate) fn end(&mut self, tenant: TenantId, pipeline: PipelineId, finished: bool) {
         if self.fault.is_some() {
             return;
         }
@@ -129,7 +129,7 @@ impl Journal {
     }
 
     /// Why lines are missing, if any are.
-    pub fn fault(&self) -> Option<JournalFault> {
+    pub(crate) fn fault(&self) -> Option<JournalFault> {
         self.fault
     }
 

@@ -9,7 +9,7 @@ use std::sync::{Mutex, Wait};
 
 /// A journal, and what asks the run to stop where a line of it can't be written.
 #[derive(Drop)]
-pub struct Journaling {
+pub(crate) struct Journaling {
     journal: Journal,
     stopper: Stopper,
     // Whether it was asked.
@@ -18,7 +18,7 @@ pub struct Journaling {
 
 impl Journaling {
     /// A journal of a run that this stops.
-    pub fn new(journal: Journal, stopper: Stopper) -> Journaling {
+    pub(crate) fn new(journal: Journal, stopper: Stopper) -> Journaling {
         Journaling {
             journal,
             stopper,
@@ -27,7 +27,7 @@ impl Journaling {
     }
 
     /// Why lines are missing, if any are.
-    pub fn fault(&self) -> Option<JournalFault> {
+    pub(crate) fn fault(&self) -> Option<JournalFault> {
         self.journal.fault()
     }
 
@@ -42,14 +42,17 @@ impl Journaling {
 /// A gate that keeps a board, and a journal where there is one. A call waits for the locks of both; its time grows with what the action
 /// changed, and not with what the pipeline has.
 #[derive(Drop)]
-pub struct JournalGate<'a> {
+pub(crate) struct JournalGate<'a> {
     board: BoardGate<'a>,
     journal: Option<&'a Mutex<Journaling>>,
 }
 
 impl<'a> JournalGate<'a> {
     /// The gate of a board and a journal.
-    pub fn new(board: BoardGate<'a>, journal: Option<&'a Mutex<Journaling>>) -> JournalGate<'a> {
+    pub(crate) fn new(
+        board: BoardGate<'a>,
+        journal: Option<&'a Mutex<Journaling>>,
+    ) -> JournalGate<'a> {
         JournalGate { board, journal }
     }
 }

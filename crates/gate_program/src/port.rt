@@ -10,7 +10,7 @@ use std::rt::Files;
 use std::time::Clock;
 
 /// Reads the word STATUS: where the port is to be, if there is to be one. `Usage` for a word of another form.
-pub fn port_address(word: &str) -> Result<Option<Address<'_>>, Fault> {
+pub(crate) fn port_address(word: &str) -> Result<Option<Address<'_>>, Fault> {
     match Address::of(word) {
         None if word == "none" => Ok(None),
         None | Some(Address::File(_)) => Err(Fault::Usage),
@@ -20,7 +20,7 @@ pub fn port_address(word: &str) -> Result<Option<Address<'_>>, Fault> {
 
 /// What is listened on.
 #[derive(Drop)]
-pub enum Port {
+pub(crate) enum Port {
     /// A TCP address.
     Tcp(TcpListener),
     /// A Unix socket.
@@ -29,14 +29,14 @@ pub enum Port {
 
 /// A port that is listened on, and its file, if it has one.
 #[derive(Drop)]
-pub struct Listening<'a> {
-    pub port: Port,
-    pub file: Option<SocketFile<'a>>,
+pub(crate) struct Listening<'a> {
+    pub(crate) port: Port,
+    pub(crate) file: Option<SocketFile<'a>>,
 }
 
 impl<'a> Listening<'a> {
     /// Listens at an address: `SocketFile::listen` has what becomes of a Unix socket's file.
-    pub fn at<X>(rt: &X, address: Address<'a>) -> io::Result<Listening<'a>>
+    pub(crate) fn at<X>(rt: &X, address: Address<'a>) -> io::Result<Listening<'a>>
     where
         X: Files<File = File> + Net<Stream = TcpStream, Listener = TcpListener> + Clock,
     {

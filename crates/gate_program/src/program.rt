@@ -1,6 +1,6 @@
 ghost use Rattle.std.specs.Prelude.{◌≡◌, ◌≢◌, ◌≤◌};
 ghost use Rattle.std.specs.IoError.{error_kind};
-ghost use Rattle.gate_program.specs.Faults.{status_of};
+ghost use Rattle.gate_program.specs.Inner.Faults.{status_of};
 
 use crate::fault::Fault;
 use crate::replayed::write_replayed;

@@ -11,7 +11,7 @@ use std::fs::File;
 type Turn = Option<(TenantId, PipelineId)>;
 
 /// Writes the journal of a script that was replayed before, with the ends of the pipelines behind its last step.
-pub fn write_replayed(
+pub(crate) fn write_replayed(
     alloc: Global,
     documents: &[Vec<u8>],
     script: &[u8],

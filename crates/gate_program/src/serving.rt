@@ -28,11 +28,11 @@ use std::time::Clock;
 
 /// What a run has come to.
 #[derive(Drop)]
-pub struct Ran {
+pub(crate) struct Ran {
     /// The report.
-    pub report: String,
+    pub(crate) report: String,
     /// Why the journal has no lines of what came last, if it hasn't.
-    pub fault: Option<JournalFault>,
+    pub(crate) fault: Option<JournalFault>,
 }
 
 /// Runs the configuration of these documents, a generation each, over the streams of these words, with a port where STATUS asks for
@@ -40,7 +40,7 @@ pub struct Ran {
 ///
 /// The faults come in this order: those of the documents; `Usage` for STATUS; `Source` for the words; `Listen`; `Journal`; `File` and
 /// `Connect` for the streams, in the order of their words; `Thread`. `Memory` where it is refused.
-pub fn serve_words<X>(
+pub(crate) fn serve_words<X>(
     rt: &X,
     documents: &[Vec<u8>],
     status: &str,
@@ -98,7 +98,7 @@ where
 }
 
 /// Opens a journal, if there is to be one, and writes the line of a start. `Journal` where that can't be done.
-pub fn journal_file<X: Files<File = File> + AllocGlobal>(
+pub(crate) fn journal_file<X: Files<File = File> + AllocGlobal>(
     rt: &X,
     path: Option<&str>,
 ) -> Result<Option<File>, Fault> {
@@ -112,7 +112,7 @@ pub fn journal_file<X: Files<File = File> + AllocGlobal>(
 }
 
 /// The fault of the program where a journal has one.
-pub fn journal_fault(alloc: Global, path: &str, fault: JournalFault) -> Fault {
+pub(crate) fn journal_fault(alloc: Global, path: &str, fault: JournalFault) -> Fault {
     match (fault, String::from_str(alloc, path)) {
         (JournalFault::File, Ok(path)) => Fault::Journal(path),
         _ => Fault::Memory,

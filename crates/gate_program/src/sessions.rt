@@ -16,7 +16,7 @@ use std::{io, thread};
 
 /// The sessions of a port, each of which reads and posts by what all generations of a configuration have in common.
 #[derive(Drop)]
-pub struct Sessions {
+pub(crate) struct Sessions {
     port: Port,
     gens: Shared<Generations>,
     board: Shared<Mutex<Board>>,
@@ -32,7 +32,7 @@ const SECONDS: u64 = 60;
 
 impl Sessions {
     /// The sessions that a port will have.
-    pub fn new(
+    pub(crate) fn new(
         port: Port,
         gens: Shared<Generations>,
         board: Shared<Mutex<Board>>,
@@ -50,7 +50,7 @@ impl Sessions {
 
     /// Serves them in a thread of their own, one after the other, until a stop was asked for in one, however that session ends; then the
     /// thread hands the port back, on which it has listened all the while. `Thread` where none can be started.
-    pub fn start<X: Threads + Wait + Clock + Copy + Send + 'static>(
+    pub(crate) fn start<X: Threads + Wait + Clock + Copy + Send + 'static>(
         self,
         rt: &X,
         own: (X, Global),

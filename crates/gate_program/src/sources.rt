@@ -14,7 +14,7 @@ use std::rt::Files;
 
 /// The stream of a connection, as a word of the command line names it.
 #[derive(Clone, Copy, Debug)]
-pub struct Source<'a> {
+pub(crate) struct Source<'a> {
     /// The whole word.
     word: &'a str,
     /// The number of the connection.
@@ -24,7 +24,7 @@ pub struct Source<'a> {
 
 /// Reads the words `NAME=ADDRESS` of a configuration, in their order. `Source` with the first word that has another form, or
 /// whose name is no connection's or was there before, and else with the name of the first connection that has no word.
-pub fn sources_of<'a>(
+pub(crate) fn sources_of<'a>(
     alloc: Global,
     config: &Config,
     words: &'a [String],
@@ -66,7 +66,7 @@ fn has(sources: &[Source<'_>], conn: usize) -> bool {
 
 /// Opens the streams in the order of their words, and gives the feeds by connection number. `File` and `Connect` for the first that
 /// can't be opened, `Memory` where it is refused.
-pub fn open_feeds<X: Files<File = File> + Net<Stream = TcpStream> + AllocGlobal>(
+pub(crate) fn open_feeds<X: Files<File = File> + Net<Stream = TcpStream> + AllocGlobal>(
     rt: &X,
     config: &Config,
     sources: &[Source<'_>],

@@ -1,6 +1,6 @@
 ghost use Rattle.std.specs.Prelude.{◌≡◌, ◌≢◌};
 ghost use Rattle.std.specs.IoError.{error_kind};
-ghost use Rattle.gate_program.specs.Faults.{status_of};
+ghost use Rattle.gate_program.specs.Inner.Faults.{status_of};
 
 use crate::fault::Fault;
 use crate::port::port_address;
@@ -12,7 +12,7 @@ use std::io::ErrorKind;
 
 /// What the words of the command line ask for.
 #[derive(Debug, Drop)]
-pub enum Task {
+pub(crate) enum Task {
     /// To print what a configuration says, whose documents have these paths, a generation each.
     Check {
         config: Vec<String>,
@@ -34,7 +34,7 @@ pub enum Task {
 
 /// Reads the program's words, its name first. `Usage` for words that are no form that is known, `Memory` where memory
 /// is refused.
-pub fn task_of<'a>(alloc: Global, words: &'a [String]) -> Result<Task, Fault> {
+pub(crate) fn task_of<'a>(alloc: Global, words: &'a [String]) -> Result<Task, Fault> {
     let command = command(alloc)?;
     match command.try_get_matches_from(words) {
         Ok(matches) => task_in(alloc, &matches),
@@ -137,7 +137,7 @@ fn fault_of(error: &Error) -> Fault {
 }
 
 /// The fault where the words themselves can't be read, as one that isn't UTF-8.
-pub fn unread(error: &io::Error) -> Fault
+pub(crate) fn unread(error: &io::Error) -> Fault
     ensures memory { error_kind error.now ≡ ErrorKind.OutOfMemory → status_of result ≡ 1 }
     ensures usage { error_kind error.now ≢ ErrorKind.OutOfMemory → status_of result ≡ 2 }
 {

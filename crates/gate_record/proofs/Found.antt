@@ -96,6 +96,11 @@ pub two_keys : {A : Type 0} (f : Data → Option A) (key : List ℕ) (outer : Op
 two_keys f key None = refl
 two_keys f key (Some value) = refl
 
+-- what was looked up at the second
+pub at_two_keys : {A : Type 0} (f : Data → Option A) (key : List ℕ) (outer : Option Data) → option_and_then f (option_and_then (get key) outer) ≡ option_and_then f (option_and_then (at_path (key ∷ [])) outer)
+at_two_keys f key None = refl
+at_two_keys f key (Some value) = sym (one_key f (get key value))
+
 -- what is read of a value that may be there
 pub read_of : {A : Type 0} (f : Data → Option A) (place : Option (List Token)) (found : Option Data) (result : Option A)
     → (place ≡ None → result ≡ None) → ((tokens : List Token) (value : Data) → place ≡ Some tokens → Begins tokens value → result ≡ f value) → Finds place found → result ≡ option_and_then f found

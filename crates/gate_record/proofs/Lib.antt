@@ -10,5 +10,6 @@ pub mod Kept
 pub mod LineExamples
 pub mod Numbers
 pub mod Readings
+pub mod Several
 pub mod Taken
 pub mod Views

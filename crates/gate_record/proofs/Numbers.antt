@@ -5,11 +5,9 @@ use Rattle.std.specs.Result.{OkIff, result_ok}
 use Rattle.std.specs.Str.{all_ascii_digits}
 use Rattle.std.specs.Str.Parse.{ParsesSigned, digits_value}
 use Rattle.std.proofs.lemmas.Bool.{eqb-true, eqb-false, leb-true, ltb-true, le-leb, lt-ltb}
-use Rattle.std.proofs.lemmas.Str.Parse.{IsNumeralModel, numerals_by_value, tells_all_ascii_digits, parse_signed_minus, parse_signed_plain, parse_signed_plus}
+use Rattle.std.proofs.lemmas.Str.Parse.{parse_signed_minus, parse_signed_plain, parse_signed_plus}
 use Rattle.gate_record.specs.Numbers.{is_numeral, above_zero, below_zero, number_in}
-
-own : IsNumeralModel (λ ds. all_ascii_digits ds ≡ true) (digits_value 10)
-own = numerals_by_value _ tells_all_ascii_digits
+use Rattle.gate_record.proofs.Taken.{own}
 
 chosen : {E : Type 0} (r : Result ℤ E) (P : Type 0) (z : ℤ) (b : Bool) → OkIff r P z → (P → b ≡ true) → (b ≡ true → P) → result_ok r ≡ cond b (Some z) None
 chosen (Ok x) P z true h to from = ap Some h.1

@@ -8,7 +8,8 @@ use Rattle.std.proofs.lemmas.Float.Parse.{scan_numeral-text_of}
 use Rattle.fast_float.specs.Text.{Parts, minus, scan}
 use Rattle.serde_json.specs.Read.{number_from, number_of}
 
-own : IsNumeralModel (λ ds. all_ascii_digits ds ≡ true) (digits_value 10)
+-- digits have the value of the number that they write
+pub own : IsNumeralModel (λ ds. all_ascii_digits ds ≡ true) (digits_value 10)
 own = numerals_by_value _ tells_all_ascii_digits
 
 abbrev whole : List ℕ → Parts

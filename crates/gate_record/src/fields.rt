@@ -1,18 +1,20 @@
 // The fields of an event in a tape.
-ghost use Rattle.std.specs.Prelude.{◌≡◌, ◌≤◌, ◌++◌, IfOk, OnOk, List, codes, length, option_map, option_to_list, take};
+ghost use Rattle.std.specs.Prelude.{◌≡◌, ◌≤◌, ◌++◌, IfOk, OnOk, List, Option, codes, length, option_and_then, option_map, option_to_list, take};
 ghost use Rattle.std.specs.List.{filter_map};
+ghost use Rattle.std.specs.Option.{option_or};
 ghost use Rattle.serde_json.specs.Data.{Data};
-ghost use Rattle.serde_json.specs.Find.{get};
+ghost use Rattle.serde_json.specs.Find.{as_str, get};
 ghost use Rattle.gate_record.specs.Approvals.{approval_of, approvals_of};
-ghost use Rattle.gate_record.specs.Inner.Fields.{AreFields, account_in, label_of, labelled};
-ghost use Rattle.gate_record.specs.Reading.{account_of, event_of, project_of};
+ghost use Rattle.gate_record.specs.Inner.Fields.{AreFields, account_in, labelled};
+ghost use Rattle.gate_record.specs.Reading.{account_of, event_of};
 ghost use Rattle.gate_record.specs.Inner.Tapes.{Begins, Finds, GoesOn};
 ghost use Rattle.gate_record.specs.Limits.{most_approvals};
 
 use crate::approvals::{MAX_APPROVALS, category};
 use crate::event::Event;
+use crate::members::{three_members, three_members_in};
 use crate::memory::Memory;
-use crate::places::{items_at, member, next_of, number_at, number_in, text_at, text_in};
+use crate::places::{list_of, member, next_of, number_in, number_of, text_in, text_of};
 use crate::read::account;
 use crate::sequence::Sequence;
 use crate::text::Text;
@@ -84,44 +86,56 @@ fn copied(alloc: Global, text: Option<&str>) -> Result<Option<Text>, Memory>
     }
 }
 
-/// The event of a record's object, whose `type` is this text. `Memory` where a field finds no room.
-pub(crate) fn event(alloc: Global, object: &Element<'_, '_>, kind: &str) -> Result<Event, Memory>
-    ensures { (value : Data) → Begins object.now value → IfOk result (λ event. event ≡ event_of value kind.now) }
+/// The event of a record's object, whose `type`, `comment` and `approvals` were looked up. `Memory` where a field finds no room.
+pub(crate) fn event(
+    alloc: Global,
+    object: &Element<'_, '_>,
+    kind: &str,
+    comment: &Option<Element<'_, '_>>,
+    approvals: &Option<Element<'_, '_>>,
+) -> Result<Event, Memory>
+    ensures { (value : Data) → Begins object.now value → Finds comment.now (get (codes "comment") value) → Finds approvals.now (get (codes "approvals") value)
+        → IfOk result (λ event. event ≡ event_of value kind.now) }
 {
-    fields_of(object, kind).event(alloc, kind, approvals(alloc, object)?)
+    fields_of(object, kind, comment).event(alloc, kind, approvals_at(alloc, approvals)?)
 }
 
-// Each object is looked up once.
-fn fields_of<'a>(object: &Element<'_, 'a>, kind: &str) -> Fields<'a>
-    ensures { (value : Data) → Begins object.now value → AreFields value kind.now result }
+// The members of the change and of the update of a ref are gone through once each.
+fn fields_of<'a>(
+    object: &Element<'_, 'a>,
+    kind: &str,
+    comment: &Option<Element<'_, 'a>>,
+) -> Fields<'a>
+    ensures { (value : Data) → Begins object.now value → Finds comment.now (get (codes "comment") value) → AreFields value kind.now result }
 {
-    let change = member(object, "change");
-    let patch_set = member(object, "patchSet");
-    let ref_update = member(object, "refUpdate");
+    let (change, patch_set, ref_update) = three_members(object, "change", "patchSet", "refUpdate");
+    let (in_change, branch, number) = three_members_in(&change, "project", "branch", "number");
+    let (in_ref, refname, newrev) = three_members_in(&ref_update, "project", "refName", "newRev");
     let account = account_member(object, kind);
     Fields {
-        project: project(&change, &ref_update),
-        branch: text_in(&change, "branch"),
-        change: number_in(&change, "number"),
+        project: first_text(&in_change, &in_ref),
+        branch: text_of(&branch),
+        change: number_of(&number),
         patchset: number_in(&patch_set, "number"),
-        refname: text_in(&ref_update, "refName"),
-        newrev: text_in(&ref_update, "newRev"),
-        comment: text_at(object, "comment"),
+        refname: text_of(&refname),
+        newrev: text_of(&newrev),
+        comment: text_of(comment),
         username: text_in(&account, "username"),
         email: text_in(&account, "email"),
     }
 }
 
-fn project<'a>(
-    change: &Option<Element<'_, 'a>>,
-    ref_update: &Option<Element<'_, 'a>>,
+// The text that was looked up first, or else the other.
+fn first_text<'a>(
+    first: &Option<Element<'_, 'a>>,
+    second: &Option<Element<'_, 'a>>,
 ) -> Option<&'a str>
-    ensures { (value : Data) → Finds change.now (get (codes "change") value) → Finds ref_update.now (get (codes "refUpdate") value)
-        → option_map (λ t. t.now) result ≡ project_of value }
+    ensures { (one other : Option Data) → Finds first.now one → Finds second.now other
+        → option_map (λ t. t.now) result ≡ option_or (option_and_then as_str one) (option_and_then as_str other) }
 {
-    match text_in(change, "project") {
-        Some(name) => Some(name),
-        None => text_in(ref_update, "project"),
+    match text_of(first) {
+        Some(text) => Some(text),
+        None => text_of(second),
     }
 }
 
@@ -135,12 +149,15 @@ fn account_member<'t, 'a>(object: &Element<'t, 'a>, kind: &str) -> Option<Elemen
     }
 }
 
-// The first approvals of a record's object.
-fn approvals(alloc: Global, object: &Element<'_, '_>) -> Result<Sequence<(Text, i64)>, Memory>
-    ensures { (value : Data) → Begins object.now value → IfOk result (λ approvals. approvals ≡ approvals_of value) }
+// The first approvals of a record's object, of a list that was looked up.
+fn approvals_at(
+    alloc: Global,
+    list: &Option<Element<'_, '_>>,
+) -> Result<Sequence<(Text, i64)>, Memory>
+    ensures { (value : Data) → Finds list.now (get (codes "approvals") value) → IfOk result (λ approvals. approvals ≡ approvals_of value) }
 {
     let mut approvals = Sequence::empty(alloc);
-    match items_at(object, "approvals") {
+    match list_of(list) {
         Some(entries) => push_approvals(alloc, entries, &mut approvals)?,
         None => {}
     }
@@ -188,17 +205,8 @@ fn push_approval(
 fn approval(alloc: Global, entry: &Element<'_, '_>) -> Result<Option<(Text, i64)>, Memory>
     ensures { (value : Data) → Begins entry.now value → IfOk result (λ approval. approval ≡ approval_of value) }
 {
-    labelled(alloc, label(entry), number_at(entry, "value"))
-}
-
-// The name of an entry's label.
-fn label<'a>(entry: &Element<'_, 'a>) -> Option<&'a str>
-    ensures { (value : Data) → Begins entry.now value → option_map (λ t. t.now) result ≡ label_of value }
-{
-    match text_at(entry, "description") {
-        Some(label) => Some(label),
-        None => text_at(entry, "type"),
-    }
+    let (description, kind, vote) = three_members(entry, "description", "type", "value");
+    labelled(alloc, first_text(&description, &kind), number_of(&vote))
 }
 
 // The approval of this label and vote, where there are both.

@@ -9,6 +9,7 @@ mod fields;
 mod ids;
 mod laws;
 mod limits;
+mod members;
 mod memory;
 mod names;
 mod number;

@@ -1,8 +1,8 @@
 // What stands at a place of a tape, and at the keys of an object there.
-ghost use Rattle.std.specs.Prelude.{◌≡◌, ◌<◌, ◌∷◌, [], List, Option, OnSome, length, option_and_then, option_map};
+ghost use Rattle.std.specs.Prelude.{◌≡◌, ◌<◌, ◌∷◌, [], List, Option, OnSome, length, option_and_then, option_map, unwrap_or};
 ghost use Rattle.serde_json.specs.Data.{Data};
-ghost use Rattle.serde_json.specs.Find.{as_i64, as_number, as_str, get};
-ghost use Rattle.gate_record.specs.Json.{items_at, number_at, text_at};
+ghost use Rattle.serde_json.specs.Find.{as_array, as_i64, as_number, as_str, get};
+ghost use Rattle.gate_record.specs.Json.{items_in, number_at, text_at};
 ghost use Rattle.gate_record.specs.Numbers.{number_of};
 ghost use Rattle.gate_record.specs.Inner.Tapes.{Begins, Finds, Follows, GoesOn, Lists, items_of};
 
@@ -44,8 +44,8 @@ fn json_number(place: &Element<'_, '_>) -> Option<i64>
     }
 }
 
-/// The text at a key.
-pub(crate) fn text_at<'a>(outer: &Element<'_, 'a>, key: &str) -> Option<&'a str>
+// The text at a key.
+fn text_at<'a>(outer: &Element<'_, 'a>, key: &str) -> Option<&'a str>
     ensures { (value : Data) → Begins outer.now value → option_map (λ t. t.now) result ≡ text_at (key.now ∷ []) value }
 {
     match member(outer, key) {
@@ -54,8 +54,8 @@ pub(crate) fn text_at<'a>(outer: &Element<'_, 'a>, key: &str) -> Option<&'a str>
     }
 }
 
-/// The number at a key.
-pub(crate) fn number_at(outer: &Element<'_, '_>, key: &str) -> Option<i64>
+// The number at a key.
+fn number_at(outer: &Element<'_, '_>, key: &str) -> Option<i64>
     ensures { (value : Data) → Begins outer.now value → result ≡ number_at (key.now ∷ []) value }
 {
     match member(outer, key) {
@@ -64,12 +64,32 @@ pub(crate) fn number_at(outer: &Element<'_, '_>, key: &str) -> Option<i64>
     }
 }
 
-/// The values of the list at a key, if a list stands there.
-pub(crate) fn items_at<'t, 'a>(outer: &Element<'t, 'a>, key: &str) -> Option<Items<'t, 'a>>
-    ensures { (value : Data) → Begins outer.now value → Lists result (items_at (key.now ∷ []) value) }
+/// The text that was looked up, if a text stands there.
+pub(crate) fn text_of<'a>(place: &Option<Element<'_, 'a>>) -> Option<&'a str>
+    ensures { (found : Option Data) → Finds place.now found → option_map (λ t. t.now) result ≡ option_and_then as_str found }
 {
-    match member(outer, key) {
-        Some(place) => items(&place),
+    match place {
+        Some(place) => text(place),
+        None => None,
+    }
+}
+
+/// The number that was looked up, if one stands there.
+pub(crate) fn number_of(place: &Option<Element<'_, '_>>) -> Option<i64>
+    ensures { (found : Option Data) → Finds place.now found → result ≡ option_and_then number_of found }
+{
+    match place {
+        Some(place) => number(place),
+        None => None,
+    }
+}
+
+/// The values of the list that was looked up, if a list stands there.
+pub(crate) fn list_of<'t, 'a>(place: &Option<Element<'t, 'a>>) -> Option<Items<'t, 'a>>
+    ensures { (found : Option Data) → Finds place.now found → Lists result (unwrap_or (option_map items_in (option_and_then as_array found)) []) }
+{
+    match place {
+        Some(place) => items(place),
         None => None,
     }
 }

@@ -11,8 +11,9 @@ ghost use Rattle.gate_record.specs.Inner.Tapes.{Begins};
 
 use crate::fields::event;
 use crate::limits::fit;
+use crate::members::three_members;
 use crate::memory::Memory;
-use crate::places::text_at;
+use crate::places::text_of;
 use crate::read;
 use crate::reading::{Reading, Why};
 use crate::record::Record;
@@ -108,9 +109,10 @@ fn read_value(alloc: Global, root: &Element<'_, '_>) -> Result<Reading, Memory>
     if !is_object(root) {
         return Ok(Reading::Nothing(Why::NotObject));
     }
-    match text_at(root, "type") {
+    let (kind, comment, approvals) = three_members(root, "type", "comment", "approvals");
+    match text_of(&kind) {
         None => Ok(Reading::Nothing(Why::NoType)),
-        Some(kind) => Ok(Reading::Event(event(alloc, root, kind)?)),
+        Some(kind) => Ok(Reading::Event(event(alloc, root, kind, &comment, &approvals)?)),
     }
 }
 

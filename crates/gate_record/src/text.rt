@@ -1,19 +1,33 @@
-ghost use Rattle.std.specs.Prelude.{◌≡◌, ℕ, List, string_bytes, IfOk};
+ghost use Rattle.std.specs.Prelude.{◌≡◌, string_bytes, IfOk};
 
 use crate::memory::Memory;
+use arrayvec::ArrayString;
 use std::alloc::Global;
 use std::marker::Model;
 
-/// A text that contracts see as the list of its UTF-8 bytes.
+// So many bytes of a text take no memory of their own: most names of projects, branches, refs and accounts have no more.
+const INLINE: usize = 32;
+
+/// A text that contracts see as the list of its UTF-8 bytes. A copy of at most 32 bytes takes no memory.
 #[derive(Debug, Drop)]
 pub struct Text {
-    string: String,
+    bytes: TextBytes,
+}
+
+// Where a text's bytes are.
+#[derive(Debug, Drop)]
+enum TextBytes {
+    Inline(ArrayString<INLINE>),
+    Heap(String),
 }
 
 impl Model for Text {
+    ghost use Rattle.std.specs.Prelude.{ℕ, List};
+    ghost use Rattle.gate_record.specs.Inner.Texts.{bytes_in};
+
     ghost Value = { List ℕ };
 
-    ghost view = { λ t. string_bytes t.string };
+    ghost view = { λ t. bytes_in t.bytes };
 }
 
 impl Text {
@@ -21,29 +35,29 @@ impl Text {
     pub fn new(string: String) -> Text
         ensures { result ≡ string_bytes string }
     {
-        Text { string }
+        Text {
+            bytes: TextBytes::Heap(string),
+        }
     }
 
     /// A copy of a text. `Memory` where its bytes find no room.
     pub fn copy(alloc: Global, text: &str) -> Result<Text, Memory>
         ensures { IfOk result (λ copy. copy ≡ text.now) }
     {
-        Ok(Text {
-            string: String::from_str(alloc, text)?,
-        })
+        let bytes = match ArrayString::from(text) {
+            Ok(inline) => TextBytes::Inline(inline),
+            Err(_) => TextBytes::Heap(String::from_str(alloc, text)?),
+        };
+        Ok(Text { bytes })
     }
 
     /// The text itself.
     pub fn as_str(&self) -> &str
         ensures { result.now ≡ self.now }
     {
-        self.string.as_str()
-    }
-
-    /// Gives the string back, without memory.
-    pub fn into_string(self) -> String
-        ensures { string_bytes result ≡ self }
-    {
-        self.string
+        match &self.bytes {
+            TextBytes::Inline(text) => text.as_str(),
+            TextBytes::Heap(text) => text.as_str(),
+        }
     }
 }

@@ -8,7 +8,7 @@ use std::test::Fail;
 fn keeps_texts(rt: HostRuntime) -> Result<(), Fail> {
     let text = Text::copy(rt.alloc(), "demo")?;
     comes_to("copy", text.as_str(), "demo")?;
-    let text = Text::new(text.into_string());
+    let text = Text::new(String::from_str(rt.alloc(), "demo")?);
     comes_to("new", text.as_str(), "demo")
 }
 

@@ -1,96 +1,152 @@
-//! Queues that are shared: the one with a bound.
-ghost use Rattle.std.specs.Prelude.{◌≡◌, ◌<◌, IfOk};
+//! Queues that threads share, with a bound and without, and streams: cut into records, read by a feed, and stopped.
+ghost use Rattle.std.specs.Prelude.{◌≡◌, IfOk};
 ghost use Rattle.gate_queue.specs.Seats.{IsHeadOf, AreAllTailsOf};
 
-use gate_queue::{EventQueue, Head, OpenFault, Tagged, Tail, open};
-use gate_refusing::{Elsewhere, Log, say};
-use std::alloc::Global;
+use crate::log::{Ended, Log};
+use crate::{kept, made, say};
+use gate_queue::{
+    EventQueue, FreeHead, FreeQueue, FreeTail, Head, Memory as Refused, OpenFault, Tail, open,
+    open_free,
+};
+use gate_record::Memory;
+use gate_source::{FeedStep, LineSplit, ReaderFeed, RecordFeed, StopCause, StopCell};
+use std::alloc::{AllocError, Global};
 use std::sync::Wait;
 
-const OPEN: &str = "gate_queue open";
+// Lines with either end, an empty one, and one without an end.
+const STREAM: &str = "first\r\nsecond\n\na third line that is longer\n\r\nfourth\nfifth";
 
-const SETTLE: &str = "gate_queue EventQueue::settle";
+type Bounded = (EventQueue<u64>, Vec<Tail<u64>>, Head<u64>);
 
-pub(crate) fn run<R: Wait>(rt: &R, log: &mut Log, alloc: Global) -> Result<(), Elsewhere> {
-    let (queue, mut tails, mut head) = opened(log, alloc)?;
-    put_all(rt, log, &queue, &mut tails);
-    take(rt, log, &queue, &mut head);
-    let rest = settled(rt, log, queue, tails, head)?;
-    say!(log.told, "{rest:?}\n");
-    Ok(())
+type Free = (FreeQueue<u64>, Vec<FreeTail<u64>>, FreeHead<u64>);
+
+// Ends a queue. Where memory is refused it comes back with its seats, and everything waits as before.
+macro_rules! settled {
+    ($log:expr, $name:expr, $rt:expr, $queue:expr, $tails:expr, $head:expr) => {
+        match $queue.settle($rt, $tails, $head) {
+            Ok(rest) => Ok(say!($log.told, "{:?}\n", rest)),
+            Err(back) => {
+                $log.tell("refused", $name);
+                match back.queue.settle($rt, back.tails, back.head) {
+                    Ok(rest) => Ok(say!($log.told, "{:?}\n", rest)),
+                    Err(_) => Err($log.twice($name)),
+                }
+            }
+        }
+    };
+}
+
+pub(crate) fn run_bounded(rt: &impl Wait, log: &mut Log) -> Ended {
+    let Ok((queue, mut tails, mut head)) = opened(log) else {
+        return Err(Memory);
+    };
+    let first = queue.put(rt, &mut tails[0], 7);
+    let second = queue.put(rt, &mut tails[0], 8);
+    let taken = queue.take(rt, &mut head);
+    say!(log.told, "{first:?} {second:?} {taken:?}\n");
+    settled!(log, "gate_queue EventQueue::settle", rt, queue, tails, head)
 }
 
 // A queue of four places with one sender.
-fn opened(
-    log: &mut Log,
-    alloc: Global,
-) -> Result<(EventQueue<u32>, Vec<Tail<u32>>, Head<u32>), Elsewhere>
+fn opened(log: &mut Log) -> Result<Bounded, OpenFault>
     ensures senders { IfOk result (λ opened. opened.0.name.senders ≡ 1) }
     ensures tails { IfOk result (λ opened. AreAllTailsOf opened.0 opened.1.items) }
     ensures head { IfOk result (λ opened. IsHeadOf opened.0 opened.2) }
 {
-    match open(alloc, 4, 1) {
-        Ok(opened) => return Ok(opened),
-        Err(OpenFault::Capacity) => return Err(log.unexpected("fault of a queue")),
-        Err(OpenFault::Memory) => log.tell_refused(OPEN),
-    }
-    match open(alloc, 4, 1) {
-        Ok(opened) => Ok(opened),
-        Err(_) => Err(log.tell_twice(OPEN)),
-    }
+    let call = "gate_queue open";
+    made!(log, call, OpenFault::Memory, open(log.alloc, 4, 1))
 }
 
-fn put_all<R: Wait>(rt: &R, log: &mut Log, queue: &EventQueue<u32>, tails: &mut Vec<Tail<u32>>)
-    requires { AreAllTailsOf queue.now tails.old.items × (0 < queue.now.name.senders) }
-    ensures { AreAllTailsOf queue.now tails.new.items }
-{
-    for value in 0..5 {
-        put(rt, log, queue, tails, value);
-    }
-}
-
-// Puts a value, which comes back where the queue is full.
-fn put<R: Wait>(
-    rt: &R,
-    log: &mut Log,
-    queue: &EventQueue<u32>,
-    tails: &mut Vec<Tail<u32>>,
-    value: u32,
-)
-    requires { AreAllTailsOf queue.now tails.old.items × (0 < queue.now.name.senders) }
-    ensures { AreAllTailsOf queue.now tails.new.items }
-{
-    let answer = queue.put(rt, &mut tails[0], value);
-    say!(log.told, "{answer:?}\n");
-}
-
-fn take<R: Wait>(rt: &R, log: &mut Log, queue: &EventQueue<u32>, head: &mut Head<u32>)
-    requires { IsHeadOf queue.now head.old }
-    ensures { IsHeadOf queue.now head.new }
-{
-    let taken = queue.take(rt, head);
-    say!(log.told, "{taken:?}\n");
-}
-
-// Ends the queue. Where memory is refused it comes back with its seats, and everything waits as before.
-fn settled<R: Wait>(
-    rt: &R,
-    log: &mut Log,
-    queue: EventQueue<u32>,
-    tails: Vec<Tail<u32>>,
-    head: Head<u32>,
-) -> Result<Vec<Tagged<u32>>, Elsewhere>
-    requires tails { AreAllTailsOf queue tails.items }
-    requires head { IsHeadOf queue head }
-{
-    match queue.settle(rt, tails, head) {
-        Ok(rest) => Ok(rest),
-        Err(back) => {
-            log.tell_refused(SETTLE);
-            match back.queue.settle(rt, back.tails, back.head) {
-                Ok(rest) => Ok(rest),
-                Err(_) => Err(log.tell_twice(SETTLE)),
+// As many values are put as fill some blocks.
+pub(crate) fn run_free(rt: &impl Wait, log: &mut Log) -> Ended {
+    let (queue, mut tails, mut head) = opened_free(log)?;
+    let call = "gate_queue FreeQueue::put";
+    for value in 0..100 {
+        if let Err(Refused(back)) = queue.put(rt, &mut tails[0], value) {
+            log.tell("refused", call);
+            log.tell_unless(back == value, call);
+            if queue.put(rt, &mut tails[0], back).is_err() {
+                return Err(log.twice(call));
             }
         }
     }
+    let first = queue.take(rt, &mut head);
+    let second = queue.take_some(rt, &mut head, 8).next();
+    say!(log.told, "{first:?} {second:?}\n");
+    settled!(log, "gate_queue FreeQueue::settle", rt, queue, tails, head)
+}
+
+// A queue with one sender.
+fn opened_free(log: &mut Log) -> Result<Free, AllocError>
+    ensures senders { IfOk result (λ opened. opened.0.name.senders ≡ 1) }
+    ensures tails { IfOk result (λ opened. AreAllTailsOf opened.0 opened.1.items) }
+    ensures head { IfOk result (λ opened. IsHeadOf opened.0 opened.2) }
+{
+    let call = "gate_queue open_free";
+    made!(log, call, AllocError, open_free(log.alloc, 1))
+}
+
+pub(crate) fn run_streams(rt: &impl Wait, log: &mut Log) -> Ended {
+    // As many bytes as a piece has.
+    for size in [1, 4, 13, 100] {
+        cut(log, size)?;
+    }
+    read(rt, log)?;
+    let cell = StopCell::new(log.alloc);
+    stop(log, &cell, StopCause::Port)?;
+    stop(log, &cell, StopCause::Caller)
+}
+
+fn cut(log: &mut Log, size: usize) -> Ended {
+    let mut splitter = LineSplit::new(log.alloc);
+    for piece in STREAM.as_bytes().chunks(size.max(1)) {
+        let call = "gate_source LineSplit::feed";
+        let records = kept!(log, call, ("{:?}", splitter), splitter.feed(piece))?;
+        say!(log.told, "{records:?}\n");
+    }
+    say!(log.told, "{:?}\n", splitter.finish());
+    Ok(())
+}
+
+// Where memory is refused to a feed it is asked no more, and a new one reads all of it: what came before is the first of that.
+fn read(rt: &impl Wait, log: &mut Log) -> Ended {
+    let (call, alloc) = ("gate_source ReaderFeed::new", log.alloc);
+    let _feed = made!(log, call, ReaderFeed::new(alloc, STREAM.as_bytes()))?;
+    if read_all(rt, alloc, log.before())? {
+        return Ok(log.tell_before());
+    }
+    let call = "gate_source ReaderFeed::next";
+    if read_all(rt, alloc, log.after(call))? {
+        return Ok(log.tell_after(call));
+    }
+    Err(log.twice(call))
+}
+
+// Adds the records to a text, and answers whether that were all.
+fn read_all(rt: &impl Wait, alloc: Global, text: &mut String) -> Result<bool, Memory> {
+    let mut feed = ReaderFeed::new(alloc, STREAM.as_bytes())?;
+    for _ in 0..20 {
+        if feed.faults() == u64::MAX {
+            return Err(Memory);
+        }
+        match feed.next(rt) {
+            FeedStep::Ended => return Ok(true),
+            FeedStep::Memory => return Ok(false),
+            step => say!(text, "{step:?}\n"),
+        }
+    }
+    Err(Memory)
+}
+
+// Asks with a note of its own: the first cause stays.
+fn stop(log: &mut Log, cell: &StopCell, cause: StopCause) -> Ended {
+    let (call, mut note) = ("gate_source StopCell::request", cell.note());
+    let held = kept!(
+        log,
+        call,
+        ("{:?}", cell.seen(&mut cell.note())),
+        cell.request(&mut note, cause)
+    )?;
+    say!(log.told, "{held:?}\n");
+    Ok(())
 }

@@ -3,8 +3,7 @@ ghost use Rattle.gate_run.specs.Ports.{IsInboxFor};
 
 use gate_config::{Generations, read_generations};
 use gate_core::report_text;
-use gate_pipeline::Pipeline;
-use gate_record::{Memory, PipelineId, Queue, Record, TenantId};
+use gate_record::{Memory, Queue, Record};
 use gate_run::{FeedStep, Gate, Inbox, RecordFeed, serve};
 use gate_test_lines::{comes_to, record_of};
 use std::alloc::Global;
@@ -40,17 +39,7 @@ pub(crate) fn two(alloc: Global) -> Result<Generations, Fail> {
 #[derive(Drop)]
 pub(crate) struct Silent;
 
-impl Gate for Silent {
-    fn before<R: Wait>(
-        &self,
-        _rt: &R,
-        _tenant: TenantId,
-        _pipeline: PipelineId,
-        _state: &Pipeline,
-    ) {}
-
-    fn last<R: Wait>(&self, _rt: &R, _tenant: TenantId, _pipeline: PipelineId, _state: &Pipeline) {}
-}
+impl Gate for Silent {}
 
 /// A feed of records that it has.
 #[derive(Drop)]

@@ -83,8 +83,6 @@ impl Gate for Renews {
     fn before<R: Wait>(&self, rt: &R, _tenant: TenantId, _pipeline: PipelineId, _state: &Pipeline) {
         count_down(&mut self.renewing.lock(rt));
     }
-
-    fn last<R: Wait>(&self, _rt: &R, _tenant: TenantId, _pipeline: PipelineId, _state: &Pipeline) {}
 }
 
 fn count_down(renewing: &mut Renewing) {

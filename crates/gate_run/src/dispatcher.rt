@@ -7,10 +7,10 @@ ghost use Rattle.gate_run.specs.Inner.Dispatchers.{Continues, GivenInOrder, HasD
 ghost use Rattle.gate_run.specs.Inner.Seats.{seat_of};
 ghost use Rattle.gate_run.specs.Inner.Steps.{GoesOn};
 
-use crate::owed::Owed;
 use crate::putting::{PassedOn, put_at};
 use crate::signals::Signals;
-use crate::went::Went;
+use crate::step_outcome::StepOutcome;
+use crate::wake_ups::PendingWakeUps;
 use crate::works::Work;
 use crossbeam_utils::sync::Parker;
 use gate_config::Generations;
@@ -59,7 +59,7 @@ impl<'a> Work<PassedOn<FreeHead<TenantItem>, PipelineItem>> for Dispatcher<'a> {
             tails,
             parker,
         } = self;
-        let Ok(mut owed) = Owed::nothing(alloc, targets.len()) else {
+        let Ok(mut pending) = PendingWakeUps::none(alloc, targets.len()) else {
             signals.halt();
             return PassedOn { head, tails };
         };
@@ -78,10 +78,10 @@ impl<'a> Work<PassedOn<FreeHead<TenantItem>, PipelineItem>> for Dispatcher<'a> {
             if signals.is_halted() {
                 return dispatching.end();
             }
-            match dispatching.step(rt, alloc, source, targets, signals, &mut owed) {
-                Went::On => {}
-                Went::Nowhere => parker.park(rt),
-                Went::Out => return dispatching.end(),
+            match dispatching.step(rt, alloc, source, targets, signals, &mut pending) {
+                StepOutcome::Ready => {}
+                StepOutcome::Pending => parker.park(rt),
+                StepOutcome::Done => return dispatching.end(),
             }
         }
         unreachable!()
@@ -107,8 +107,8 @@ impl<'c> Dispatching<'c> {
         source: &FreeQueue<TenantItem>,
         targets: &[FreeQueue<PipelineItem>],
         signals: &Signals,
-        owed: &mut Owed,
-    ) -> Went
+        pending: &mut PendingWakeUps,
+    ) -> StepOutcome
         requires head { IsHeadOf source.now self.old.head }
         requires seats { map (λ tail. tail.queue) self.old.tails.items ≡ map (λ queue. queue.name) targets.now }
         requires dispatches { IsDispatching (gens_of self.old.dispatch) (tenant_of self.old.dispatch) self.old.dispatch self.old.head self.old.tails.items }
@@ -117,20 +117,20 @@ impl<'c> Dispatching<'c> {
         ensures seats { map seat_of self.new.tails.items ≡ map seat_of self.old.tails.items }
     {
         if !self.dispatch.is_empty() {
-            return self.give(rt, targets, signals, owed);
+            return self.give(rt, targets, signals, pending);
         }
-        signals.wake_workers(self.tenant, owed);
+        signals.wake_workers(self.tenant, pending);
         if self.dispatch.ended() {
-            return Went::Out;
+            return StepOutcome::Done;
         }
         if self.dispatch.room() > 0 {
             match self.take(rt, source, signals) {
-                Went::Nowhere => {}
-                went => return went,
+                StepOutcome::Pending => {}
+                outcome => return outcome,
             }
         }
         if !self.dispatch.has_gathered() {
-            return Went::Nowhere;
+            return StepOutcome::Pending;
         }
         self.match_gathered(alloc, signals)
     }
@@ -141,8 +141,8 @@ impl<'c> Dispatching<'c> {
         rt: &R,
         targets: &[FreeQueue<PipelineItem>],
         signals: &Signals,
-        owed: &mut Owed,
-    ) -> Went
+        pending: &mut PendingWakeUps,
+    ) -> StepOutcome
         requires seats { map (λ tail. tail.queue) self.old.tails.items ≡ map (λ queue. queue.name) targets.now }
         requires dispatches { IsDispatching (gens_of self.old.dispatch) (tenant_of self.old.dispatch) self.old.dispatch self.old.head self.old.tails.items }
         ensures dispatches { IsDispatching (gens_of self.old.dispatch) (tenant_of self.old.dispatch) self.new.dispatch self.new.head self.new.tails.items }
@@ -150,24 +150,29 @@ impl<'c> Dispatching<'c> {
         ensures seats { map seat_of self.new.tails.items ≡ map seat_of self.old.tails.items }
     {
         let Some((pipeline, item)) = self.dispatch.next() else {
-            return Went::On;
+            return StepOutcome::Ready;
         };
         match put_at(rt, targets, &mut self.tails, pipeline.0, item) {
             Ok(()) => {
                 self.dispatch.given();
-                owed.add(pipeline.0);
-                Went::On
+                pending.add(pipeline.0);
+                StepOutcome::Ready
             }
             Err(item) => {
                 self.dispatch.ungiven(item);
                 signals.halt();
-                Went::Out
+                StepOutcome::Done
             }
         }
     }
 
     // Takes what waits, up to a block of it, and gathers it.
-    fn take<R: Wait>(&mut self, rt: &R, source: &FreeQueue<TenantItem>, signals: &Signals) -> Went
+    fn take<R: Wait>(
+        &mut self,
+        rt: &R,
+        source: &FreeQueue<TenantItem>,
+        signals: &Signals,
+    ) -> StepOutcome
         requires room { 0 < room_of (state_of self.old.dispatch) }
         requires goes_on { has_ended (gens_of self.old.dispatch).first (tenant_of self.old.dispatch) (state_of self.old.dispatch) ≡ false }
         requires head { IsHeadOf source.now self.old.head }
@@ -181,19 +186,19 @@ impl<'c> Dispatching<'c> {
         let room = self.dispatch.room();
         let Ok(()) = self.dispatch.make_room(room) else {
             signals.halt();
-            return Went::Out;
+            return StepOutcome::Done;
         };
         // This tells whether anything waits, which an empty batch doesn't.
         let Some(first) = source.take(rt, &mut self.head) else {
-            return Went::Nowhere;
+            return StepOutcome::Pending;
         };
         gather(&mut self.dispatch, first.value);
         gather_batch(rt, source, &mut self.head, &mut self.dispatch, room - 1);
-        Went::On
+        StepOutcome::Ready
     }
 
     // Matches what is gathered.
-    fn match_gathered(&mut self, alloc: Global, signals: &Signals) -> Went
+    fn match_gathered(&mut self, alloc: Global, signals: &Signals) -> StepOutcome
         requires gathered { (length (state_of self.old.dispatch).gathered == 0) ≡ false }
         requires dispatches { IsDispatching (gens_of self.old.dispatch) (tenant_of self.old.dispatch) self.old.dispatch self.old.head self.old.tails.items }
         ensures dispatches { IsDispatching (gens_of self.old.dispatch) (tenant_of self.old.dispatch) self.new.dispatch self.new.head self.new.tails.items }
@@ -201,10 +206,10 @@ impl<'c> Dispatching<'c> {
         ensures tails { self.new.tails ≡ self.old.tails }
     {
         match self.dispatch.match_batch(alloc) {
-            Ok(()) => Went::On,
+            Ok(()) => StepOutcome::Ready,
             Err(Memory) => {
                 signals.halt();
-                Went::Out
+                StepOutcome::Done
             }
         }
     }

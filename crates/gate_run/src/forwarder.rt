@@ -7,10 +7,10 @@ ghost use Rattle.gate_run.specs.Inner.Forwarders.{HasForwarded, IsForwarding, Pu
 ghost use Rattle.gate_run.specs.Inner.Seats.{seat_of};
 ghost use Rattle.gate_run.specs.Inner.Steps.{GoesOn};
 
-use crate::owed::Owed;
 use crate::putting::{PassedOn, put_at};
 use crate::signals::Signals;
-use crate::went::Went;
+use crate::step_outcome::StepOutcome;
+use crate::wake_ups::PendingWakeUps;
 use crate::works::Work;
 use crossbeam_utils::sync::Parker;
 use gate_config::Generations;
@@ -23,7 +23,7 @@ use std::sync::Wait;
 use std::thread::Threads;
 use std::time::Clock;
 
-// After so many entries a forwarder gives the wake-ups that it owes: a quarter of a queue's places.
+// After so many entries a forwarder gives its pending wake-ups: a quarter of a queue's places.
 const MANY_TAKEN: usize = PLACES / 4;
 
 /// A connection's forwarder before it begins, with its seats.
@@ -63,7 +63,7 @@ impl<'a> Work<PassedOn<Head<ConnEntry>, TenantItem>> for Forwarder<'a> {
             tails,
             parker,
         } = self;
-        let Ok(mut debts) = Debts::none(alloc, conn, targets.len()) else {
+        let Ok(mut pending) = ForwarderWakeUps::none(alloc, conn, targets.len()) else {
             signals.halt();
             return PassedOn { head, tails };
         };
@@ -77,14 +77,14 @@ impl<'a> Work<PassedOn<Head<ConnEntry>, TenantItem>> for Forwarder<'a> {
             if signals.is_halted() {
                 return forwarding.end();
             }
-            match forwarding.step(rt, alloc, source, targets, signals, &mut debts) {
-                Went::On => {}
-                Went::Nowhere => {
-                    debts.pay(signals);
+            match forwarding.step(rt, alloc, source, targets, signals, &mut pending) {
+                StepOutcome::Ready => {}
+                StepOutcome::Pending => {
+                    pending.give(signals);
                     parker.park(rt);
                 }
-                Went::Out => {
-                    debts.pay(signals);
+                StepOutcome::Done => {
+                    pending.give(signals);
                     return forwarding.end();
                 }
             }
@@ -112,8 +112,8 @@ impl<'c> Forwarding<'c> {
         source: &EventQueue<ConnEntry>,
         targets: &[FreeQueue<TenantItem>],
         signals: &Signals,
-        debts: &mut Debts,
-    ) -> Went
+        pending: &mut ForwarderWakeUps,
+    ) -> StepOutcome
         requires kept { self.old.kept ≡ None }
         requires head { IsHeadOf source.now self.old.head }
         requires seats { map (λ tail. tail.queue) self.old.tails.items ≡ map (λ queue. queue.name) targets.now }
@@ -124,12 +124,12 @@ impl<'c> Forwarding<'c> {
         ensures kept { GoesOn result (self.new.kept ≡ None) }
     {
         if !self.hand.is_empty() {
-            return self.send(rt, targets, signals, debts);
+            return self.send(rt, targets, signals, pending);
         }
         if self.hand.ended() {
-            return Went::Out;
+            return StepOutcome::Done;
         }
-        self.take(rt, alloc, source, signals, debts)
+        self.take(rt, alloc, source, signals, pending)
     }
 
     // Sends the next item. Where memory is refused it stays in the hand.
@@ -138,8 +138,8 @@ impl<'c> Forwarding<'c> {
         rt: &R,
         targets: &[FreeQueue<TenantItem>],
         signals: &Signals,
-        debts: &mut Debts,
-    ) -> Went
+        pending: &mut ForwarderWakeUps,
+    ) -> StepOutcome
         requires seats { map (λ tail. tail.queue) self.old.tails.items ≡ map (λ queue. queue.name) targets.now }
         requires forwards { IsForwarding (gens_of self.old.hand) (conn_of self.old.hand) self.old }
         ensures forwards { IsForwarding (gens_of self.old.hand) (conn_of self.old.hand) self.new }
@@ -148,18 +148,18 @@ impl<'c> Forwarding<'c> {
         ensures kept { self.new.kept ≡ self.old.kept }
     {
         let Some((tenant, item)) = self.hand.next() else {
-            return Went::On;
+            return StepOutcome::Ready;
         };
         match put_at(rt, targets, &mut self.tails, tenant.0, item) {
             Ok(()) => {
                 self.hand.sent();
-                debts.put(tenant, signals);
-                Went::On
+                pending.put(tenant, signals);
+                StepOutcome::Ready
             }
             Err(item) => {
                 self.hand.unsent(item);
                 signals.halt();
-                Went::Out
+                StepOutcome::Done
             }
         }
     }
@@ -171,8 +171,8 @@ impl<'c> Forwarding<'c> {
         alloc: Global,
         source: &EventQueue<ConnEntry>,
         signals: &Signals,
-        debts: &mut Debts,
-    ) -> Went
+        pending: &mut ForwarderWakeUps,
+    ) -> StepOutcome
         requires kept { self.old.kept ≡ None }
         requires empty { (hand_of self.old.hand).items ≡ [] }
         requires head { IsHeadOf source.now self.old.head }
@@ -183,29 +183,29 @@ impl<'c> Forwarding<'c> {
         ensures kept { GoesOn result (self.new.kept ≡ None) }
     {
         let Some(taken) = source.take(rt, &mut self.head) else {
-            return Went::Nowhere;
+            return StepOutcome::Pending;
         };
-        debts.took(signals);
+        pending.took(signals);
         match taken.value {
             ConnEntry::Numbered(number, line) => match self.hand.load(alloc, number, line) {
-                Ok(()) => Went::On,
+                Ok(()) => StepOutcome::Ready,
                 Err(refused) => {
                     self.kept = Some(ConnEntry::Numbered(number, refused.value));
                     signals.halt();
-                    Went::Out
+                    StepOutcome::Done
                 }
             },
             ConnEntry::Renew => match self.hand.load_renew() {
-                Ok(()) => Went::On,
+                Ok(()) => StepOutcome::Ready,
                 Err(Last) => {
                     self.kept = Some(ConnEntry::Renew);
                     signals.halt();
-                    Went::Out
+                    StepOutcome::Done
                 }
             },
             ConnEntry::End => {
                 self.hand.load_end();
-                Went::On
+                StepOutcome::Ready
             }
         }
     }
@@ -225,21 +225,21 @@ impl<'c> Forwarding<'c> {
     }
 }
 
-// The wake-ups that a forwarder owes: to its reader for the room that it made, and to tenants' workers.
+// The pending wake-ups of a forwarder: of its reader, for the room that it made, and of tenants' workers.
 #[derive(Drop)]
-struct Debts {
+struct ForwarderWakeUps {
     conn: ConnId,
     // How many entries were taken since the reader was woken. Tenants' workers wait for no more of them than that.
     taken: usize,
-    items: Owed,
+    items: PendingWakeUps,
 }
 
-impl Debts {
-    fn none(alloc: Global, conn: ConnId, tenants: usize) -> Result<Debts, Memory> {
-        Ok(Debts {
+impl ForwarderWakeUps {
+    fn none(alloc: Global, conn: ConnId, tenants: usize) -> Result<ForwarderWakeUps, Memory> {
+        Ok(ForwarderWakeUps {
             conn,
             taken: 0,
-            items: Owed::nothing(alloc, tenants)?,
+            items: PendingWakeUps::none(alloc, tenants)?,
         })
     }
 
@@ -247,7 +247,7 @@ impl Debts {
     fn took(&mut self, signals: &Signals) {
         self.taken = self.taken.saturating_add(1);
         if self.taken >= MANY_TAKEN {
-            self.pay(signals);
+            self.give(signals);
         }
     }
 
@@ -260,7 +260,7 @@ impl Debts {
     }
 
     // Gives them all.
-    fn pay(&mut self, signals: &Signals) {
+    fn give(&mut self, signals: &Signals) {
         if self.taken > 0 {
             self.wake_reader(signals);
         }

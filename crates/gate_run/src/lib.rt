@@ -2,6 +2,7 @@
 #![tactic(auto)]
 
 mod asked;
+mod backoff;
 mod crossing;
 mod dispatcher;
 mod fault;
@@ -10,8 +11,6 @@ mod gate;
 mod gathering;
 mod lane;
 mod lists;
-mod naps;
-mod owed;
 mod posts;
 mod putting;
 mod queues;
@@ -22,8 +21,9 @@ mod seating;
 mod serving;
 mod signals;
 mod stage;
+mod step_outcome;
 mod stopper;
-mod went;
+mod wake_ups;
 mod worker;
 mod works;
 

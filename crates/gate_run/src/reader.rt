@@ -4,7 +4,7 @@ ghost use Rattle.gate_queue.specs.Seats.{IsTailOf};
 ghost use Rattle.gate_ways.specs.declared.report.EndCause.TheVariants as cause;
 ghost use Rattle.gate_run.specs.Inner.Readers.{CanRead, Closes, HasRead};
 
-use crate::naps::Naps;
+use crate::backoff::Backoff;
 use crate::reading::{Reading, Renewal};
 use crate::signals::Signals;
 use crate::works::Work;
@@ -78,14 +78,14 @@ impl<'a, F: RecordFeed + Drop> Work<ReaderEnd<F>> for Reader<'a, F> {
             parker,
         };
         signals.wait_to_begin(rt, &reading.parker);
-        let mut naps = Naps::none();
+        let mut backoff = Backoff::none();
         for _ in rt.forever() {
             if let Some(cause) = reading.look(rt, queue, cell, generations, cells, signals) {
                 return reading.end(rt, queue, signals, feed, cause);
             }
             match feed.next(rt) {
                 FeedStep::Got(line) => {
-                    naps = Naps::none();
+                    backoff = Backoff::none();
                     if let Some(cause) = reading.take_in(
                         rt,
                         queue,
@@ -98,8 +98,8 @@ impl<'a, F: RecordFeed + Drop> Work<ReaderEnd<F>> for Reader<'a, F> {
                         return reading.end(rt, queue, signals, feed, cause);
                     }
                 }
-                FeedStep::Pending if feed.is_idle() => naps.nap(rt),
-                FeedStep::Pending => naps = Naps::none(),
+                FeedStep::Pending if feed.is_idle() => backoff.wait(rt),
+                FeedStep::Pending => backoff = Backoff::none(),
                 FeedStep::Ended => return reading.end(rt, queue, signals, feed, EndCause::Ended),
                 FeedStep::Fault => return reading.end(rt, queue, signals, feed, EndCause::Failed),
                 FeedStep::Memory => {

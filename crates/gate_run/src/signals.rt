@@ -8,9 +8,9 @@
 //! - A reader wakes its forwarder at each record, since it can't know whether its feed will wait for the next.
 //! - A forwarder wakes its reader, which parks on a full queue alone once it has begun, when it took many records, and before it parks
 //!   or returns. What it found full is taken by then.
-//! - A forwarder wakes tenants' workers, and these those of pipelines, as `Owed` says.
+//! - A forwarder wakes tenants' workers, and these those of pipelines, as `PendingWakeUps` says.
 
-use crate::owed::Owed;
+use crate::wake_ups::PendingWakeUps;
 use crossbeam_utils::sync::{Parker, Unparker};
 use gate_record::{ConnId, TenantId};
 use std::sync::Wait;
@@ -73,15 +73,15 @@ impl Signals {
         wake(&self.forwarders, conn.0);
     }
 
-    /// There may be items of the tenants to which it is owed.
-    pub(crate) fn wake_dispatchers(&self, owed: &mut Owed) {
-        owed.pay(&self.dispatchers);
+    /// There may be items of the tenants whose wake-up is pending.
+    pub(crate) fn wake_dispatchers(&self, pending: &mut PendingWakeUps) {
+        pending.give(&self.dispatchers);
     }
 
-    /// There may be items of the pipelines of this tenant to which it is owed.
-    pub(crate) fn wake_workers(&self, tenant: TenantId, owed: &mut Owed) {
+    /// There may be events of the pipelines of this tenant whose wake-up is pending.
+    pub(crate) fn wake_workers(&self, tenant: TenantId, pending: &mut PendingWakeUps) {
         if let Some(workers) = self.workers.get(tenant.0 as usize) {
-            owed.pay(workers);
+            pending.give(workers);
         }
     }
 }

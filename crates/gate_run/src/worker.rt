@@ -7,7 +7,7 @@ ghost use Rattle.gate_run.specs.Inner.Workers.{CanWork, Continues, HasWorked, Ma
 use crate::gate::Gate;
 use crate::posts::InboxSeat;
 use crate::signals::Signals;
-use crate::went::Went;
+use crate::step_outcome::StepOutcome;
 use crate::works::Work;
 use crossbeam_utils::sync::Parker;
 use gate_config::Config;
@@ -81,9 +81,9 @@ impl<'a, G: Gate + Sync> Work<WorkerEnd> for Worker<'a, G> {
                 return working.end(rt, parker, gate);
             }
             match working.step(rt, config, source, signals, gate) {
-                Went::On => {}
-                Went::Nowhere => parker.park(rt),
-                Went::Out => return working.end(rt, parker, gate),
+                StepOutcome::Ready => {}
+                StepOutcome::Pending => parker.park(rt),
+                StepOutcome::Done => return working.end(rt, parker, gate),
             }
         }
         unreachable!()
@@ -112,13 +112,13 @@ impl Working {
         source: &FreeQueue<PipelineItem>,
         signals: &Signals,
         gate: &G,
-    ) -> Went
+    ) -> StepOutcome
         requires head { IsHeadOf source.now self.old.head }
         ensures continues { Continues config.now self.old self.new }
         ensures head { self.new.head.queue ≡ self.old.head.queue }
     {
         match self.state.wants() {
-            Which::Finished => Went::Out,
+            Which::Finished => StepOutcome::Done,
             Which::Held => self.process(rt, config, Taken::Again, signals, gate),
             Which::Management => match self.management.take(rt) {
                 Some(taken) => {
@@ -142,7 +142,7 @@ impl Working {
     }
 
     // The queue that the pipeline wants was empty. Once each of them was, there is nothing to do.
-    fn found_empty(&mut self) -> Went
+    fn found_empty(&mut self) -> StepOutcome
         requires asked { is_taking (next_of self.old.state) ≡ true }
         ensures finds { self.new.state ≡ found_empty self.old.state }
         ensures head { self.new.head ≡ self.old.head }
@@ -152,10 +152,10 @@ impl Working {
         self.state.found_empty();
         self.empty = self.empty.saturating_add(1);
         if self.empty < QUEUES {
-            return Went::On;
+            return StepOutcome::Ready;
         }
         self.empty = 0;
-        Went::Nowhere
+        StepOutcome::Pending
     }
 
     // Processes what was taken. Where memory is refused the pipeline holds it.
@@ -166,7 +166,7 @@ impl Working {
         given: Taken,
         signals: &Signals,
         gate: &G,
-    ) -> Went
+    ) -> StepOutcome
         requires asked { next_of self.old.state ≡ asked given }
         ensures processes { MayProcess config.now self.old.state given self.new.state }
         ensures head { self.new.head ≡ self.old.head }
@@ -180,13 +180,13 @@ impl Working {
         match self.state.took(config, given) {
             Ok(Some(processed)) => {
                 gate.after(rt, self.tenant, self.pipeline, &self.state, &processed);
-                Went::On
+                StepOutcome::Ready
             }
             // The end mark, which is no action.
-            Ok(None) => Went::On,
+            Ok(None) => StepOutcome::Ready,
             Err(Memory) => {
                 signals.halt();
-                Went::Out
+                StepOutcome::Done
             }
         }
     }

@@ -59,17 +59,7 @@ impl Meeting {
 #[derive(Drop)]
 pub(crate) struct Silent;
 
-impl Gate for Silent {
-    fn before<R: Wait>(
-        &self,
-        _rt: &R,
-        _tenant: TenantId,
-        _pipeline: PipelineId,
-        _state: &Pipeline,
-    ) {}
-
-    fn last<R: Wait>(&self, _rt: &R, _tenant: TenantId, _pipeline: PipelineId, _state: &Pipeline) {}
-}
+impl Gate for Silent {}
 
 /// A gate that holds each action until as many have begun as are to meet.
 #[derive(Drop)]
@@ -88,8 +78,6 @@ impl<'a> Gate for Holds<'a> {
         self.meeting.come();
         self.meeting.wait();
     }
-
-    fn last<R: Wait>(&self, _rt: &R, _tenant: TenantId, _pipeline: PipelineId, _state: &Pipeline) {}
 }
 
 /// A result that is to be posted.
@@ -111,8 +99,6 @@ impl<'a> Gate for PostsFirst<'a> {
         post(rt, &mut self.posting.lock(rt), tenant, pipeline);
         self.meeting.come();
     }
-
-    fn last<R: Wait>(&self, _rt: &R, _tenant: TenantId, _pipeline: PipelineId, _state: &Pipeline) {}
 }
 
 fn post<R: Wait>(rt: &R, posting: &mut Posting, tenant: TenantId, pipeline: PipelineId) {
@@ -138,8 +124,6 @@ impl Gate for Stops {
     fn before<R: Wait>(&self, rt: &R, _tenant: TenantId, _pipeline: PipelineId, _state: &Pipeline) {
         count_down(&mut self.stopping.lock(rt));
     }
-
-    fn last<R: Wait>(&self, _rt: &R, _tenant: TenantId, _pipeline: PipelineId, _state: &Pipeline) {}
 }
 
 fn count_down(stopping: &mut Stopping) {
@@ -163,6 +147,4 @@ impl<'a> Gate for Holding<'a> {
         self.meeting.wait();
         let _ = self.posts.lock(rt).stop(StopCause::Caller);
     }
-
-    fn last<R: Wait>(&self, _rt: &R, _tenant: TenantId, _pipeline: PipelineId, _state: &Pipeline) {}
 }

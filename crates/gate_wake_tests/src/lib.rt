@@ -5,8 +5,8 @@
 #[cfg(test)]
 mod base;
 #[cfg(test)]
-mod owed;
-#[cfg(test)]
 mod pieces;
 #[cfg(test)]
 mod told;
+#[cfg(test)]
+mod wake_ups;

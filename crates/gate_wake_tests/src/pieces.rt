@@ -1,7 +1,5 @@
 //! That a reader doesn't sleep while a long line comes in pieces.
 use crate::base::one;
-use gate_pipeline::Pipeline;
-use gate_record::{PipelineId, TenantId};
 use gate_run::{Gate, Inbox, ReaderFeed, serve};
 use std::alloc::Global;
 use std::io;
@@ -58,17 +56,7 @@ impl<'a, X: Clock> Clock for Counting<'a, X> {
 #[derive(Drop)]
 struct Silent;
 
-impl Gate for Silent {
-    fn before<R: Wait>(
-        &self,
-        _rt: &R,
-        _tenant: TenantId,
-        _pipeline: PipelineId,
-        _state: &Pipeline,
-    ) {}
-
-    fn last<R: Wait>(&self, _rt: &R, _tenant: TenantId, _pipeline: PipelineId, _state: &Pipeline) {}
-}
+impl Gate for Silent {}
 
 #[test]
 fn a_long_line_is_read_without_a_sleep(rt: HostRuntime) -> Result<(), Fail> {

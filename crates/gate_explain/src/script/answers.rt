@@ -1,313 +1,149 @@
-//! What a line of a script answered, in words.
-use crate::quoted::Named;
-use crate::script::asked::Asked;
+//! What the lines of a script answer, in words.
+use crate::document::number_of;
+use crate::names::{Added, Named};
+use crate::script::part::Part;
 use gate_config::Config;
-use gate_core::Answer;
+use gate_core::{Answer, Step};
 use gate_items::{Action, Discard, Manage, Outcome};
-use gate_record::{ConnId, Memory, PipelineId, Stamp, TenantId};
-use std::fmt;
+use gate_record::{ConnId, Reading, Record, TenantId, Text, read_record};
 
-// What stands before the number of a connection in the lines of a `show`.
-const FRONTS: [&str; 4] = ["item change ", "item ref ", "report change ", "report ref "];
-
-const NONE_OF_THIS_NUMBER: &str = "there is none of this number";
-
-/// Where something went that was moved, as far as it is followed.
-#[derive(Clone, Copy)]
-pub enum Followed {
-    /// It isn't followed.
-    Nothing,
-    /// It is a record, which goes by this generation.
-    Judged(u32),
-    /// It was taken, and is to be sent to so many tenants.
-    Taken(usize),
-    /// It is the mark of this generation, and was put.
-    Put(u32),
-    /// It is the mark of this generation, and was taken.
-    InForce(u32),
-    /// It wasn't taken, since what was taken before is to be sent first.
-    Held,
-    /// It was sent to this tenant.
-    Sent(TenantId),
-}
+const NOT_THERE: &str = "there is none of this number";
 
 /// Adds what a step answered, and the end of the line.
-pub fn push_answered(
-    out: &mut String,
-    config: &Config,
-    asked: Asked,
-    answer: &Answer,
-    followed: Followed,
-) -> Result<(), Memory> {
-    let whom = Whom { config, asked };
-    write!(out, "{whom}: ")?;
-    match (answer, followed) {
-        (Answer::Accepted(number), Followed::Judged(g)) => {
-            writeln!(out, "accepted as record {number}, of generation {g}")?;
+pub fn push_answer(out: &mut String, config: &Config, step: &Step, answer: &Answer) -> Added {
+    let said = match answer {
+        Answer::Turned(Some(stamp), _, outcome) => {
+            write!(out, "record {} of ", stamp.number)?;
+            Part::Connection(stamp.conn).push(out, config)?;
+            return push_outcome(out, *outcome);
         }
-        (Answer::Accepted(number), _) => writeln!(out, "accepted as record {number}")?,
-        (Answer::Turned(stamp, action, outcome), _) => {
-            push_turned(out, config, stamp, action, *outcome)?;
+        Answer::Turned(None, action, outcome) => {
+            push_action(out, action)?;
+            return push_outcome(out, *outcome);
         }
-        (_, Followed::Sent(tenant)) => {
-            let tenant = TenantName { config, tenant };
-            writeln!(out, "sent to {tenant}")?;
-        }
-        (_, Followed::Taken(0)) => out.push_str("taken, for no tenant\n")?,
-        (_, Followed::Taken(1)) => out.push_str("taken, for one tenant\n")?,
-        (_, Followed::Taken(count)) => writeln!(out, "taken, for {count} tenants")?,
-        (_, Followed::Put(g)) => writeln!(
-            out,
-            "the mark of generation {g} stands behind its records"
-        )?,
-        (_, Followed::InForce(g)) => {
-            writeln!(out, "taken: from here on generation {g} is in force")?;
-        }
-        (_, Followed::Held) => {
-            out.push_str("the forwarder still holds what is to be sent first\n")?;
-        }
-        (_, Followed::Judged(_) | Followed::Nothing) => {
-            let said = said(config, asked, answer);
-            writeln!(out, "{said}")?;
-        }
-    }
-    Ok(())
-}
-
-fn said(config: &Config, asked: Asked, answer: &Answer) -> &'static str {
-    match answer {
         Answer::Closed => "closed before, so nothing changed",
         Answer::Full => "its queue is full, so nothing changed",
         Answer::Passed => "nothing waits there; on to the next phase",
-        Answer::Idle if !is_there(config, asked) => NONE_OF_THIS_NUMBER,
-        Answer::Idle => said_of_idle(asked),
-        Answer::Accepted(_) | Answer::Moved | Answer::Turned(..) => said_of_moved(asked),
-    }
+        Answer::Idle if Part::of(step).name(config).is_none() => NOT_THERE,
+        Answer::Idle => said_of_idle(step),
+        Answer::Accepted(_) | Answer::Moved => said_of_moved(step),
+    };
+    Ok(writeln!(out, "{said}")?)
 }
 
-fn said_of_idle(asked: Asked) -> &'static str {
-    match asked {
-        Asked::Renew(_) => "the last generation is in force, so nothing changed",
-        Asked::Take(_) => "nothing waits",
-        Asked::Send(_) => "nothing to send",
-        Asked::Fetch(_) => {
-            "nothing is asked for or waits, or matched items are to be given first, or 256 are gathered"
-        }
-        Asked::Match(_) => "nothing to match",
-        Asked::Give(_) => "nothing to give",
-        Asked::Turn(..) => "finished before, so nothing changed",
-        Asked::Offer(_) | Asked::Close(_) | Asked::Post(..) => NONE_OF_THIS_NUMBER,
-    }
-}
-
-fn said_of_moved(asked: Asked) -> &'static str {
-    match asked {
-        Asked::Offer(_) => "accepted",
-        Asked::Close(_) => "closed: the end mark stands behind its records",
-        Asked::Renew(_) => "the mark of the next generation stands behind its records",
-        Asked::Take(_) => "taken",
-        Asked::Send(_) => "sent",
-        Asked::Fetch(_) => "items are gathered",
-        Asked::Match(_) => "what was gathered is matched against the rules",
-        Asked::Give(_) => "the next matched item is given to its pipeline",
-        Asked::Post(..) => "posted",
-        Asked::Turn(..) => "the end mark is met, and the pipeline is finished",
-    }
-}
-
-fn is_there(config: &Config, asked: Asked) -> bool {
-    match asked {
-        Asked::Offer(conn)
-        | Asked::Close(conn)
-        | Asked::Renew(conn)
-        | Asked::Take(conn)
-        | Asked::Send(conn) => { config.connections().get(conn.0 as usize).is_some() }
-        Asked::Fetch(tenant) | Asked::Match(tenant) | Asked::Give(tenant) => {
-            config.tenants().get(tenant.0 as usize).is_some()
-        }
-        Asked::Post(tenant, pipeline) | Asked::Turn(tenant, pipeline) => {
-            config.pipelines(tenant).get(pipeline.0 as usize).is_some()
-        }
-    }
-}
-
-fn push_turned(
-    out: &mut String,
-    config: &Config,
-    stamp: &Option<Stamp>,
-    action: &Action,
-    outcome: Outcome,
-) -> Result<(), Memory> {
-    push_action(out, config, stamp, action)?;
-    match outcome {
-        Outcome::Applied => out.push_str("applied\n")?,
-        Outcome::Discarded(why) => {
-            let why = reason(why);
-            writeln!(out, "discarded: {why}")?;
-        }
+fn push_action(out: &mut String, action: &Action) -> Added {
+    match action {
+        Action::Result(ended) => write!(out, "a result of build set {}", ended.set)?,
+        Action::Manage(Manage::Dequeue(_)) => out.push_str("a dequeue")?,
+        Action::Manage(Manage::Reset(_)) => out.push_str("a reset")?,
+        Action::Trigger(..) => out.push_str("a trigger")?,
     }
     Ok(())
 }
 
-fn push_action(
-    out: &mut String,
-    config: &Config,
-    stamp: &Option<Stamp>,
-    action: &Action,
-) -> Result<(), Memory> {
-    match (stamp, action) {
-        (Some(stamp), _) => {
-            let connection = ConnectionName {
-                config,
-                connection: stamp.conn,
-            };
-            let number = stamp.number;
-            write!(out, "record {number} of {connection} is ")?;
+fn said_of_moved(step: &Step) -> &'static str {
+    match step {
+        Step::Offer(..) => "accepted",
+        Step::Close(_) => "closed: the end mark stands behind its records",
+        Step::Renew(_) => "the mark of the next generation stands behind its records",
+        Step::Take(_) => "taken",
+        Step::Send(_) => "sent to the next tenant that gets it",
+        Step::Fetch(..) => "items are gathered",
+        Step::Match(_) => "what was gathered is matched against the rules",
+        Step::Give(_) => "the next matched item is given to its pipeline",
+        Step::PostManage(..) | Step::PostResult(..) => "posted",
+        Step::Turn(..) => "the end mark is met, and the pipeline is finished",
+    }
+}
+
+fn said_of_idle(step: &Step) -> &'static str {
+    match step {
+        Step::Renew(_) => "the last generation is in force, so nothing changed",
+        Step::Take(_) => "nothing waits, or what was taken before is to be sent first",
+        Step::Send(_) => "nothing to send",
+        Step::Fetch(..) => {
+            "nothing is asked for or waits, or matched items are to be given first, or 256 are gathered"
         }
-        (None, Action::Result(ended)) => {
-            let set = ended.set;
-            write!(out, "a result of build set {set} is ")?;
+        Step::Match(_) => "nothing to match",
+        Step::Give(_) => "nothing to give",
+        Step::Turn(..) => "finished before, so nothing changed",
+        _ => "nothing changed",
+    }
+}
+
+/// Adds which tenants get a record of a connection, and the end of the line.
+pub fn push_receivers(out: &mut String, config: &Config, conn: ConnId, record: &Record) -> Added {
+    match read_record(*out.allocator(), record)? {
+        Reading::Event(event) => push_tenants(out, config, conn, event.project.as_ref()),
+        Reading::Nothing(_) => push_tenants(out, config, conn, None),
+    }
+}
+
+// Adds the tenants that list a project under a connection.
+fn push_tenants(out: &mut String, config: &Config, conn: ConnId, project: Option<&Text>) -> Added {
+    let mut between = "";
+    for (place, tenant) in config.tenants().iter().enumerate() {
+        let number = TenantId(number_of(place));
+        if project.is_some_and(|project| config.belongs(number, conn, project.as_str())) {
+            write!(out, "{between}{}", Named(tenant.name.as_str()))?;
+            between = ", ";
         }
-        (None, Action::Manage(Manage::Dequeue(_))) => out.push_str("a dequeue is ")?,
-        (None, Action::Manage(Manage::Reset(_))) => out.push_str("a reset is ")?,
-        (None, Action::Trigger(..)) => out.push_str("a trigger is ")?,
+    }
+    Ok(out.push_str(if between.is_empty() {
+        "no tenant\n"
+    } else {
+        "\n"
+    })?)
+}
+
+fn push_outcome(out: &mut String, outcome: Outcome) -> Added {
+    match outcome {
+        Outcome::Applied => out.push_str(" is applied\n")?,
+        Outcome::Discarded(why) => {
+            writeln!(out, " is discarded: {} ({})", reason(why), why.word())?;
+        }
     }
     Ok(())
 }
 
 fn reason(why: Discard) -> &'static str {
     match why {
-        Discard::NoKey =>
-            "the event has neither a change number nor a ref with a new revision (no-key)",
-        Discard::NoJobs => "the project has no jobs in the pipeline (no-jobs)",
-        Discard::Known => "an item has the same patch set (known)",
-        Discard::Older => "an item has a newer patch set (older)",
-        Discard::NotCurrent => "no item has this build set, or none has it any more (not-current)",
-        Discard::NoJob => "the build set has no such job (no-job)",
-        Discard::Repeated => "the job has its outcome already (repeated)",
-        Discard::NoItem => "no item has this key (no-item)",
-        Discard::Numbers => "too few numbers are left for build sets (numbers)",
+        Discard::NoKey => "the event has neither a change number nor a ref with a new revision",
+        Discard::NoJobs => "the project has no jobs in the pipeline",
+        Discard::Known => "an item has the same patch set",
+        Discard::Older => "an item has a newer patch set",
+        Discard::NotCurrent => "no item has this build set, or none has it any more",
+        Discard::NoJob => "the build set has no such job",
+        Discard::Repeated => "the job has its outcome already",
+        Discard::NoItem => "no item has this key",
+        Discard::Numbers => "too few numbers are left for build sets",
     }
 }
 
-/// Adds what a pipeline keeps, a line for each item and report.
-pub fn push_shown(
-    out: &mut String,
-    config: &Config,
-    tenant: TenantId,
-    pipeline: PipelineId,
-    text: &str,
-) -> Result<(), Memory> {
-    let asked = Asked::Turn(tenant, pipeline);
-    let whom = Whom { config, asked };
-    if !is_there(config, asked) {
-        writeln!(out, "{whom}: {NONE_OF_THIS_NUMBER}")?;
-        return Ok(());
+/// Adds what a pipeline keeps, a line for each item and report of a text that shows it.
+pub fn push_shown(out: &mut String, config: &Config, pipeline: Part, text: &str) -> Added {
+    pipeline.push(out, config)?;
+    if pipeline.name(config).is_none() {
+        return Ok(writeln!(out, ": {NOT_THERE}")?);
     }
-    writeln!(out, "{whom}:")?;
+    out.push_str(":\n")?;
     for line in text.lines() {
+        out.push_str("          ")?;
         push_kept(out, config, line)?;
     }
     Ok(())
 }
 
-// A line about what a pipeline keeps, with the name of the connection in place of its number.
-fn push_kept(out: &mut String, config: &Config, line: &str) -> Result<(), Memory> {
-    for front in FRONTS.as_slice() {
-        if let Some((connection, rest)) = named_by(line, *front) {
-            let connection = ConnectionName { config, connection };
-            writeln!(out, "          {front}{connection} {rest}")?;
-            return Ok(());
+// A line `item KEY C ..` or `report KEY C ..`, with the name of the connection in place of its number; any other as it is.
+fn push_kept(out: &mut String, config: &Config, line: &str) -> Added {
+    let mut words = line.splitn(4, ' ');
+    let (what, key) = (words.next().unwrap_or(""), words.next().unwrap_or(""));
+    match (words.next().unwrap_or("").parse::<u32>(), words.next()) {
+        (Ok(number), Some(rest)) => {
+            write!(out, "{what} {key} ")?;
+            Part::Connection(ConnId(number)).push(out, config)?;
+            Ok(writeln!(out, " {rest}")?)
         }
-    }
-    writeln!(out, "          {line}")?;
-    Ok(())
-}
-
-// The connection that a line with this front names, and what stands behind it.
-fn named_by<'l>(line: &'l str, front: &str) -> Option<(ConnId, &'l str)> {
-    let (number, rest) = line.strip_prefix(front)?.split_once(" ")?;
-    match number.parse::<u32>() {
-        Ok(number) => Some((ConnId(number), rest)),
-        Err(_) => None,
-    }
-}
-
-/// Whom a step is for, by its name.
-#[derive(Clone, Copy)]
-struct Whom<'c> {
-    config: &'c Config,
-    asked: Asked,
-}
-
-impl fmt::Display for Whom<'_> {
-    fn fmt<W: fmt::Write>(&self, f: &mut fmt::Formatter<W>) -> fmt::Result {
-        let config = self.config;
-        match self.asked {
-            Asked::Offer(connection)
-            | Asked::Close(connection)
-            | Asked::Renew(connection)
-            | Asked::Take(connection)
-            | Asked::Send(connection) => write!(f, "{}", ConnectionName { config, connection }),
-            Asked::Fetch(tenant) | Asked::Match(tenant) | Asked::Give(tenant) => {
-                write!(f, "{}", TenantName { config, tenant })
-            }
-            Asked::Post(tenant, pipeline) | Asked::Turn(tenant, pipeline) => {
-                write_pipeline(f, config, tenant, pipeline)
-            }
-        }
-    }
-}
-
-fn write_pipeline<W: fmt::Write>(
-    f: &mut fmt::Formatter<W>,
-    config: &Config,
-    tenant: TenantId,
-    pipeline: PipelineId,
-) -> fmt::Result {
-    let name = TenantName { config, tenant };
-    match config.pipelines(tenant).get(pipeline.0 as usize) {
-        Some(pipeline) => {
-            let pipeline = Named(pipeline.name.as_str());
-            write!(f, "{name}/{pipeline}")
-        }
-        None => {
-            let number = pipeline.0;
-            write!(f, "{name}/pipeline {number}")
-        }
-    }
-}
-
-/// The name of a connection, or its number where it isn't there.
-#[derive(Clone, Copy)]
-struct ConnectionName<'c> {
-    config: &'c Config,
-    connection: ConnId,
-}
-
-impl fmt::Display for ConnectionName<'_> {
-    fn fmt<W: fmt::Write>(&self, f: &mut fmt::Formatter<W>) -> fmt::Result {
-        let number = self.connection.0;
-        match self.config.connections().get(number as usize) {
-            Some(name) => write!(f, "{}", Named(name.as_str())),
-            None => write!(f, "connection {number}"),
-        }
-    }
-}
-
-/// The name of a tenant, or its number where it isn't there.
-#[derive(Clone, Copy)]
-struct TenantName<'c> {
-    config: &'c Config,
-    tenant: TenantId,
-}
-
-impl fmt::Display for TenantName<'_> {
-    fn fmt<W: fmt::Write>(&self, f: &mut fmt::Formatter<W>) -> fmt::Result {
-        let number = self.tenant.0;
-        match self.config.tenants().get(number as usize) {
-            Some(tenant) => write!(f, "{}", Named(tenant.name.as_str())),
-            None => write!(f, "tenant {number}"),
-        }
+        _ => Ok(writeln!(out, "{line}")?),
     }
 }

@@ -1,71 +1,65 @@
 //! A line that stands for nothing: which word of it is wrong, and what is expected in its place.
-use crate::near::{nearest, push_meant};
-use crate::quoted::Quoted;
-use crate::script::lines::{Lines, shortened};
-use gate_core::read_script_line;
+use crate::names::{Added, Meant, Quoted, front, nearest};
 use gate_line::{Field, LineFault, split_word};
 use gate_record::Memory;
 use std::alloc::Global;
 use std::str;
 
 // The first words of a script's lines.
-const FIRST_WORDS: [&str; 14] = [
-    "offer", "oversize", "close", "renew", "take", "send", "fetch", "match", "give", "dequeue",
-    "reset", "result", "turn", "show",
-];
+const FIRST_WORDS: &str =
+    "offer oversize close renew take send fetch match give dequeue reset result turn show";
 
-/// Adds the fault of a script at the line of this number, and what is wrong with it.
-pub fn push_wrong(
-    out: &mut String,
+// How many letters of a line, or of what stands in it, are written.
+const LETTERS: usize = 100;
+
+/// The fault of a script at the line of this number, and what is wrong with it.
+pub fn wrong_line(
     alloc: Global,
-    script: &[u8],
-    number: usize,
-) -> Result<(), Memory> {
-    let line = line_at(script, number);
-    let text = shortened(alloc, line)?;
-    let text = Quoted(text.as_str());
-    write!(out, "script {number}\nLine {number} is {text}. ")?;
-    match read_script_line(alloc, line) {
-        Ok(_) | Err(LineFault::Memory) => Err(Memory),
-        Err(fault) => push_expected(out, alloc, line, fault),
-    }
-}
-
-fn line_at(script: &[u8], number: usize) -> &[u8] {
-    let mut before: usize = 0;
-    for line in Lines::of(script) {
-        before = before.saturating_add(1);
-        if before == number {
-            return line;
-        }
-    }
-    &[]
-}
-
-fn push_expected(
-    out: &mut String,
-    alloc: Global,
+    number: u64,
     line: &[u8],
     fault: LineFault,
-) -> Result<(), Memory> {
+) -> Result<String, Memory> {
+    let mut out = String::new(alloc);
+    write!(out, "script {number}\nLine {number} is ")?;
+    push_quoted(&mut out, line)?;
+    out.push_str(". Expected ")?;
+    push_expected(&mut out, line, fault)?;
+    out.push_str(".")?;
+    Ok(out)
+}
+
+fn push_expected(out: &mut String, line: &[u8], fault: LineFault) -> Added {
     match fault {
-        LineFault::Unknown | LineFault::Memory => push_first(out, alloc, split_word(line).0),
+        LineFault::Memory => Err(Memory),
+        LineFault::Unknown => push_unknown(out, split_word(line).0),
         LineFault::Missing(field) => {
-            let expected = expected(field);
-            write!(out, "Expected {expected}; found the end of the line.")?;
-            Ok(())
+            Ok(write!(out, "{}; found the end of the line", expected(field))?)
         }
-        LineFault::Empty(field) => push_found(out, alloc, field, &[]),
-        LineFault::Wrong(field, left) => push_found(out, alloc, field, found(line, field, left)),
+        LineFault::Empty(field) => push_found(out, field, &[]),
+        LineFault::Wrong(field, left) => push_found(out, field, found(line, field, left)),
     }
 }
 
-fn push_found(out: &mut String, alloc: Global, field: Field, found: &[u8]) -> Result<(), Memory> {
-    let expected = expected(field);
-    let found = shortened(alloc, found)?;
-    let found = Quoted(found.as_str());
-    write!(out, "Expected {expected}; found {found}.")?;
+// Adds the front of a line, or of what stands in it.
+fn push_quoted(out: &mut String, bytes: &[u8]) -> Added {
+    let text = String::from_utf8_lossy(*out.allocator(), bytes)?;
+    match front(text.as_str(), LETTERS) {
+        Some(front) => write!(out, "{}..", Quoted(front))?,
+        None => write!(out, "{}", Quoted(text.as_str()))?,
+    }
     Ok(())
+}
+
+fn push_unknown(out: &mut String, word: &[u8]) -> Added {
+    write!(out, "a line that begins with one of {FIRST_WORDS}; found ")?;
+    push_quoted(out, word)?;
+    let word = str::from_utf8(word).unwrap_or("");
+    Ok(write!(out, "{}", Meant(nearest(word, FIRST_WORDS)))?)
+}
+
+fn push_found(out: &mut String, field: Field, found: &[u8]) -> Added {
+    write!(out, "{}; found ", expected(field))?;
+    push_quoted(out, found)
 }
 
 // What stands in the place of a field that begins so many bytes before the end of the line.
@@ -75,25 +69,6 @@ fn found(line: &[u8], field: Field, left: usize) -> &[u8] {
         Field::Job | Field::Record | Field::Project | Field::End => rest,
         _ => split_word(rest).0,
     }
-}
-
-fn push_first(out: &mut String, alloc: Global, word: &[u8]) -> Result<(), Memory> {
-    out.push_str("Expected a line that begins with one of")?;
-    let mut before = " ";
-    for known in FIRST_WORDS.as_slice() {
-        write!(out, "{before}{known}")?;
-        before = ", ";
-    }
-    let found = shortened(alloc, word)?;
-    let found = Quoted(found.as_str());
-    write!(out, "; found {found}")?;
-    let near = match str::from_utf8(word) {
-        Ok(text) => nearest(text, FIRST_WORDS.as_slice()),
-        Err(_) => None,
-    };
-    push_meant(out, near)?;
-    out.push_str(".")?;
-    Ok(())
 }
 
 // What is to stand there.

@@ -1,10 +1,15 @@
 -- Beside `Forwarding`: what private contracts and proofs cite.
-use Rattle.std.specs.Prelude.{ℕ, List}
+use Rattle.std.specs.Prelude.{◌≡◌, ℕ, List}
 use Rattle.gate_record.specs.declared.ids.TenantId.{TenantId}
 use Rattle.gate_record.specs.declared.reading.Reading.{Reading}
 use Rattle.gate_record.specs.declared.transit.TenantItem.{TenantItem}
 use Rattle.gate_config.specs.declared.generations.Generations.{Generations}
+use Rattle.gate_forward.specs.declared.forward.Forward.{Forward}
 use Rattle.gate_forward.specs.Forwarding.{by_tenant, forwarded_reading}
 
 abbrev pub sends_reading : Generations → ℕ → ℕ → ℕ → Reading → List (TenantId × TenantItem)
 sends_reading gens c g n r = by_tenant gens (λ t. forwarded_reading gens t c g n r)
+
+-- nothing but the outbox is another
+abbrev pub KeepsAllElse : Forward → Forward → Type 0
+KeepsAllElse before after = after ≡ record before { outbox = after.outbox }

@@ -1,6 +1,5 @@
 -- The fields of an event, where they stand in a tape.
 use Rattle.std.specs.Prelude.{◌≡◌, ℕ, ℤ, List, [], ◌∷◌, codes, Option, option_and_then, option_map}
-use Rattle.std.specs.Option.{option_or}
 use Rattle.serde_json.specs.Data.{Data}
 use Rattle.serde_json.specs.Find.{get}
 use Rattle.gate_record.specs.Approvals.{category}
@@ -23,10 +22,6 @@ pub record AreFields (value : Data) (kind : List ℕ) (fields : Fields) : Type 0
   pub comment : option_map (λ t. t.now) fields.comment ≡ text_at (codes "comment" ∷ []) value
   pub username : option_map (λ t. t.now) fields.username ≡ account_text (account_of kind) (codes "username") value
   pub email : option_map (λ t. t.now) fields.email ≡ account_text (account_of kind) (codes "email") value
-
--- the name of the label of an entry
-abbrev pub label_of : Data → Option (List ℕ)
-label_of entry = option_or (text_at (codes "description" ∷ []) entry) (text_at (codes "type" ∷ []) entry)
 
 -- the approval of a label and a vote
 abbrev pub labelled : Option (List ℕ) → Option ℤ → Option (List ℕ × ℤ)

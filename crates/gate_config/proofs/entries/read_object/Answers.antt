@@ -20,11 +20,11 @@ pub returns-in_err-pattern : goal.returns-in_err-pattern
 returns-in_err-pattern c =
     exit _ c.from_residual-in_err-pattern.result c.from_residual-in_err-pattern.ensures.1
     (fault_rest c.in_ok-check_keys.ensures.0 (fault_later c.in_ok-text.ensures.0 (fault_later c.in_ok-negate.ensures.0
-    (rw (c.as_str.ensures ∙ c.in_ok-place.ensures, c.in_ok-text.ensures.1) at c.in_err-pattern.ensures))))
+    (rw (c.member-place.ensures, c.in_ok-text.ensures.1) at c.in_err-pattern.ensures))))
 
 pub returns : goal.returns
 returns c =
-    let built = rw (c.as_str.ensures ∙ c.in_ok-place.ensures, c.in_ok-text.ensures.1) at c.in_ok-pattern.ensures.0 in
+    let built = rw (c.member-place.ensures, c.in_ok-text.ensures.1) at c.in_ok-pattern.ensures.0 in
     let text = ap text_of c.new.ensures.pattern ∙ c.in_ok-pattern.ensures.1 ∙ c.in_ok-text.ensures.1 in
     let negate = c.new.ensures.negate ∙ c.in_ok-negate.ensures.1 in
     (passed_both c.in_ok-check_keys.ensures.0 (passed_more c.in_ok-text.ensures.0 (passed_more c.in_ok-negate.ensures.0 built)), λ i. record { text = text i; negate = negate i })

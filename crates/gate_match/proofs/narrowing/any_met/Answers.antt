@@ -26,9 +26,9 @@ loop-one-preserved c =
     let field = c.args.field in
     let i = c.loop-one.one-index in
     record {
-      right = c.add.ensures.right;
+      right = c.join.ensures.right;
       met =
-          c.in_ok-add.ensures.adds
+          c.in_ok-join.ensures.joins
           ∙ ap (λ rows. either rows (met_in field c.one-item.result.entry.now events)) c.loop-one.invariant.met
           ∙ ap (λ (one : Asked). either (map (λ event. list_any (λ one. test field one event) (take i c.args.asked.now)) events) (map (test field one) events)) c.one-item.is
           ∙ any_more (test field) c.args.asked.now i c.one-item.result events c.loop-one-test.true;

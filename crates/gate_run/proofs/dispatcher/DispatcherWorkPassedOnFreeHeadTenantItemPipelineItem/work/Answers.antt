@@ -22,10 +22,10 @@ step-requires-clause-seats g c =
     let (iterator, was, head, seats) = c.loop.invariant in
     only_queues 0 c.loop.dispatching.tails.items c.args.self.targets.now seats
 
-pub returns-in-Out : goal.returns-in-Out
-returns-in-Out g c =
+pub returns-in-Done : goal.returns-in-Done
+returns-in-Done g c =
     let (iterator, was, head, seats) = c.loop.invariant in
-    dispatcher_ends {d = c.step.new.self.dispatch} {taker = c.step.new.self.head} {senders = c.step.new.self.tails.items} _ _ c.end-in-Out.result.head c.end-in-Out.result.tails.items c.end-in-Out.ensures.head (ap (λ v. v.items) c.end-in-Out.ensures.tails) (c.step.ensures.head ∙ head) (c.step.ensures.seats ∙ seats) (search rules) c.end-in-Out.ensures.given
+    dispatcher_ends {d = c.step.new.self.dispatch} {taker = c.step.new.self.head} {senders = c.step.new.self.tails.items} _ _ c.end-in-Done.result.head c.end-in-Done.result.tails.items c.end-in-Done.ensures.head (ap (λ v. v.items) c.end-in-Done.ensures.tails) (c.step.ensures.head ∙ head) (c.step.ensures.seats ∙ seats) (search rules) c.end-in-Done.ensures.given
 
 pub returns-in_default : goal.returns-in_default
 returns-in_default g c = not_dispatched c.args.self.gens.now c.args.self.tenant.0 c.args.self.source.now c.args.self.targets.now c.args.self.head c.args.self.tails.items c.requires.not_taken c.requires.not_put
@@ -35,8 +35,8 @@ end-requires-clause-pipelines g c =
     let (iterator, was, head, seats) = c.loop.invariant in
     as_many 0 c.loop.dispatching.tails.items c.args.self.targets.now seats ∙ c.requires.pipelines ∙ (λ i. length (pipelines_of (sym was.by_gens i).first (sym was.of_tenant i)))
 
-pub end-requires-in-Out-clause-pipelines : goal.end-requires-in-Out-clause-pipelines
-end-requires-in-Out-clause-pipelines g c =
+pub end-requires-in-Done-clause-pipelines : goal.end-requires-in-Done-clause-pipelines
+end-requires-in-Done-clause-pipelines g c =
     let (iterator, was, head, seats) = c.loop.invariant in
     let next = c.step.ensures.dispatches in
     as_many 0 c.step.new.self.tails.items c.args.self.targets.now (c.step.ensures.seats ∙ seats) ∙ c.requires.pipelines

@@ -22,10 +22,10 @@ step-requires-clause-seats g c =
     let (iterator, was, kept, head, seats) = c.loop.invariant in
     only_queues c.args.self.conn.0 c.loop.forwarding.tails.items c.args.self.targets.now seats
 
-pub returns-in-Out : goal.returns-in-Out
-returns-in-Out g c =
+pub returns-in-Done : goal.returns-in-Done
+returns-in-Done g c =
     let (iterator, was, kept, head, seats) = c.loop.invariant in
-    forwarder_ends {f = c.step.new.self} _ _ c.end-in-Out.result.head c.end-in-Out.result.tails.items c.end-in-Out.ensures.head (ap (λ v. v.items) c.end-in-Out.ensures.tails) (c.step.ensures.head ∙ head) (c.step.ensures.seats ∙ seats) (search rules) c.end-in-Out.ensures.put
+    forwarder_ends {f = c.step.new.self} _ _ c.end-in-Done.result.head c.end-in-Done.result.tails.items c.end-in-Done.ensures.head (ap (λ v. v.items) c.end-in-Done.ensures.tails) (c.step.ensures.head ∙ head) (c.step.ensures.seats ∙ seats) (search rules) c.end-in-Done.ensures.put
 
 pub returns-in_default : goal.returns-in_default
 returns-in_default g c = not_forwarded c.args.self.gens.now c.args.self.conn.0 c.args.self.source.now c.args.self.targets.now c.args.self.head c.args.self.tails.items c.requires.not_taken c.requires.not_put

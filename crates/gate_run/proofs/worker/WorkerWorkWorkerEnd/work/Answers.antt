@@ -9,7 +9,7 @@ loop-init g c = (
   ap (λ head. head.queue) c.requires.not_taken,
 )
 
-pub returns-in-Out : goal.returns-in-Out
-returns-in-Out g c =
+pub returns-in-Done : goal.returns-in-Done
+returns-in-Done g c =
     let (iterator, was, head) = c.loop.invariant in
-    worker_ends {w = c.step.new.self} _ _ _ _ c.end-in-Out.ensures.head c.end-in-Out.ensures.management c.end-in-Out.ensures.results c.end-in-Out.ensures.state (c.step.ensures.continues _ _ _ _ _ was)
+    worker_ends {w = c.step.new.self} _ _ _ _ c.end-in-Done.ensures.head c.end-in-Done.ensures.management c.end-in-Done.ensures.results c.end-in-Done.ensures.state (c.step.ensures.continues _ _ _ _ _ was)

@@ -1,0 +1,68 @@
+// What stands at several keys of an object in a tape, of which each member is looked at once.
+ghost use Rattle.std.specs.Prelude.{◌≡◌, Option, false, option_and_then};
+ghost use Rattle.std.specs.Str.{bytes_eq};
+ghost use Rattle.serde_json.specs.Data.{Data};
+ghost use Rattle.serde_json.specs.Find.{get};
+ghost use Rattle.gate_record.specs.Inner.Tapes.{Begins, Finds};
+
+use json::Element;
+
+/// What stands at each of three keys, of which no two are alike.
+pub(crate) fn three_members<'t, 'a>(
+    outer: &Element<'t, 'a>,
+    first: &str,
+    second: &str,
+    third: &str,
+) -> (
+    Option<Element<'t, 'a>>,
+    Option<Element<'t, 'a>>,
+    Option<Element<'t, 'a>>,
+)
+    requires first { bytes_eq first.now second.now ≡ false }
+    requires second { bytes_eq second.now third.now ≡ false }
+    requires third { bytes_eq first.now third.now ≡ false }
+    ensures first { (value : Data) → Begins outer.now value → Finds result.0 (get first.now value) }
+    ensures second { (value : Data) → Begins outer.now value → Finds result.1 (get second.now value) }
+    ensures third { (value : Data) → Begins outer.now value → Finds result.2 (get third.now value) }
+{
+    let Some(mut members) = outer.members() else {
+        return (None, None, None);
+    };
+    let mut at_first = None;
+    let mut at_second = None;
+    let mut at_third = None;
+    while let Some((key, member)) = members.next() {
+        if key == first {
+            at_first = Some(member);
+        } else if key == second {
+            at_second = Some(member);
+        } else if key == third {
+            at_third = Some(member);
+        }
+    }
+    (at_first, at_second, at_third)
+}
+
+/// The same of an object that was looked up.
+pub(crate) fn three_members_in<'t, 'a>(
+    outer: &Option<Element<'t, 'a>>,
+    first: &str,
+    second: &str,
+    third: &str,
+) -> (
+    Option<Element<'t, 'a>>,
+    Option<Element<'t, 'a>>,
+    Option<Element<'t, 'a>>,
+)
+    requires first { bytes_eq first.now second.now ≡ false }
+    requires second { bytes_eq second.now third.now ≡ false }
+    requires third { bytes_eq first.now third.now ≡ false }
+    ensures first { (found : Option Data) → Finds outer.now found → Finds result.0 (option_and_then (get first.now) found) }
+    ensures second { (found : Option Data) → Finds outer.now found → Finds result.1 (option_and_then (get second.now) found) }
+    ensures third { (found : Option Data) → Finds outer.now found → Finds result.2 (option_and_then (get third.now) found) }
+{
+    match outer {
+        Some(outer) => three_members(outer, first, second, third),
+        None => (None, None, None),
+    }
+}
