@@ -3,19 +3,20 @@ ghost use Rattle.std.specs.Prelude.{◌≡◌, string_bytes, IfOk};
 use crate::memory::Memory;
 use arrayvec::ArrayString;
 use std::alloc::Global;
+use std::fmt;
 use std::marker::Model;
 
 // So many bytes of a text take no memory of their own: most names of projects, branches, refs and accounts have no more.
 const INLINE: usize = 32;
 
 /// A text that contracts see as the list of its UTF-8 bytes. A copy of at most 32 bytes takes no memory.
-#[derive(Debug, Drop)]
+#[derive(Drop)]
 pub struct Text {
     bytes: TextBytes,
 }
 
 // Where a text's bytes are.
-#[derive(Debug, Drop)]
+#[derive(Drop)]
 enum TextBytes {
     Inline(ArrayString<INLINE>),
     Heap(String),
@@ -59,5 +60,11 @@ impl Text {
             TextBytes::Inline(text) => text.as_str(),
             TextBytes::Heap(text) => text.as_str(),
         }
+    }
+}
+
+impl fmt::Debug for Text {
+    fn fmt<W: fmt::Write>(&self, f: &mut fmt::Formatter<W>) -> fmt::Result {
+        fmt::Debug::fmt(self.as_str(), f)
     }
 }

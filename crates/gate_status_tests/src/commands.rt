@@ -41,10 +41,10 @@ quit|Quit
 dequeue 0 1 change 2 7|Manage(TenantId(0), PipelineId(1), Dequeue(Change { conn: ConnId(2), number: 7 }))
 reset 0 1 change 2 -7|Manage(TenantId(0), PipelineId(1), Reset(Change { conn: ConnId(2), number: -7 }))
 dequeue 00 4294967295 change 007 +9223372036854775807|Manage(TenantId(0), PipelineId(4294967295), Dequeue(Change { conn: ConnId(7), number: 9223372036854775807 }))
-reset 3 1 ref 2 abc refs/heads/main a b|Manage(TenantId(3), PipelineId(1), Reset(Ref { conn: ConnId(2), project: Text { string: "a b" }, refname: Text { string: "refs/heads/main" }, newrev: Text { string: "abc" } }))
-dequeue 0 1 ref 2 abc r  |Manage(TenantId(0), PipelineId(1), Dequeue(Ref { conn: ConnId(2), project: Text { string: " " }, refname: Text { string: "r" }, newrev: Text { string: "abc" } }))
-result 1 0 18446744073709551615 success build|Result(TenantId(1), PipelineId(0), JobResult { set: 18446744073709551615, job: Text { string: "build" }, success: true })
-result 1 0 5 failure  build é |Result(TenantId(1), PipelineId(0), JobResult { set: 5, job: Text { string: " build é " }, success: false })
+reset 3 1 ref 2 abc refs/heads/main a b|Manage(TenantId(3), PipelineId(1), Reset(Ref { conn: ConnId(2), project: "a b", refname: "refs/heads/main", newrev: "abc" }))
+dequeue 0 1 ref 2 abc r  |Manage(TenantId(0), PipelineId(1), Dequeue(Ref { conn: ConnId(2), project: " ", refname: "r", newrev: "abc" }))
+result 1 0 18446744073709551615 success build|Result(TenantId(1), PipelineId(0), JobResult { set: 18446744073709551615, job: "build", success: true })
+result 1 0 5 failure  build é |Result(TenantId(1), PipelineId(0), JobResult { set: 5, job: " build é ", success: false })
 "#;
     play(&rt, rt.alloc(), table)
 }
