@@ -25,8 +25,8 @@ pub fn is_word(word: &[u8], name: &str) -> bool
 
 ghost use Rattle.std.specs.Prelude.{position, ◌==◌};
 
-// The first place of a byte.
-pub(crate) fn find_byte(text: &[u8], wanted: u8) -> Option<usize>
+// The first place of a byte; words are short.
+fn find_byte(text: &[u8], wanted: u8) -> Option<usize>
     ensures { result ≡ position (λ byte. byte == wanted) text.now }
 {
     text.iter().position(|byte| *byte == wanted)
