@@ -58,14 +58,6 @@ impl<'a> JournalGate<'a> {
 }
 
 impl<'a> Gate for JournalGate<'a> {
-    fn before<R: Wait>(
-        &self,
-        _rt: &R,
-        _tenant: TenantId,
-        _pipeline: PipelineId,
-        _state: &Pipeline,
-    ) {}
-
     fn after<R: Wait>(
         &self,
         rt: &R,

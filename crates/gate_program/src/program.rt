@@ -46,7 +46,11 @@ where
     E: Write,
     ensures within { result ≤ 3 }
 {
-    match run_task(rt, words, input, output) {
+    let done = match said_by(rt, words, input) {
+        Ok(said) => print(output, said),
+        Err(fault) => Err(fault),
+    };
+    match done {
         Ok(()) => 0,
         Err(fault) => tell(&fault, errors),
     }
@@ -82,27 +86,8 @@ impl Said {
     }
 }
 
-fn run_task<X, R, O>(rt: &X, words: &[String], input: &mut R, output: &mut O) -> Result<(), Fault>
-where
-    X: Files<File = File>
-        + Net<Stream = TcpStream, Listener = TcpListener>
-        + Threads
-        + Wait
-        + Clock
-        + Env
-        + AllocGlobal
-        + Copy
-        + Send
-        + Sync
-        + 'static,
-    R: Read,
-    O: Write,
-{
-    let task = task_of(rt.alloc(), words)?;
-    print(output, said_by(rt, task, input)?)
-}
-
-fn said_by<X, R>(rt: &X, task: Task, input: &mut R) -> Result<Said, Fault>
+// What the words ask for, done; nothing is printed yet.
+fn said_by<X, R>(rt: &X, words: &[String], input: &mut R) -> Result<Said, Fault>
 where
     X: Files<File = File>
         + Net<Stream = TcpStream, Listener = TcpListener>
@@ -117,14 +102,21 @@ where
         + 'static,
     R: Read,
 {
-    match task {
+    match task_of(rt.alloc(), words)? {
         Task::Check { config } => check_files(rt, config),
         Task::Replay { config, script } => replay_files(rt, config, script),
         Task::Serve {
             config,
             status,
             sources,
-        } => serve_files(rt, config, status.as_str(), sources.as_slice()),
+        } => {
+            let documents = files(rt, config)?;
+            let journal = journal_path(rt)?;
+            let path = journal.as_deref();
+            let (documents, sources) = (documents.as_slice(), sources.as_slice());
+            let ran = serve_words(rt, documents, status.as_str(), sources, path)?;
+            Ok(said_of_run(rt.alloc(), ran, path))
+        }
         Task::Input => replay_input(rt, input),
     }
 }
@@ -143,32 +135,6 @@ fn print<O: Write>(output: &mut O, said: Said) -> Result<(), Fault> {
 fn check_files<X: Files + AllocGlobal>(rt: &X, config: Vec<String>) -> Result<Said, Fault> {
     let documents = files(rt, config)?;
     Ok(Said::of(check(rt.alloc(), documents.as_slice())?))
-}
-
-fn serve_files<X>(
-    rt: &X,
-    config: Vec<String>,
-    status: &str,
-    sources: &[String],
-) -> Result<Said, Fault>
-where
-    X: Files<File = File>
-        + Net<Stream = TcpStream, Listener = TcpListener>
-        + Threads
-        + Wait
-        + Clock
-        + Env
-        + AllocGlobal
-        + Copy
-        + Send
-        + Sync
-        + 'static,
-{
-    let documents = files(rt, config)?;
-    let journal = journal_path(rt)?;
-    let path = journal.as_deref();
-    let ran = serve_words(rt, documents.as_slice(), status, sources, path)?;
-    Ok(said_of_run(rt.alloc(), ran, path))
 }
 
 // The report, and behind it the fault of a journal.

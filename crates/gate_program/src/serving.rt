@@ -64,7 +64,10 @@ where
     let address = port_address(status)?;
     let sources = sources_of(alloc, gens.first(), words)?;
     let (port, socket) = listen(rt, status, address)?;
-    let ran = open_and_run(rt, gens, sources.as_slice(), port, journal);
+    let ran = match open_all(rt, gens.first(), sources.as_slice(), journal) {
+        Ok((file, feeds)) => run(rt, gens, feeds, port, file),
+        Err(fault) => Err(fault),
+    };
     // While it is listened on, nobody else takes the socket for an abandoned one.
     if let Some(socket) = socket {
         let _ = socket.remove(rt);
@@ -73,28 +76,19 @@ where
     Ok(ran)
 }
 
-fn open_and_run<X>(
+// The journal and the streams of a run, and its feeds by connection number.
+fn open_all<X: Files<File = File> + Net<Stream = TcpStream> + AllocGlobal>(
     rt: &X,
-    gens: Generations,
+    config: &Config,
     sources: &[Source<'_>],
-    port: Option<Port>,
     journal: Option<&str>,
-) -> Result<(Ran, Option<Port>), Fault>
-where
-    X: Files<File = File>
-        + Net<Stream = TcpStream, Listener = TcpListener>
-        + Threads
-        + Wait
-        + Clock
-        + AllocGlobal
-        + Copy
-        + Send
-        + Sync
-        + 'static,
+) -> Result<(Option<File>, Vec<ReaderFeed<Stream>>), Fault>
+    ensures count { IfOk result (λ opened. length opened.1.items ≡ length (connections_of config.now)) }
+    ensures few { IfOk result (λ opened. All (λ feed. ⟦<ReaderFeed<Stream> as RecordFeed>⟧.fault_count feed < 2 ^ 64 - 1) opened.1.items) }
 {
     let file = journal_file(rt, journal)?;
-    let feeds = open_feeds(rt, gens.first(), sources)?;
-    run(rt, gens, feeds, port, file)
+    let feeds = open_feeds(rt, config, sources)?;
+    Ok((file, feeds))
 }
 
 /// Opens a journal, if there is to be one, and writes the line of a start. `Journal` where that can't be done.

@@ -7,19 +7,18 @@ use Rattle.gate_config.specs.declared.generations.Generations.{Generations}
 use Rattle.gate_config.specs.Generations.{count_of}
 use Rattle.gate_config.specs.Lookups.{connections_of, tenants_of}
 use Rattle.gate_queue.specs.Seats.{Shape, TakerSeat}
-use Rattle.gate_run.specs.declared.dispatcher.Dispatcher.{Dispatcher}
-use Rattle.gate_run.specs.declared.forwarder.Forwarder.{Forwarder}
-use Rattle.gate_run.specs.declared.putting.PassedOn.{PassedOn}
-use Rattle.gate_run.specs.declared.reader.Reader.{Reader}
-use Rattle.gate_run.specs.declared.reader.ReaderEnd.{ReaderEnd}
-use Rattle.gate_run.specs.declared.worker.Worker.{Worker}
-use Rattle.gate_run.specs.declared.worker.WorkerEnd.{WorkerEnd}
+use Rattle.gate_dispatcher.specs.declared.dispatcher.Dispatcher.{Dispatcher}
+use Rattle.gate_forwarder.specs.declared.forwarder.Forwarder.{Forwarder}
+use Rattle.gate_threads.specs.declared.putting.PassedOn.{PassedOn}
+use Rattle.gate_reader.specs.declared.reader.Reader.{Reader}
+use Rattle.gate_reader.specs.declared.reader.ReaderEnd.{ReaderEnd}
+use Rattle.gate_worker.specs.declared.worker.Worker.{Worker}
+use Rattle.gate_worker.specs.declared.worker.WorkerEnd.{WorkerEnd}
 use Rattle.gate_source.specs.Feeds.{Told}
-use Rattle.gate_run.specs.Lists.{Pairwise}
-use Rattle.gate_run.specs.Inner.Lists.{EachAt}
+use Rattle.gate_threads.specs.Lists.{Pairwise, EachAt}
 use Rattle.gate_run.specs.Ports.{InboxEnds}
 use Rattle.gate_run.specs.Inner.Seatings.{AreWorkersOf, Cells, IsDispatcherOf, IsForwarderOf, IsReaderOf}
-use Rattle.gate_run.specs.Inner.Stages.{AreLanesSettled, IsStageSettled}
+use Rattle.gate_threads.specs.Stages.{AreLanesSettled, IsStageSettled}
 use Rattle.gate_run.specs.Inner.Works.{Dispatched, Forwarded, Read, Worked}
 
 pub record Evidence {F : Type 0} (G : Type 0) (gens : Generations) (to_come : F → Told) (faults : F → ℕ) (feeds : List F) (inbox : List (List InboxEnds)) (cells : Cells) : Type 0 where

@@ -1,15 +1,6 @@
 pub mod Asking
-pub mod Places
-pub mod Turned
-pub mod Staged
 pub mod Seatings
-pub mod Dispatches
-pub mod Forwards
-pub mod Paired
-pub mod Seated
-pub mod Workings
 pub mod Posting
-pub mod Readings
 pub mod Composed
 pub mod Crosses
 pub mod Evidence

@@ -1,8 +1,9 @@
 -- What is known of what a run is asked for: to stop, and to put later generations of its configuration in force.
-use Rattle.std.specs.Prelude.{◌≡◌, ◌<◌, ◌++◌, ◌∷◌, [], ℕ, List, All, Some, true, is_some, length, map, slice_get, take}
+use Rattle.std.specs.Prelude.{◌≡◌, ◌<◌, ◌++◌, ◌∷◌, [], ℕ, List, true, is_some, length}
 use Rattle.gate_source.specs.Stops.{Note}
 use Rattle.gate_run.specs.declared.asked.RenewPostFault.{RenewPostFault}
 use Rattle.gate_run.specs.declared.asked.RenewPostFault.TheVariants.{Last, Memory}
+use Rattle.gate_reader.specs.Asked.{IsNext}
 
 -- What one side knows: a note of the stop cell; the cells of the generations behind the first, in order; and a note for each of
 -- those that were asked for, in order
@@ -14,16 +15,6 @@ pub record AskedView : Type 0 where
 -- the later of two notes knows the cause that the earlier one knew, if it knew one
 abbrev pub KnowsStill : Note → Note → Type 0
 KnowsStill before after = is_some before.cause ≡ true → after.cause ≡ before.cause
-
--- Notes of the first of these cells, in order, each of which knows its cause: that generation was asked for.
-pub record AreKnown (cells : List ℕ) (notes : List Note) : Type 0 where
-  pub of_first : map (λ (note : Note). note.cell) notes ≡ take (length notes) cells
-  pub each_knows : All (λ (note : Note). is_some note.cause ≡ true) notes
-
--- a note of the next of these cells behind so many notes, which knows its cause
-pub record IsNext (cells : List ℕ) (notes : List Note) (note : Note) : Type 0 where
-  pub of_next : slice_get cells (length notes) ≡ Some note.cell
-  pub knows : is_some note.cause ≡ true
 
 -- the next generation behind those that were asked for was asked for, and no other
 pub record AsksForNext (cells : List ℕ) (asked asked' : List Note) : Type 0 where

@@ -1,10 +1,6 @@
 pub mod Asked
 pub mod Gatherings
 pub mod Inner
-pub mod Lists
 pub mod PipelineEnds
 pub mod Ports
-pub mod Readers
-pub mod Seats
 pub mod Serving
-pub mod Workers

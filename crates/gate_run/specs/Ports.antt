@@ -10,8 +10,8 @@ use Rattle.gate_items.specs.declared.action.Manage.{Manage}
 use Rattle.gate_queue.specs.Seats.{SenderSeat, Shape, TakerSeat, with_put}
 use Rattle.gate_ways.specs.Limits.{places}
 use Rattle.gate_source.specs.Stops.{Note}
-use Rattle.gate_run.specs.Lists.{Pairwise}
-use Rattle.gate_run.specs.Seats.{fresh_head, fresh_tail}
+use Rattle.gate_threads.specs.Lists.{Pairwise}
+use Rattle.gate_threads.specs.Seats.{fresh_head, fresh_tail}
 
 -- a queue and the seat of its only sender
 pub record PostEnd (T : Type 0) : Type 0 where

@@ -18,11 +18,12 @@ use Rattle.gate_ways.specs.declared.report.RunReport.{RunReport}
 use Rattle.gate_ways.specs.Wanted.{asked_among, numbers_from, wanted}
 use Rattle.gate_source.specs.Feeds.{AreFirst, Told}
 use Rattle.gate_source.specs.Sources.{NeverFalls}
-use Rattle.gate_run.specs.Asked.{AreKnown, KnowsStill}
+use Rattle.gate_reader.specs.Asked.{AreKnown}
+use Rattle.gate_run.specs.Asked.{KnowsStill}
 use Rattle.gate_run.specs.Gatherings.{report_of_pipeline}
 use Rattle.gate_run.specs.Ports.{InboxEnds, InboxView, IsInboxFor, at_pipeline, pipeline_counts}
-use Rattle.gate_run.specs.Readers.{Means, is_closed}
-use Rattle.gate_run.specs.Workers.{TookMore}
+use Rattle.gate_reader.specs.Readers.{Means, is_closed}
+use Rattle.gate_worker.specs.Workers.{TookMore}
 
 -- the records of connection c
 abbrev pub lines_of : ℕ → List (List Record) → List Record

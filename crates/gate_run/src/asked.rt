@@ -33,7 +33,8 @@ impl Model for Asked {
     ghost use Rattle.std.specs.Prelude.{◌≡◌, ◌<◌, is_some, length};
     ghost use Rattle.gate_config.specs.Limits.{most_generations};
     ghost use Rattle.gate_source.specs.Stops.{IsNoteOf};
-    ghost use Rattle.gate_run.specs.Asked.{AreKnown, AskedView};
+    ghost use Rattle.gate_reader.specs.Asked.{AreKnown};
+    ghost use Rattle.gate_run.specs.Asked.{AskedView};
 
     ghost Value = { AskedView };
 
@@ -56,7 +57,8 @@ fn open_cells(alloc: Global, count: usize) -> Result<Sequence<StopCell>, Memory>
 impl Asked {
     ghost use Rattle.gate_config.specs.Limits.{most_generations};
     ghost use Rattle.gate_source.specs.Stops.{IsNoteOf, Learns};
-    ghost use Rattle.gate_run.specs.Asked.{AreKnown, AsksForNext, KnowsStill, MayNotAsk};
+    ghost use Rattle.gate_reader.specs.Asked.{AreKnown};
+    ghost use Rattle.gate_run.specs.Asked.{AsksForNext, KnowsStill, MayNotAsk};
     ghost use Rattle.gate_run.specs.Inner.Asked.{AreSides, knows_as_much, longer, nothing_asked};
 
     /// Both sides of a run that was asked for nothing yet, and that can be asked for so many later generations. `Memory` where

@@ -2,25 +2,24 @@
 ghost use Rattle.std.specs.Prelude.{◌≡◌, ◌++◌, ◌∷◌, [], IfOk, OnOk, map};
 ghost use Rattle.gate_source.specs.Stops.{IsNoteOf};
 ghost use Rattle.gate_run.specs.Gatherings.{report_of_pipeline};
-ghost use Rattle.gate_run.specs.Asked.{AreKnown, KnowsStill};
+ghost use Rattle.gate_reader.specs.Asked.{AreKnown};
+ghost use Rattle.gate_run.specs.Asked.{KnowsStill};
 ghost use Rattle.gate_run.specs.Inner.Asked.{knows_as_much};
 ghost use Rattle.gate_run.specs.Inner.Gatherings.{inbox_back, most_asked, report_of_reader};
-ghost use Rattle.gate_run.specs.Inner.Lists.{Each};
-ghost use Rattle.gate_run.specs.Inner.Readers.{counts_of, notes_of};
+ghost use Rattle.gate_threads.specs.Lists.{Each};
+ghost use Rattle.gate_reader.specs.Readers.{counts_of, notes_of};
 ghost use Rattle.gate_run.specs.PipelineEnds.{inbox_of};
 
 use crate::asked::Asked;
-use crate::lists::push;
 use crate::posts::PipelineInbox;
-use crate::putting::PassedOn;
-use crate::reader::ReaderEnd;
-use crate::reading::Renewal;
-use crate::worker::WorkerEnd;
 use gate_pipeline::Pipeline;
 use gate_queue::{FreeHead, FreeTail, Head, Tail};
+use gate_reader::{ReaderEnd, Renewal};
 use gate_record::{ConnEntry, Memory, PipelineItem, Sequence, TenantItem};
 use gate_source::StopNote;
+use gate_threads::{PassedOn, push};
 use gate_ways::{ConnectionReport, PipelineReport};
+use gate_worker::WorkerEnd;
 use std::alloc::Global;
 
 /// What the threads of a run handed back.

@@ -1,20 +1,21 @@
 //! The queues of management events and results: what is posted from outside, and taken by the pipelines' workers.
 ghost use Rattle.std.specs.Prelude.{◌≡◌, ◌<◌, ◌+◌, [], IfErr, IfNone, IfOk, IfSome, OnErr, OnOk, is_some, length, map};
-ghost use Rattle.gate_queue.specs.Seats.{IsHeadOf, IsTailOf, with_taken};
-ghost use Rattle.gate_run.specs.Lists.{Pairwise};
+ghost use Rattle.gate_queue.specs.Seats.{IsTailOf};
+ghost use Rattle.gate_threads.specs.Lists.{Pairwise};
 ghost use Rattle.gate_run.specs.PipelineEnds.{ends_of, inbox_of};
 ghost use Rattle.gate_run.specs.Ports.{AreOpened, IsOpened, pipeline_counts};
 
 use crate::asked::{Asked, RenewPostFault};
-use crate::lane::open_queue;
 use crate::stopper::Stopper;
 use crossbeam_utils::sync::{Parker, Unparker};
 use gate_config::{Config, Generations};
 use gate_items::{JobResult, Manage};
-use gate_queue::{EventQueue, Full, Head, Tagged, Tail};
+use gate_queue::{EventQueue, Full, Tail};
 use gate_record::{Memory, PipelineId, Shared, TenantId};
 use gate_source::StopCause;
+use gate_threads::open_queue;
 use gate_ways::PLACES;
+use gate_worker::InboxSeat;
 use std::alloc::Global;
 use std::marker::Model;
 use std::sync::Wait;
@@ -44,32 +45,6 @@ impl<T> Model for PostSeat<T> {
     ghost view = { λ seat. record { queue = seat.queue; tail = seat.tail } };
 }
 
-/// The taker's seat, with its queue. Contracts see it as the seat.
-#[derive(Drop)]
-pub(crate) struct InboxSeat<T> {
-    queue: Shared<EventQueue<T>>,
-    head: Head<T>,
-    ghost own: { IsHeadOf queue head },
-}
-
-impl<T> Model for InboxSeat<T> {
-    ghost use Rattle.gate_queue.specs.Seats.{TakerSeat};
-
-    ghost Value = { TakerSeat T };
-
-    ghost view = { λ seat. seat.head };
-}
-
-impl<T> InboxSeat<T> {
-    /// Takes what has waited longest, if anything waits.
-    pub(crate) fn take<R: Wait>(&mut self, rt: &R) -> Option<Tagged<T>>
-        ensures some { IfSome result (λ taken. self.new ≡ with_taken self.old taken) }
-        ensures none { IfNone result (self.new ≡ self.old) }
-    {
-        self.queue.get().take(rt, &mut self.head)
-    }
-}
-
 impl<T> PostSeat<T> {
     ghost use Rattle.gate_queue.specs.States.{MayBeFull};
     ghost use Rattle.gate_run.specs.Ports.{posted};
@@ -95,7 +70,7 @@ fn open_pair<T: Drop>(alloc: Global, places: usize) -> Result<(PostSeat<T>, Inbo
     let (queue, head, tail) = open_queue(alloc, places)?;
     let queue = Shared::new(alloc, queue)?;
     let other = queue.share()?;
-    Ok((PostSeat { queue, tail }, InboxSeat { queue: other, head }))
+    Ok((PostSeat { queue, tail }, InboxSeat::new(other, head)))
 }
 
 /// Where management events and results are posted to one pipeline, and what wakes its worker.

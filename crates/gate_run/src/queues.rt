@@ -3,14 +3,13 @@ ghost use Rattle.std.specs.Prelude.{◌≡◌, ◌<◌, ◌∷◌, [], IfOk, len
 ghost use Rattle.gate_config.specs.Lookups.{connections_of, tenants_of};
 ghost use Rattle.gate_run.specs.Ports.{pipeline_counts};
 ghost use Rattle.gate_run.specs.Inner.Queues.{AreOpen};
-ghost use Rattle.gate_run.specs.Seats.{fresh_head, fresh_tail};
-ghost use Rattle.gate_run.specs.Inner.Stages.{HavePlaces, IsOpenStage};
+ghost use Rattle.gate_threads.specs.Seats.{fresh_head, fresh_tail};
+ghost use Rattle.gate_threads.specs.Stages.{HavePlaces, IsOpenStage};
 
-use crate::lane::{Lane, open_lane};
-use crate::stage::{Stage, open_stage};
 use gate_config::Config;
 use gate_queue::{EventQueue, FreeHead, FreeQueue, FreeTail, Head, Tail};
 use gate_record::{ConnEntry, Memory, PipelineItem, TenantId, TenantItem};
+use gate_threads::{Lane, Stage, open_lane, open_stage};
 use std::alloc::Global;
 
 /// The queues of a run.

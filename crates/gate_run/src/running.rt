@@ -1,7 +1,7 @@
 //! All threads of a run at once.
 ghost use Rattle.std.specs.Prelude.{◌≡◌, ◌-◌, ◌<◌, ◌^◌, All, IfOk, length, map};
 ghost use Rattle.gate_config.specs.Lookups.{connections_of};
-ghost use Rattle.gate_run.specs.Lists.{Pairwise};
+ghost use Rattle.gate_threads.specs.Lists.{Pairwise};
 ghost use Rattle.gate_run.specs.PipelineEnds.{inbox_of};
 ghost use Rattle.gate_run.specs.Ports.{pipeline_counts};
 ghost use Rattle.gate_run.specs.Inner.Queues.{AreOpen};
@@ -10,20 +10,17 @@ ghost use Rattle.gate_run.specs.Inner.Works.{Dispatched, Forwarded, HaveRun, Rea
 
 use crate::asked::Asked;
 use crate::crossing::{config_crosses, generations_cross, is_shared};
-use crate::dispatcher::Dispatcher;
-use crate::fault::RunFault;
-use crate::forwarder::Forwarder;
-use crate::gate::Gate;
 use crate::gathering::Ends;
 use crate::posts::PipelineInbox;
 use crate::queues::{QueueSeats, Queues};
-use crate::reader::Reader;
 use crate::seating::{seat_dispatchers, seat_forwarders, seat_readers, seat_workers};
-use crate::signals::Signals;
-use crate::worker::Worker;
-use crate::works::{join_all, join_lists, start_all, start_lists};
 use gate_config::Generations;
+use gate_dispatcher::Dispatcher;
+use gate_forwarder::Forwarder;
+use gate_reader::Reader;
 use gate_source::RecordFeed;
+use gate_threads::{RunFault, Signals, join_all, join_lists, start_all, start_lists};
+use gate_worker::{Gate, Worker};
 use std::alloc::Global;
 use std::sync::Wait;
 use std::sync::atomic::AtomicBool;

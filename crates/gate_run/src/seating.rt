@@ -2,24 +2,24 @@
 ghost use Rattle.std.specs.Prelude.{◌≡◌, ◌-◌, ◌<◌, ◌^◌, All, IfOk, length, map};
 ghost use Rattle.std.specs.List.{range_with_len};
 ghost use Rattle.gate_config.specs.Lookups.{connections_of, pipelines_of, tenants_of};
-ghost use Rattle.gate_run.specs.Inner.Lists.{EachAt};
+ghost use Rattle.gate_threads.specs.Lists.{EachAt};
 ghost use Rattle.gate_run.specs.PipelineEnds.{inbox_of};
 ghost use Rattle.gate_run.specs.Ports.{pipeline_counts};
 ghost use Rattle.gate_run.specs.Inner.Seatings.{AreWorkersOf, IsDispatcherOf, IsForwarderOf, IsReaderOf, IsWorkerOf};
-ghost use Rattle.gate_run.specs.Seats.{fresh_head, fresh_tail};
+ghost use Rattle.gate_threads.specs.Seats.{fresh_head, fresh_tail};
 
-use crate::dispatcher::Dispatcher;
-use crate::forwarder::Forwarder;
-use crate::lists::next_of;
 use crate::posts::PipelineInbox;
-use crate::reader::Reader;
-use crate::worker::Worker;
 use crossbeam_utils::sync::{Parker, Unparker};
 use gate_config::{Config, Generations};
+use gate_dispatcher::Dispatcher;
+use gate_forwarder::Forwarder;
 use gate_pipeline::Pipeline;
 use gate_queue::{EventQueue, FreeHead, FreeQueue, FreeTail, Head, Tail};
+use gate_reader::Reader;
 use gate_record::{ConnEntry, ConnId, Memory, PipelineId, PipelineItem, TenantId, TenantItem};
 use gate_source::{RecordFeed, StopCell};
+use gate_threads::next_of;
+use gate_worker::Worker;
 use std::alloc::Global;
 
 /// A reader for each connection.

@@ -26,14 +26,6 @@ impl<'a> BoardGate<'a> {
 }
 
 impl<'a> Gate for BoardGate<'a> {
-    fn before<R: Wait>(
-        &self,
-        _rt: &R,
-        _tenant: TenantId,
-        _pipeline: PipelineId,
-        _state: &Pipeline,
-    ) {}
-
     fn after<R: Wait>(
         &self,
         rt: &R,

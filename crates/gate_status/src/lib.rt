@@ -12,7 +12,6 @@ mod port;
 mod progress;
 mod reply;
 mod status;
-mod talking;
 
 pub use board::Board;
 pub use board_gate::BoardGate;

@@ -4,11 +4,11 @@ ghost use Rattle.gate_status.specs.Listened.{Rises};
 ghost use Rattle.gate_status.specs.Replies.{ArePostsFor};
 ghost use Rattle.gate_status.specs.Talks.{Answers};
 
+use crate::answering::Session;
 use crate::board::Board;
 use crate::counted::Counted;
 use crate::fault::{SessionEnd, SessionFault};
 use crate::listening::Listening;
-use crate::talking::{answer_all, answer_last};
 use gate_config::Config;
 use gate_record::Memory;
 use gate_run::Posts;
@@ -37,15 +37,16 @@ pub fn session<X: AllocGlobal + Wait, R: Read, W: Write>(
     ensures for_config { ArePostsFor config.now posts.new }
     ensures faults { IfErr result (λ fault. Rises fault input.old.faults input.new.faults output.old.faults output.new.faults) }
 {
+    let session = Session { config, board };
     let mut listening = match Listening::new(rt.alloc()) {
         Ok(listening) => listening,
         Err(Memory) => return Err(SessionFault::Memory),
     };
     while listening.has_room() {
         let Some(lines) = listening.read(input)? else {
-            return answer_last(rt, output, config, board, posts, listening.finish());
+            return session.answer_last(rt, output, posts, listening.finish());
         };
-        if let Some(how) = answer_all(rt, output, config, board, posts, lines.as_slice())? {
+        if let Some(how) = session.answer_all(rt, output, posts, lines.as_slice())? {
             return Ok(how);
         }
     }

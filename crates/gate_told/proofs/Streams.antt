@@ -11,7 +11,7 @@ use Rattle.gate_source.specs.Feeds.{AreAll, Told}
 use Rattle.gate_source.specs.Stops.{Note}
 use Rattle.gate_run.specs.Gatherings.{report_of_pipeline}
 use Rattle.gate_run.specs.Ports.{InboxView}
-use Rattle.gate_run.specs.Readers.{Means}
+use Rattle.gate_reader.specs.Readers.{Means}
 use Rattle.gate_run.specs.Serving.{Delivers, HaveEnded, lines_of, renewals_of}
 use Rattle.gate_record.specs.Entries.{beside}
 use Rattle.gate_config.specs.declared.generations.Generations.{Generations}

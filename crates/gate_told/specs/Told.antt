@@ -13,8 +13,7 @@ use Rattle.gate_ways.specs.declared.report.RunReport.{RunReport}
 use Rattle.gate_ways.specs.Wanted.{wanted}
 use Rattle.gate_core.specs.Output.{connection_lines, done_start, number_text, pipeline_line, report_text}
 use Rattle.gate_source.specs.Feeds.{Told}
-use Rattle.gate_run.specs.Ports.{at_pipeline}
-use Rattle.gate_run.specs.Ports.{InboxView}
+use Rattle.gate_run.specs.Ports.{at_pipeline, InboxView}
 use Rattle.gate_run.specs.Serving.{Serves}
 use Rattle.gate_pipeline.specs.States.{State}
 

@@ -2,10 +2,10 @@
 use Rattle.std.specs.Prelude.{List, fold}
 use Rattle.gate_ways.specs.declared.report.ConnectionReport.{ConnectionReport}
 use Rattle.gate_source.specs.Stops.{Note}
-use Rattle.gate_run.specs.declared.reader.ReaderEnd.{ReaderEnd}
-use Rattle.gate_run.specs.declared.worker.WorkerEnd.{WorkerEnd}
+use Rattle.gate_reader.specs.declared.reader.ReaderEnd.{ReaderEnd}
+use Rattle.gate_worker.specs.declared.worker.WorkerEnd.{WorkerEnd}
 use Rattle.gate_run.specs.Inner.Asked.{longer}
-use Rattle.gate_run.specs.Inner.Readers.{counts_of, notes_of}
+use Rattle.gate_reader.specs.Readers.{counts_of, notes_of}
 use Rattle.gate_run.specs.Ports.{InboxEnds}
 
 -- how many records were accepted, how many before each renewal, and why there were no more

@@ -1,7 +1,7 @@
 use Rattle.std.proofs.Common.{rules}
 use Rattle.gate_run.specs.PipelineEnds.{ends_of, inbox_of}
 use Rattle.gate_run.specs.Ports.{AreOpened}
-use Rattle.gate_run.proofs.Paired.{seen_more}
+use Rattle.gate_threads.proofs.Paired.{seen_more}
 use Rattle.gate_run.proofs.posts.open_tenant.Goals as goal
 
 pub loop-pipeline-preserved : goal.loop-pipeline-preserved

@@ -1,5 +1,5 @@
 use Rattle.std.specs.Prelude.{◌≡◌, length, map, vec_items}
-use Rattle.gate_run.specs.Lists.{Pairwise}
+use Rattle.gate_threads.specs.Lists.{Pairwise}
 use Rattle.gate_run.specs.PipelineEnds.{ends_of, inbox_of}
 use Rattle.gate_run.specs.Ports.{AreOpened}
 use Rattle.gate_run.proofs.posts.open_tenant.Given as goal

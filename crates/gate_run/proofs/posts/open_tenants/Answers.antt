@@ -1,9 +1,9 @@
 use Rattle.std.proofs.Common.{◌∙◌, ap, length, map}
 use Rattle.gate_config.specs.Lookups.{pipelines_of}
-use Rattle.gate_run.specs.Lists.{Pairwise}
+use Rattle.gate_threads.specs.Lists.{Pairwise}
 use Rattle.gate_run.specs.PipelineEnds.{ends_of, inbox_of}
 use Rattle.gate_run.specs.Ports.{AreOpened}
-use Rattle.gate_run.proofs.Paired.{made_more, map_length, seen_more}
+use Rattle.gate_threads.proofs.Paired.{made_more, map_length, seen_more}
 use Rattle.gate_run.proofs.posts.open_tenants.Goals as goal
 
 pub loop-number-preserved : goal.loop-number-preserved

@@ -1,7 +1,7 @@
 use Rattle.std.specs.Prelude.{◌≡◌, length, map, vec_items}
 use Rattle.std.specs.List.{range_with_len}
 use Rattle.gate_config.specs.Lookups.{pipelines_of}
-use Rattle.gate_run.specs.Lists.{Pairwise}
+use Rattle.gate_threads.specs.Lists.{Pairwise}
 use Rattle.gate_run.specs.PipelineEnds.{ends_of, inbox_of}
 use Rattle.gate_run.specs.Ports.{AreOpened}
 use Rattle.gate_run.proofs.posts.open_tenants.Given as goal

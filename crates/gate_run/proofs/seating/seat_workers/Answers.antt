@@ -7,11 +7,11 @@ use Rattle.std.specs.Vec.Iter.{into_iter_items}
 use Rattle.gate_config.specs.Lookups.{pipelines_of, tenants_of}
 use Rattle.gate_run.specs.PipelineEnds.{inbox_of}
 use Rattle.gate_run.specs.Inner.Seatings.{AreWorkersOf}
-use Rattle.gate_run.specs.Seats.{fresh_head}
-use Rattle.gate_run.proofs.Paired.{map_length}
-use Rattle.gate_run.proofs.Places.{left_is, next_is, some_left}
+use Rattle.gate_threads.specs.Seats.{fresh_head}
+use Rattle.gate_threads.proofs.Paired.{map_length}
+use Rattle.gate_threads.proofs.Places.{left_is, next_is, some_left}
 use Rattle.gate_run.proofs.Seatings.{as_many_of, count_here, here_mapped, is_mapped, one_more}
-use Rattle.gate_run.proofs.Staged.{range_length}
+use Rattle.gate_threads.proofs.Staged.{range_length}
 use Rattle.gate_run.proofs.seating.seat_workers.Goals as goal
 
 pub bounds-sources-number : goal.bounds-sources-number

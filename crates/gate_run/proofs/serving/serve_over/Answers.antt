@@ -5,10 +5,10 @@ use Rattle.gate_run.specs.Inner.Gatherings.{inbox_back, most_asked}
 use Rattle.gate_run.specs.Inner.Queues.{AreOpen}
 use Rattle.gate_run.specs.PipelineEnds.{inbox_of}
 use Rattle.gate_run.specs.Ports.{InboxView}
-use Rattle.gate_run.proofs.Paired.{map_length}
+use Rattle.gate_threads.proofs.Paired.{map_length}
 use Rattle.gate_run.proofs.Promised.{serves}
-use Rattle.gate_run.proofs.Seated.{map_map}
-use Rattle.gate_run.proofs.Turned.{map_same}
+use Rattle.gate_threads.proofs.Seated.{map_map}
+use Rattle.gate_threads.proofs.Turned.{map_same}
 use Rattle.gate_run.proofs.Whole.{evidence, item_heads, item_senders, item_tails, known, notes, record_heads, record_tails, trigger_heads, trigger_tails}
 use Rattle.gate_run.proofs.serving.serve_over.Goals as goal
 

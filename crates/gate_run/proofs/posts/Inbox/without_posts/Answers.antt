@@ -1,8 +1,8 @@
 use Rattle.std.proofs.Common.{◌∙◌, sym, length, map}
 use Rattle.gate_run.specs.PipelineEnds.{ends_of, inbox_of}
 use Rattle.gate_run.specs.Ports.{AreOpened}
-use Rattle.gate_run.proofs.Places.{as_long}
-use Rattle.gate_run.proofs.Seated.{map_map}
+use Rattle.gate_threads.proofs.Places.{as_long}
+use Rattle.gate_threads.proofs.Seated.{map_map}
 use Rattle.gate_run.proofs.posts.Inbox.without_posts.Goals as goal
 
 pub returns-clause-for_config : goal.returns-clause-for_config

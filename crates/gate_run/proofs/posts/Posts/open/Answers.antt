@@ -3,8 +3,8 @@ use Rattle.gate_ways.specs.Limits.{places}
 use Rattle.gate_run.specs.Asked.{AskedView}
 use Rattle.gate_run.specs.PipelineEnds.{ends_of, inbox_of}
 use Rattle.gate_run.specs.Ports.{AreOpened, pipeline_counts}
-use Rattle.gate_run.proofs.Places.{as_long}
-use Rattle.gate_run.proofs.Seated.{map_map}
+use Rattle.gate_threads.proofs.Places.{as_long}
+use Rattle.gate_threads.proofs.Seated.{map_map}
 use Rattle.gate_run.proofs.posts.Posts.open.Goals as goal
 
 pub returns : goal.returns

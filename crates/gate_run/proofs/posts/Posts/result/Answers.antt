@@ -2,7 +2,7 @@ use Rattle.std.proofs.Common.{rules, ◌≡◌, ◌∙◌, sym, ap, subst, ◌<�
 use Rattle.std.specs.Prelude.{option_and_then, slice_get}
 use Rattle.gate_run.specs.PipelineEnds.{ends_of}
 use Rattle.gate_run.specs.Ports.{PostEnds, PostsView, at_pipeline, posted, slice_change, with_result}
-use Rattle.gate_run.proofs.Paired.{set_alike}
+use Rattle.gate_threads.proofs.Paired.{set_alike}
 use Rattle.gate_run.proofs.Posting.{any_default, changed, got}
 use Rattle.gate_run.proofs.posts.Posts.result.Goals as goal
 

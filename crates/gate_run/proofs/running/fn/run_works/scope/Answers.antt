@@ -1,10 +1,10 @@
 use Rattle.std.proofs.Common.{List, map, subst}
 use denote.Param.Send.{IsSync, sendable}
-use Rattle.gate_run.specs.declared.dispatcher.Dispatcher.{Dispatcher}
-use Rattle.gate_run.specs.declared.forwarder.Forwarder.{Forwarder}
-use Rattle.gate_run.specs.declared.reader.Reader.{Reader}
-use Rattle.gate_run.specs.declared.worker.Worker.{Worker}
-use Rattle.gate_run.specs.Lists.{Pairwise}
+use Rattle.gate_dispatcher.specs.declared.dispatcher.Dispatcher.{Dispatcher}
+use Rattle.gate_forwarder.specs.declared.forwarder.Forwarder.{Forwarder}
+use Rattle.gate_reader.specs.declared.reader.Reader.{Reader}
+use Rattle.gate_worker.specs.declared.worker.Worker.{Worker}
+use Rattle.gate_threads.specs.Lists.{Pairwise}
 use Rattle.gate_run.specs.Inner.Works.{Dispatched, Forwarded, Read, Worked}
 use Rattle.gate_run.proofs.Sendings.{dispatcher_send, forwarder_send, worker_send}
 use Rattle.gate_run.proofs.running.fn.run_works.scope.Goals as goal

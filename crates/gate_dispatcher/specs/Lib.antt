@@ -1,0 +1,2 @@
+pub mod Dispatchers
+pub mod Inner

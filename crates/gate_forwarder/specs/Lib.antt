@@ -1,0 +1,2 @@
+pub mod Forwarders
+pub mod Inner
