@@ -4,11 +4,11 @@
 
 mod free;
 mod plain;
-mod plain_free;
 mod shared;
 
 use crate::free::Taking;
 use anyhow::{Context, Result};
+use crossbeam_queue::{ArrayQueue, SegQueue};
 use std::alloc::Global;
 use std::env;
 use std::io::Print;
@@ -33,34 +33,23 @@ fn time<R: Threads + Wait + Clock + Print + Sync>(
 ) -> Result<()> {
     let each = count.parse::<u64>().context("the number of values")?;
     for (name, senders) in [("pair", 1), ("four", 4)] {
-        time_bound(rt, alloc, name, senders, each)?;
-        time_free(rt, alloc, name, senders, each)?;
+        time_each(rt, alloc, name, senders, each)?;
     }
     Ok(())
 }
 
-fn time_bound<R: Threads + Wait + Clock + Print + Sync>(
+fn time_each<R: Threads + Wait + Clock + Print + Sync>(
     rt: &R,
     alloc: Global,
     name: &str,
     senders: usize,
     each: u64,
 ) -> Result<()> {
-    let took = plain::run(rt, alloc, senders, each)?;
+    let took = plain::run(rt, alloc, &ArrayQueue::new(alloc, PLACES)?, senders, each)?;
     println!(rt; "{name} plain {}", per_second(senders, each, took))?;
     let took = shared::run(rt, alloc, senders, each)?;
     println!(rt; "{name} shared {}", per_second(senders, each, took))?;
-    Ok(())
-}
-
-fn time_free<R: Threads + Wait + Clock + Print + Sync>(
-    rt: &R,
-    alloc: Global,
-    name: &str,
-    senders: usize,
-    each: u64,
-) -> Result<()> {
-    let took = plain_free::run(rt, alloc, senders, each)?;
+    let took = plain::run(rt, alloc, &SegQueue::new(alloc)?, senders, each)?;
     println!(rt; "{name} plain-free {}", per_second(senders, each, took))?;
     let took = free::run(rt, alloc, senders, each, Taking::Singly)?;
     println!(rt; "{name} free {}", per_second(senders, each, took))?;

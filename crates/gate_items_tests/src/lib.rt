@@ -2,18 +2,4 @@
 #![tactic(auto)]
 
 #[cfg(test)]
-mod causes;
-#[cfg(test)]
-mod examples;
-#[cfg(test)]
-mod index;
-#[cfg(test)]
-mod keys;
-#[cfg(test)]
-mod line;
-#[cfg(test)]
-mod playing;
-#[cfg(test)]
-mod refs;
-#[cfg(test)]
-mod script;
+mod tests;

@@ -2,6 +2,7 @@ use crate::batches::{Numbers, events_of, numbers_of};
 use crate::plain::{Batch, TENANT, plain, shown};
 use gate_config::{Generations, read_generations};
 use gate_match::Program;
+use gate_test_lines::bytes_of;
 use std::alloc::Global;
 use std::process::Abort;
 use std::test::Fail;
@@ -44,14 +45,8 @@ const LATER: &str = r#"{"tenants":[{"name":"main","source":{
 
 // The generations, of which the third is the first again.
 fn gens(alloc: Global) -> Result<Generations, Fail> {
-    let mut documents = Vec::new(alloc);
-    for document in [CONFIG, LATER, CONFIG] {
-        documents.push(document.as_bytes().to_vec(alloc)?)?;
-    }
-    match read_generations(alloc, documents.as_slice()) {
-        Ok(gens) => Ok(gens),
-        Err(_) => Err(Fail::from("the configuration is refused")),
-    }
+    let documents = bytes_of(alloc, &[CONFIG, LATER, CONFIG])?;
+    Ok(read_generations(alloc, documents.as_slice())?)
 }
 
 // How many programs there are, and how many batches each of them matches, one after another.

@@ -2,18 +2,4 @@
 #![tactic(auto)]
 
 #[cfg(test)]
-mod accounts;
-#[cfg(test)]
-mod approvals;
-#[cfg(test)]
-mod events;
-#[cfg(test)]
-mod numbers;
-#[cfg(test)]
-mod playing;
-#[cfg(test)]
-mod readings;
-#[cfg(test)]
-mod shown;
-#[cfg(test)]
-mod values;
+mod tests;

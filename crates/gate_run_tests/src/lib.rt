@@ -1,21 +1,6 @@
-//! Tests of `serve`: what comes of what feeds have, whatever the schedule.
+//! Tests of `serve`: what comes of what feeds have, whatever the schedule; what is posted and asked for before a run, between two, and
+//! while one goes on; that threads wake each other in time, and that gates are told of each action.
 #![tactic(auto)]
 
 #[cfg(test)]
-mod failing;
-#[cfg(test)]
-mod feeds;
-#[cfg(test)]
-mod gates;
-#[cfg(test)]
-mod late;
-#[cfg(test)]
-mod meetings;
-#[cfg(test)]
-mod posts;
-#[cfg(test)]
-mod runs;
-#[cfg(test)]
-mod streams;
-#[cfg(test)]
-mod wide;
+mod tests;

@@ -2,22 +2,4 @@
 #![tactic(auto)]
 
 #[cfg(test)]
-mod base;
-#[cfg(test)]
-mod board_runs;
-#[cfg(test)]
-mod boards;
-#[cfg(test)]
-mod commands;
-#[cfg(test)]
-mod devices;
-#[cfg(test)]
-mod faults;
-#[cfg(test)]
-mod feeds;
-#[cfg(test)]
-mod sessions;
-#[cfg(test)]
-mod sizes;
-#[cfg(test)]
-mod sockets;
+mod tests;

@@ -1,0 +1,8 @@
+mod causes;
+mod examples;
+mod index;
+mod keys;
+mod line;
+mod playing;
+mod refs;
+mod script;

@@ -1,0 +1,15 @@
+mod asking;
+mod failing;
+mod late;
+mod marks;
+mod meeting;
+mod meetings;
+mod pieces;
+mod posts;
+mod renewals;
+mod runs;
+mod stops;
+mod streams;
+mod told;
+mod wake_ups;
+mod wide;

@@ -1,0 +1,9 @@
+mod base;
+mod board_runs;
+mod boards;
+mod commands;
+mod devices;
+mod faults;
+mod sessions;
+mod sizes;
+mod sockets;

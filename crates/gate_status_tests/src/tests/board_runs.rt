@@ -1,0 +1,90 @@
+//! What a board has of a run.
+use super::base::{comes_to, given, progress, talk_of, text_of, two};
+use gate_config::{Config, Generations, read_config};
+use gate_items::{Action, Discard, Key, Manage, Outcome};
+use gate_pipeline::Pipeline;
+use gate_record::{ConnId, PipelineId, TenantId};
+use gate_run::Gate;
+use gate_status::{Board, BoardGate, Counted, status_text};
+use gate_test_runs::{Feed, ONE, Run, SEVENTH};
+use std::alloc::Global;
+use std::process::Abort;
+use std::sync::{Mutex, Wait};
+use std::test::Fail;
+use std::thread::Threads;
+use std::time::Clock;
+
+// Runs a configuration of one connection over a feed of one record.
+fn run<R: Threads + Wait + Clock + Sync>(
+    rt: &R,
+    alloc: Global,
+    board: &Mutex<Board>,
+) -> Result<(), Fail> {
+    let feed = Feed::of(alloc, &[SEVENTH])?;
+    let (_posts, run) = Run::open(alloc, &[ONE, ONE])?;
+    let _done = run.serve(rt, feed, &BoardGate::new(board))?;
+    Ok(())
+}
+
+// Sees what a session answers to `status`.
+fn shows<R: AllocGlobal + Wait + Abort>(
+    rt: &R,
+    gens: &Generations,
+    board: &Mutex<Board>,
+    wanted: &str,
+) {
+    let mut input = Counted::new(b"status\n".as_slice());
+    let mut output = Counted::new(Vec::new(rt.alloc()));
+    let end = given(rt, talk_of(rt, &mut input, &mut output, gens, board));
+    comes_to(rt, text_of(rt, output.into_inner(), end).as_str(), wanted);
+}
+
+#[test]
+fn a_session_shows_how_far_a_run_went(rt: HostRuntime) -> Result<(), Fail> {
+    let gens = two(&rt);
+    let board = Mutex::new(given(&rt, Board::new(rt.alloc(), gens.first())));
+    run(&rt, rt.alloc(), &board)?;
+    let wanted = "pipeline \"main\" \"check\" done 1 items 1 reports 0 finished\nok\nEnd";
+    shows(&rt, &gens, &board, wanted);
+    Ok(())
+}
+
+// One tenant with two pipelines.
+const PIPELINES: &str =
+    r#"{"tenants":[{"name":"main","source":{"gerrit":{"untrusted-projects":["demo"]}}}],"config":{"main":[{"pipeline":{"name":"check","manager":"independent"}},{"pipeline":{"name":"post","manager":"independent"}}]}}"#;
+
+// Says on a board that both are far.
+fn far(board: &mut Board) {
+    board.set(TenantId(0), PipelineId(0), progress(3, 2, 1));
+    board.set(TenantId(0), PipelineId(1), progress(3, 2, 1));
+}
+
+// Tells a gate of an action of the second pipeline, and that the first is about to do one.
+fn tells<R: AllocGlobal + Wait>(rt: &R, config: &Config, board: &Mutex<Board>) {
+    let pipeline = Pipeline::new(rt.alloc(), config, TenantId(0), PipelineId(1));
+    let manage = Manage::Dequeue(Key::Change {
+        conn: ConnId(0),
+        number: 7,
+    });
+    let processed = (
+        None,
+        Action::Manage(manage),
+        Outcome::Discarded(Discard::NoItem),
+    );
+    let gate = BoardGate::new(board);
+    gate.before(rt, TenantId(0), PipelineId(0), &pipeline);
+    gate.after(rt, TenantId(0), PipelineId(1), &pipeline, &processed);
+}
+
+#[test]
+fn a_board_is_told_behind_each_action(rt: HostRuntime) {
+    let config = given(&rt, read_config(rt.alloc(), PIPELINES.as_bytes()));
+    let mut board = given(&rt, Board::new(rt.alloc(), &config));
+    far(&mut board);
+    let board = Mutex::new(board);
+    tells(&rt, &config, &board);
+    let text = given(&rt, status_text(rt.alloc(), &config, &board.lock(&rt)));
+    let wanted =
+        "pipeline \"main\" \"check\" done 3 items 2 reports 1 finished\npipeline \"main\" \"post\" done 0 items 0 reports 0 running\n";
+    comes_to(&rt, text.as_str(), wanted);
+}

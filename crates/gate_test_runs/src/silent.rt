@@ -1,0 +1,7 @@
+use gate_run::Gate;
+
+/// A gate that does nothing.
+#[derive(Drop)]
+pub struct Silent;
+
+impl Gate for Silent {}
