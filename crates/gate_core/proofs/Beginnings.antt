@@ -7,7 +7,6 @@ use Rattle.std.proofs.lemmas.List.FromFn.{length-map-range_with_len}
 use Rattle.std.proofs.lemmas.Option.{slice_get-get_or}
 use Rattle.gate_config.specs.declared.generations.Generations.{Generations}
 use Rattle.gate_config.specs.Lookups.{connections_of, pipelines_of, tenants_of}
-use Rattle.gate_forward.specs.Forwarding.{forwarded}
 use Rattle.gate_forward.specs.Histories.{items_to}
 use Rattle.gate_core.proofs.LowerLaws.{Laws}
 use Rattle.gate_tenant.specs.Histories.{begins, beginning}

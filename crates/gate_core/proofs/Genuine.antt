@@ -1,5 +1,5 @@
 -- What pipelines take is of records that were accepted.
-use Rattle.std.proofs.Common.{◌≡◌, ◌∙◌, sym, ap, subst, ℕ, List, ◌++◌, Option, Some}
+use Rattle.std.proofs.Common.{◌≡◌, ◌∙◌, sym, ap, subst, ℕ, List, Option, Some}
 use Rattle.std.specs.Prelude.{length, option_and_then, slice_get}
 use Rattle.std.specs.List.{filter_map}
 use Rattle.gate_record.specs.declared.ids.Stamp.{Stamp}

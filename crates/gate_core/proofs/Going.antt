@@ -1,5 +1,5 @@
 -- The steps of a connection and its forwarder keep what holds.
-use Rattle.std.proofs.Common.{◌≡◌, ◌∙◌, refl, sym, ap, subst, ℕ, suc, ◌+◌, ◌<◌, ◌≤◌, List, [], ◌∷◌, ◌++◌, Bool, true, false, length, map, Option, Some, None, cond, option_map, slice_set, arith, if◌then◌else◌, append-nil, append_assoc, length-append}
+use Rattle.std.proofs.Common.{◌≡◌, ◌∙◌, refl, sym, ap, subst, ℕ, suc, ◌+◌, ◌<◌, ◌≤◌, List, [], ◌∷◌, ◌++◌, Bool, true, false, length, Option, Some, None, cond, option_map, slice_set, arith, if◌then◌else◌, append-nil, append_assoc, length-append}
 use Rattle.std.specs.Prelude.{◌&&◌, ◌||◌, slice_get, count_by, unwrap_or}
 use Rattle.std.specs.List.{All, cons_option, enumerate_from, filter_map, range_with_len}
 use Rattle.std.specs.Option.{option_to_list}
@@ -32,7 +32,7 @@ use Rattle.gate_core.specs.States.{ConnectionState, State}
 use Rattle.gate_tenant.specs.Dispatching.{conn_of_item}
 use Rattle.gate_record.specs.Entries.{AreEntriesOf, accepts, behind, beside, closes, generation_behind, renews, with_generations}
 use Rattle.gate_core.proofs.LowerLaws.{Laws}
-use Rattle.gate_core.proofs.Puts.{put_by, put_in, put_push, put_stays, renewals_push, renewals_stay}
+use Rattle.gate_core.proofs.Puts.{put_by, put_push, put_stays, renewals_push, renewals_stay}
 use Rattle.gate_ways.proofs.Arrivals.{same_as_itself}
 use Rattle.gate_ways.proofs.Maps.{cons_option_is, filter_map_push}
 use Rattle.gate_core.proofs.Pushes.{accepted_push, closed_push, count_push, or_false, or_true}

@@ -1,5 +1,5 @@
 -- The hand of a connection's forwarder while one item is sent, and what becomes of it.
-use Rattle.std.proofs.Common.{◌≡◌, ◌∙◌, sym, ap, refl, ℕ, ◌<◌, ◌≤◌, List, [], ◌∷◌, ◌++◌, length, Option, Some, None, Ok, Err, slice_set, subst}
+use Rattle.std.proofs.Common.{◌≡◌, ◌∙◌, sym, ap, refl, ℕ, List, [], ◌∷◌, ◌++◌, Option, Some, None, Ok, Err, slice_set, subst}
 use Rattle.std.specs.Prelude.{slice_get}
 use Rattle.gate_record.specs.declared.ids.TenantId.{TenantId}
 use Rattle.gate_record.specs.declared.transit.TenantItem.{TenantItem}

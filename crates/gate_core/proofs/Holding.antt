@@ -23,7 +23,7 @@ use Rattle.gate_core.specs.History.{is_turn, turn_of, processed_in}
 use Rattle.gate_core.specs.History.{processed_of, processed_by}
 use Rattle.gate_core.specs.Pipelines.{Found, answer_of, found, found_where, holding, post_manage, post_result, refused, refused_by, turned, turned_by}
 use Rattle.gate_core.specs.States.{ConnectionState, State, TenantState, pipeline_at, with_gathered}
-use Rattle.gate_core.specs.Steps.{close, fetch, fetched, give, give_from, give_to, match_from, match_gathered, offer, on_pipeline, refused_in, renew, refused_step, refused_turn_of, send_from, send_of, send_to, step_of, take, with_refused}
+use Rattle.gate_core.specs.Steps.{close, fetch, fetched, give, give_from, give_to, match_from, match_gathered, offer, on_pipeline, refused_in, renew, refused_turn_of, send_from, send_of, send_to, step_of, take, with_refused}
 use Rattle.gate_config.specs.Generations.{count_of}
 use Rattle.gate_core.proofs.Spots.{AfterSet, after_set, another, it}
 use Rattle.gate_ways.proofs.Arrivals.{same_as_itself}

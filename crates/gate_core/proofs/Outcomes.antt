@@ -11,7 +11,6 @@ use Rattle.gate_record.specs.declared.transit.PipelineItem.{PipelineItem}
 use Rattle.gate_record.specs.declared.transit.PipelineItem.TheVariants as pipeline
 use Rattle.gate_config.specs.declared.generations.Generations.{Generations}
 use Rattle.gate_config.specs.Lookups.{connections_of, pipelines_of}
-use Rattle.gate_forward.specs.Forwarding.{forwarded}
 use Rattle.gate_forward.specs.Histories.{items_to}
 use Rattle.gate_tenant.specs.Dispatching.{chosen, is_from}
 use Rattle.gate_tenant.specs.Histories.{EachGetsItsOwn, NothingIsLost, item_for, items_for}

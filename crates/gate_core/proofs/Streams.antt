@@ -1,5 +1,5 @@
 -- What holds of the state of a world with any number of connections, tenants and pipelines, after any history.
-use Rattle.std.proofs.Common.{◌≡◌, ◌∙◌, refl, sym, ap, subst, ℕ, ◌+◌, ◌<◌, ◌≤◌, ◌==◌, List, [], ◌∷◌, ◌++◌, Bool, true, false, length, Option, Some, None, cond, add-zero, append-nil}
+use Rattle.std.proofs.Common.{◌≡◌, ◌∙◌, refl, sym, ap, subst, ℕ, ◌+◌, ◌<◌, ◌≤◌, List, [], ◌∷◌, ◌++◌, Bool, true, false, length, Option, Some, None, cond, add-zero, append-nil}
 use Rattle.std.specs.Prelude.{◌&&◌, ◌||◌, slice_get, count_by, is_some}
 use Rattle.std.specs.Option.{option_to_list}
 use Rattle.std.specs.List.{All, filter, filter_map}
@@ -7,9 +7,7 @@ use Rattle.gate_record.specs.declared.ids.PipelineId.{PipelineId}
 use Rattle.gate_record.specs.declared.ids.TenantId.{TenantId}
 use Rattle.gate_record.specs.declared.record.Record.{Record}
 use Rattle.gate_record.specs.declared.transit.ConnEntry.{ConnEntry}
-use Rattle.gate_record.specs.declared.transit.ConnEntry.TheVariants as entry
 use Rattle.gate_record.specs.declared.transit.TenantItem.{TenantItem}
-use Rattle.gate_record.specs.declared.transit.TenantItem.TheVariants as tenant
 use Rattle.gate_record.specs.declared.transit.PipelineItem.{PipelineItem}
 use Rattle.gate_config.specs.declared.config.Config.{Config}
 use Rattle.gate_config.specs.declared.generations.Generations.{Generations}
@@ -21,7 +19,7 @@ use Rattle.gate_core.specs.declared.pipeline.Pipeline.{Pipeline}
 use Rattle.gate_core.specs.declared.answer.Answer.{Answer}
 use Rattle.gate_core.specs.declared.step.Step.{Step}
 use Rattle.gate_core.specs.declared.step.Step.TheVariants as step
-use Rattle.gate_core.specs.History.{History, accepted_records, finished, closed, manage_posts, posted_manage, posted_result, result_posts, processed_by, is_put, has_taken, is_turn, is_close, is_take, is_offer, is_renew, is_moved, is_accepted, offered_to, processed_of, accepted_in, accepted_in_force, renewals}
+use Rattle.gate_core.specs.History.{History, accepted_records, finished, closed, manage_posts, posted_manage, posted_result, result_posts, processed_by, is_put, has_taken, is_turn, is_close, is_take, is_offer, is_renew, is_moved, is_accepted, offered_to, processed_of, accepted_in_force, renewals}
 use Rattle.gate_core.specs.States.{ConnectionState, TenantState, State}
 use Rattle.gate_tenant.specs.Dispatching.{conn_of_item, is_from}
 use Rattle.gate_record.specs.Entries.{AreEntriesOf, beside, generation_behind, with_generations}

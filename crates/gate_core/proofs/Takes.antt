@@ -1,6 +1,5 @@
 -- A mark of a renewal is taken.
 use Rattle.std.proofs.Common.{◌≡◌, ◌∙◌, refl, sym, ap, ℕ, suc, ◌<◌, ◌==◌, true, false, List, [], ◌∷◌, if◌then◌else◌, length}
-use Rattle.std.specs.Prelude.{nat_le}
 use Rattle.std.specs.List.{range_with_len}
 use Rattle.std.proofs.lemmas.Bool.{lt-leb}
 use Rattle.std.proofs.Math.Dec.{eqb-suc-zero}

@@ -1,9 +1,9 @@
 -- The steps of a tenant keep what holds.
-use Rattle.std.proofs.Common.{◌≡◌, ◌∙◌, refl, sym, ap, subst, ℕ, zero, suc, ◌+◌, ◌-◌, ◌<◌, ◌≤◌, ◌==◌, List, [], ◌∷◌, ◌++◌, Bool, true, false, length, take, drop, Option, Some, None, slice_set, if◌then◌else◌, append_assoc, append-nil, arith}
-use Rattle.std.specs.Prelude.{min, slice_get, is_some, unwrap_or}
+use Rattle.std.proofs.Common.{◌≡◌, ◌∙◌, refl, sym, ap, subst, ℕ, suc, ◌+◌, ◌<◌, ◌≤◌, ◌==◌, List, [], ◌∷◌, ◌++◌, false, length, take, drop, Some, None, slice_set, if◌then◌else◌, append_assoc, append-nil, arith}
+use Rattle.std.specs.Prelude.{min, slice_get, is_some}
 use Rattle.std.specs.List.{filter}
 use Rattle.std.specs.Option.{option_to_list}
-use Rattle.std.proofs.lemmas.List.{length-append, length-set, length-take, take-append-drop}
+use Rattle.std.proofs.lemmas.List.{length-set, length-take, take-append-drop}
 use Rattle.std.proofs.Math.Nat.{min-le_left}
 use Rattle.gate_record.specs.declared.ids.PipelineId.{PipelineId}
 use Rattle.gate_record.specs.declared.transit.TenantItem.{TenantItem}

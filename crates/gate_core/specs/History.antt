@@ -17,9 +17,9 @@ use Rattle.gate_pipeline.specs.Histories.{action_of, managing, outcome_of, resul
 use Rattle.gate_pipeline.specs.States.{Processed}
 use Rattle.gate_ways.specs.Wanted.{asked_among}
 use Rattle.gate_core.specs.declared.answer.Answer.{Answer}
-use Rattle.gate_core.specs.declared.answer.Answer.TheVariants.{Accepted, Closed, Full, Moved, Idle, Turned, Passed}
+use Rattle.gate_core.specs.declared.answer.Answer.TheVariants.{Accepted, Moved, Turned}
 use Rattle.gate_core.specs.declared.step.Step.{Step}
-use Rattle.gate_core.specs.declared.step.Step.TheVariants.{Offer, Close, Renew, Take, Send, Fetch, Match, Give, PostManage, PostResult, Turn}
+use Rattle.gate_core.specs.declared.step.Step.TheVariants.{Offer, Close, Renew, Take, PostManage, PostResult, Turn}
 
 -- the steps so far, each with its answer, in order
 abbrev pub History : Type 0

@@ -12,6 +12,7 @@ use Rattle.gate_items.specs.declared.action.Manage.TheVariants as manage
 use Rattle.gate_items.specs.declared.action.Outcome.{Outcome}
 use Rattle.gate_items.specs.declared.action.Outcome.TheVariants as outcome
 use Rattle.gate_items.specs.Words.{discard_word}
+use Rattle.gate_line.specs.Words.{state_word}
 use Rattle.gate_core.specs.declared.answer.Answer.{Answer}
 use Rattle.gate_core.specs.declared.answer.Answer.TheVariants as answer
 use Rattle.gate_ways.specs.declared.report.ConnectionReport.{ConnectionReport}
@@ -75,9 +76,6 @@ abbrev pub connection_lines : List (List ℕ) → List ConnectionReport → List
 connection_lines [] reports = []
 connection_lines (name ∷ names) [] = []
 connection_lines (name ∷ names) (report ∷ reports) = connection_line name report ++ (renewed_line name report.renewals ++ connection_lines names reports)
-
-abbrev pub state_word : Bool → List ℕ
-state_word finished = if finished then codes "finished" else codes "running"
 
 -- the numbers of the events that were processed of connection c
 abbrev pub numbers_text : ℕ → List Stamp → List ℕ

@@ -62,42 +62,39 @@ turn_of rest = do
   numbers ← two_of field.Tenant field.Pipeline rest
   Ok (Turn (record { 0 = numbers.0 }) (record { 0 = numbers.1 }))
 
--- the steps of a tenant and its pipelines
-abbrev pub tenant_named : List ℕ → Rest → Result Step LineFault
-tenant_named word rest =
-    if bytes_eq word (codes "fetch") then fetch_of rest
-    else (if bytes_eq word (codes "match") then to_tenant Match rest
-    else (if bytes_eq word (codes "give") then to_tenant Give rest
-    else (if bytes_eq word (codes "turn") then turn_of rest
-    else Err Unknown)))
-
--- the steps that bring nothing with them
-abbrev pub plain_named : List ℕ → Rest → Result Step LineFault
-plain_named word rest =
-    if bytes_eq word (codes "oversize") then to_connection (λ c. Offer c Oversize) rest
-    else (if bytes_eq word (codes "close") then to_connection Close rest
-    else (if bytes_eq word (codes "renew") then to_connection Renew rest
-    else (if bytes_eq word (codes "take") then to_connection Take rest
-    else (if bytes_eq word (codes "send") then to_connection Send rest
-    else tenant_named word rest))))
-
 -- what is posted to a pipeline
 abbrev pub posted : Post → Step
 posted (post.Manage tenant pipeline manage) = PostManage tenant pipeline manage
 posted (post.Result tenant pipeline ended) = PostResult tenant pipeline ended
 
-abbrev pub posted_of : PostKind → Rest → Result Step LineFault
-posted_of kind rest = do
+abbrev pub posted_of : Option PostKind → Rest → Result Step LineFault
+posted_of None rest = Err Unknown
+posted_of (Some kind) rest = do
   post ← post_of kind rest
   Ok (posted post)
 
-abbrev pub kept_named : Option PostKind → List ℕ → Rest → Result Step LineFault
-kept_named (Some kind) word rest = posted_of kind rest
-kept_named None word rest = plain_named word rest
+-- the steps that bring something with them: a record, or what is posted to a pipeline
+abbrev pub bringing_named : List ℕ → Rest → Result Step LineFault
+bringing_named word rest = if bytes_eq word (codes "offer") then offer_of rest else posted_of (kind_of word) rest
 
--- the step that a line's first word and the rest of the line stand for
+-- the other steps of a connection, and behind them those that bring something
+abbrev pub connection_named : List ℕ → Rest → Result Step LineFault
+connection_named word rest =
+    if bytes_eq word (codes "send") then to_connection Send rest
+    else (if bytes_eq word (codes "take") then to_connection Take rest
+    else (if bytes_eq word (codes "close") then to_connection Close rest
+    else (if bytes_eq word (codes "renew") then to_connection Renew rest
+    else (if bytes_eq word (codes "oversize") then to_connection (λ c. Offer c Oversize) rest
+    else bringing_named word rest))))
+
+-- the step that a line's first word and the rest of the line stand for: those of a pipeline and of a tenant first
 abbrev pub step_named : List ℕ → Rest → Result Step LineFault
-step_named word rest = if bytes_eq word (codes "offer") then offer_of rest else kept_named (kind_of word) word rest
+step_named word rest =
+    if bytes_eq word (codes "turn") then turn_of rest
+    else (if bytes_eq word (codes "give") then to_tenant Give rest
+    else (if bytes_eq word (codes "fetch") then fetch_of rest
+    else (if bytes_eq word (codes "match") then to_tenant Match rest
+    else connection_named word rest)))
 
 abbrev pub show_of : Rest → Result Scripted LineFault
 show_of rest = do

@@ -1,26 +1,22 @@
 ghost use Rattle.std.specs.Prelude.{◌≡◌, ◌++◌, string_bytes, IfOk, OnOk};
-ghost use Rattle.gate_core.specs.Output.{answer_line, cause_word, connection_line, connection_lines, state_word, number_text, pipeline_line, tenant_lines, report_text};
+ghost use Rattle.gate_core.specs.Output.{answer_line, cause_word, connection_line, connection_lines, number_text, pipeline_line, tenant_lines, report_text};
 ghost use Rattle.gate_config.specs.Lookups.{connections_of, tenants_of};
 
 use crate::answer::Answer;
 use gate_config::{Config, PipelineSpec, TenantSpec};
 use gate_items::{Action, Manage, Outcome};
+use gate_line::{push_name, push_number, state_word};
 use gate_record::{ConnId, Memory, Sequence, Stamp, TenantId, Text, name_text};
 use gate_ways::{ConnectionReport, EndCause, PipelineReport, RunReport};
 use std::alloc::Global;
 
 /// Adds an answer to a text, as a line.
-pub fn push_answer(out: &mut String, alloc: Global, answer: &Answer) -> Result<(), Memory>
+pub fn push_answer(out: &mut String, answer: &Answer) -> Result<(), Memory>
     ensures { OnOk result (string_bytes out.new ≡ string_bytes out.old ++ answer_line answer.now) }
 {
     match answer {
-        Answer::Accepted(number) => {
-            let line = format!(in alloc; "accepted {number}\n")?;
-            out.push_str(line.as_str())?;
-        }
-        Answer::Turned(stamp, action, outcome) => {
-            push_turned(out, alloc, stamp, action, *outcome)?;
-        }
+        Answer::Accepted(number) => push_accepted(out, *number)?,
+        Answer::Turned(stamp, action, outcome) => push_turned(out, stamp, action, *outcome)?,
         Answer::Closed => out.push_str("closed\n")?,
         Answer::Full => out.push_str("full\n")?,
         Answer::Moved => out.push_str("moved\n")?,
@@ -31,10 +27,20 @@ pub fn push_answer(out: &mut String, alloc: Global, answer: &Answer) -> Result<(
 }
 
 ghost use Rattle.gate_core.specs.Output.{action_text, outcome_text, stamp_text, turned_line};
+ghost use Rattle.gate_core.specs.declared.answer.Answer.TheVariants.{Accepted};
 
+fn push_accepted(out: &mut String, number: u64) -> Result<(), Memory>
+    ensures { OnOk result (string_bytes out.new ≡ string_bytes out.old ++ answer_line (Accepted number)) }
+{
+    out.push_str("accepted")?;
+    push_spaced(out, number)?;
+    out.push_str("\n")?;
+    Ok(())
+}
+
+#[inline(never)]
 fn push_turned(
     out: &mut String,
-    alloc: Global,
     stamp: &Option<Stamp>,
     action: &Action,
     outcome: Outcome,
@@ -42,38 +48,33 @@ fn push_turned(
     ensures { OnOk result (string_bytes out.new ≡ string_bytes out.old ++ turned_line stamp.now action.now outcome) }
 {
     out.push_str("turned ")?;
-    push_action(out, alloc, stamp, action)?;
+    push_action(out, stamp, action)?;
     push_outcome(out, outcome)?;
     Ok(())
 }
 
-fn push_action(
-    out: &mut String,
-    alloc: Global,
-    stamp: &Option<Stamp>,
-    action: &Action,
-) -> Result<(), Memory>
+fn push_action(out: &mut String, stamp: &Option<Stamp>, action: &Action) -> Result<(), Memory>
     ensures { OnOk result (string_bytes out.new ≡ string_bytes out.old ++ action_text stamp.now action.now) }
 {
     match (stamp, action) {
-        (Some(stamp), _) => push_stamp(out, alloc, *stamp)?,
+        (Some(stamp), _) => push_stamp(out, *stamp)?,
         (None, Action::Manage(Manage::Dequeue(_))) => out.push_str("dequeue")?,
         (None, Action::Manage(Manage::Reset(_))) => out.push_str("reset")?,
         (None, Action::Result(ended)) => {
             out.push_str("result")?;
-            push_number(out, alloc, ended.set)?;
+            push_spaced(out, ended.set)?;
         }
         (None, Action::Trigger(..)) => out.push_str("trigger")?,
     }
     Ok(())
 }
 
-fn push_stamp(out: &mut String, alloc: Global, stamp: Stamp) -> Result<(), Memory>
+fn push_stamp(out: &mut String, stamp: Stamp) -> Result<(), Memory>
     ensures { OnOk result (string_bytes out.new ≡ string_bytes out.old ++ stamp_text stamp) }
 {
     out.push_str("trigger")?;
-    push_number(out, alloc, u64::from(stamp.conn.0))?;
-    push_number(out, alloc, stamp.number)?;
+    push_spaced(out, u64::from(stamp.conn.0))?;
+    push_spaced(out, stamp.number)?;
     Ok(())
 }
 
@@ -138,7 +139,7 @@ fn push_renewed(out: &mut String, alloc: Global, name: &str, numbers: &[u64]) ->
     let name = name_text(alloc, name)?;
     let start = format!(in alloc; "renewed {name}")?;
     out.push_str(start.as_str())?;
-    push_each(out, alloc, numbers)?;
+    push_each(out, numbers)?;
     out.push_str("\n")?;
     Ok(())
 }
@@ -146,11 +147,11 @@ fn push_renewed(out: &mut String, alloc: Global, name: &str, numbers: &[u64]) ->
 ghost use Rattle.std.specs.Prelude.{flat_map};
 
 // Numbers, each behind a space.
-fn push_each(out: &mut String, alloc: Global, numbers: &[u64]) -> Result<(), Memory>
+fn push_each(out: &mut String, numbers: &[u64]) -> Result<(), Memory>
     ensures { OnOk result (string_bytes out.new ≡ string_bytes out.old ++ flat_map number_text numbers.now) }
 {
     for number in numbers {
-        push_number(out, alloc, *number)?;
+        push_spaced(out, *number)?;
     }
     Ok(())
 }
@@ -296,12 +297,6 @@ fn pipeline_line(
     Ok(format!(in alloc; "pipeline {tenant} {pipeline} {state}\n")?)
 }
 
-fn state_word(finished: bool) -> &'static str
-    ensures { result.now ≡ state_word finished }
-{
-    if finished { "finished" } else { "running" }
-}
-
 // A line for each connection that the tenant lists.
 fn push_done(
     out: &mut String,
@@ -319,7 +314,7 @@ fn push_done(
     while let Some((name, more)) = names.split_first() {
         if config.listed(number, ConnId(conn)) {
             push_start(out, alloc, tenant, pipeline.name.as_str(), name.as_str())?;
-            push_numbers(out, alloc, ConnId(conn), report.done.as_slice())?;
+            push_numbers(out, ConnId(conn), report.done.as_slice())?;
             out.push_str("\n")?;
         }
         names = more;
@@ -340,27 +335,22 @@ fn push_start(
 ) -> Result<(), Memory>
     ensures { OnOk result (string_bytes out.new ≡ string_bytes out.old ++ done_start tenant.now pipeline.now conn.now) }
 {
-    let tenant = name_text(alloc, tenant)?;
-    let pipeline = name_text(alloc, pipeline)?;
-    let conn = name_text(alloc, conn)?;
-    let start = format!(in alloc; "done {tenant} {pipeline} {conn}")?;
-    out.push_str(start.as_str())?;
-    Ok(())
+    out.push_str("done ")?;
+    push_name(out, alloc, tenant)?;
+    out.push_str(" ")?;
+    push_name(out, alloc, pipeline)?;
+    out.push_str(" ")?;
+    push_name(out, alloc, conn)
 }
 
 // The numbers of those stamps that are of the connection.
-fn push_numbers(
-    out: &mut String,
-    alloc: Global,
-    conn: ConnId,
-    stamps: &[Stamp],
-) -> Result<(), Memory>
+fn push_numbers(out: &mut String, conn: ConnId, stamps: &[Stamp]) -> Result<(), Memory>
     ensures { OnOk result (string_bytes out.new ≡ string_bytes out.old ++ numbers_text conn.0 stamps.now) }
 {
     let mut stamps = stamps;
     while let Some((stamp, more)) = stamps.split_first() {
         if stamp.conn.0 == conn.0 {
-            push_number(out, alloc, stamp.number)?;
+            push_spaced(out, stamp.number)?;
         }
         stamps = more;
     }
@@ -368,10 +358,9 @@ fn push_numbers(
 }
 
 /// Adds a number to a text, behind a space.
-pub(crate) fn push_number(out: &mut String, alloc: Global, number: u64) -> Result<(), Memory>
+pub(crate) fn push_spaced(out: &mut String, number: u64) -> Result<(), Memory>
     ensures { OnOk result (string_bytes out.new ≡ string_bytes out.old ++ number_text number) }
 {
-    let text = format!(in alloc; " {number}")?;
-    out.push_str(text.as_str())?;
-    Ok(())
+    out.push_str(" ")?;
+    push_number(out, number)
 }

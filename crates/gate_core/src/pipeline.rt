@@ -67,6 +67,7 @@ impl Pipeline {
     }
 
     // Puts a management event at the back of its queue: `Full` where 4,096 wait there.
+    #[inline(never)]
     fn post_manage(&mut self, manage: Manage) -> Result<Answer, Memory>
         ensures { Does self.old (post_manage manage self.old) self.new result }
     {
@@ -78,6 +79,7 @@ impl Pipeline {
     }
 
     // Puts a result at the back of its queue: `Full` where 4,096 wait there.
+    #[inline(never)]
     fn post_result(&mut self, ended: JobResult) -> Result<Answer, Memory>
         ensures { Does self.old (post_result ended self.old) self.new result }
     {
@@ -89,40 +91,71 @@ impl Pipeline {
     }
 
     // Processes what is held, or takes one value of the phase's queue, or finds it empty. Where memory is refused, what
-    // was taken is held.
+    // was taken is held. Most turns of a script find an empty queue, so that comes first, apart from what makes large answers.
+    #[inline(never)]
     fn turn(&mut self, config: &Config) -> Result<Answer, Memory>
+        ensures does { Does (refused self.old) (turned config.now self.old) self.new result }
+        ensures needs { OnErr result (TurnNeeds self.old) }
+    {
+        if self.passes() {
+            return Ok(Answer::Passed);
+        }
+        self.work(config)
+    }
+
+    ghost use Rattle.std.specs.Prelude.{◌≢◌, false, true};
+    ghost use Rattle.gate_core.specs.Pipelines.{Emptiness, found, passed_on};
+    ghost use Rattle.gate_core.specs.declared.answer.Answer.TheVariants.{Passed};
+
+    // Goes on to the next phase where the queue of this one is empty, and says whether it did.
+    fn passes(&mut self) -> bool
+        ensures passes { result ≡ true → (found self.old ≡ Emptiness) × ((self.new, Passed) ≡ passed_on self.old) }
+        ensures stays { result ≡ false → (self.new ≡ self.old) × (found self.old ≢ Emptiness) }
+    {
+        let is_empty = match self.worker.wants() {
+            Which::Management => self.management.is_empty(),
+            Which::Result => self.results.is_empty(),
+            Which::Trigger => self.triggers.is_empty(),
+            Which::Held | Which::Finished => return false,
+        };
+        if is_empty {
+            self.worker.found_empty();
+        }
+        is_empty
+    }
+
+    // A turn that doesn't find its queue empty.
+    #[inline(never)]
+    fn work(&mut self, config: &Config) -> Result<Answer, Memory>
+        requires { found self.old ≢ Emptiness }
         ensures does { Does (refused self.old) (turned config.now self.old) self.new result }
         ensures needs { OnErr result (TurnNeeds self.old) }
     {
         match self.worker.wants() {
             Which::Finished => Ok(Answer::Idle),
             Which::Held => self.hand_in(config, Taken::Again),
-            Which::Management => match self.management.pop() {
-                Some(manage) => self.hand_in(config, Taken::Manage(manage)),
-                None => Ok(self.pass_on()),
-            },
-            Which::Result => match self.results.pop() {
-                Some(ended) => self.hand_in(config, Taken::Result(ended)),
-                None => Ok(self.pass_on()),
-            },
-            Which::Trigger => match self.triggers.pop() {
-                Some(item) => self.hand_in(config, Taken::Trigger(item)),
-                None => Ok(self.pass_on()),
-            },
+            Which::Management => {
+                let Some(manage) = self.management.pop() else {
+                    unreachable!()
+                };
+                self.hand_in(config, Taken::Manage(manage))
+            }
+            Which::Result => {
+                let Some(ended) = self.results.pop() else {
+                    unreachable!()
+                };
+                self.hand_in(config, Taken::Result(ended))
+            }
+            Which::Trigger => {
+                let Some(item) = self.triggers.pop() else {
+                    unreachable!()
+                };
+                self.hand_in(config, Taken::Trigger(item))
+            }
         }
     }
 
-    ghost use Rattle.std.specs.Prelude.{true};
-    ghost use Rattle.gate_core.specs.Pipelines.{passed_on};
-    ghost use Rattle.gate_pipeline.specs.States.{MayBeRefused, is_taking, to_process};
-
-    fn pass_on(&mut self) -> Answer
-        requires { is_taking (next_of self.old.worker) ≡ true }
-        ensures { (self.new, result) ≡ passed_on self.old }
-    {
-        self.worker.found_empty();
-        Answer::Passed
-    }
+    ghost use Rattle.gate_pipeline.specs.States.{MayBeRefused, to_process};
 
     fn hand_in(&mut self, config: &Config, given: Taken) -> Result<Answer, Memory>
         requires { next_of self.old.worker ≡ asked given }

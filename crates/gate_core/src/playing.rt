@@ -1,68 +1,118 @@
-ghost use Rattle.std.specs.Prelude.{◌≡◌, ◌++◌, ◌<◌, ◌^◌, IfOk, length, string_bytes};
-ghost use Rattle.gate_core.specs.Replays.{script_lines, steps_in};
-ghost use Rattle.gate_core.specs.Steps.{first, left_by};
-ghost use Rattle.gate_core.specs.Worlds.{gens_of, state_of};
+ghost use Rattle.std.specs.Prelude.{◌≡◌, ◌+◌, ◌<◌, ◌^◌, IfErr, IfOk, Ok, string_bytes};
+ghost use Rattle.gate_core.specs.Faults.{FailsScript};
+ghost use Rattle.gate_core.specs.Script.{script_of};
+ghost use Rattle.gate_core.specs.Inner.Replays.{played};
+ghost use Rattle.gate_core.specs.Steps.{first};
+ghost use Rattle.gate_core.specs.Worlds.{AcceptedAtMost, gens_of, state_of};
 
 use crate::output::push_answer;
-use crate::script::Scripted;
+use crate::script::{ScriptFault, Scripted};
+use crate::script_lines::read_script_line;
 use crate::showing::push_shown;
 use crate::step::Step;
 use crate::world::World;
 use gate_config::Generations;
-use gate_forward::each_tenant_gets_its_own;
-use gate_record::{
-    Memory, PipelineId, Queue, TenantId, entries_have_generations, records_have_generations,
-};
+use gate_line::{LineFault, first_line, is_skipped};
+use gate_record::{Memory, PipelineId, TenantId};
 use std::alloc::Global;
 
-/// Takes the steps of a script in order, from the world in which nothing was offered yet, and gives the world that they
-/// leave. What each line of the script prints goes to the end of a text.
+/// Takes the steps of a script line by line, from the world in which nothing was offered yet, and gives the world that they leave.
+/// What each line prints goes to the end of a text. Each line is read when its turn comes, so the script takes no memory; where one
+/// stands for nothing, those before it were played.
 pub(crate) fn play_script<'c>(
     alloc: Global,
     gens: &'c Generations,
-    script: Queue<Scripted>,
+    script: &[u8],
     out: &mut String,
-) -> Result<World<'c>, Memory>
-    ensures lines { IfOk result (λ world. string_bytes out.new ≡ string_bytes out.old ++ script_lines gens.entry.now (first gens.entry.now) script) }
-    ensures left { IfOk result (λ world. state_of world ≡ left_by gens.entry.now (first gens.entry.now) (steps_in script)) }
+) -> Result<World<'c>, ScriptFault>
+    ensures played { IfOk result (λ world. played gens.entry.now (first gens.entry.now) (string_bytes out.old) (script_of script.now) ≡ Ok (string_bytes out.new, state_of world)) }
+    ensures fault { IfErr result (FailsScript (script_of script.now)) }
 {
-    // What a forwarder sends is a law of its definitions, by which the steps taken so far are numbered.
-    each_tenant_gets_its_own();
-    entries_have_generations();
-    records_have_generations();
-    let mut script = script;
-    // The proof counts by it: fewer than 2^64 records are accepted, since there are no more lines.
-    let _total = script.len();
-    let mut world = World::new(alloc, gens)?;
-    while let Some(line) = script.pop() {
-        match line {
-            Scripted::Step(step) => play_step(alloc, &mut world, step, out)?,
-            Scripted::Show(tenant, pipeline) => {
-                let items = world.items(TenantId(tenant), PipelineId(pipeline));
-                push_shown(out, alloc, items)?;
-            }
-        }
+    let mut world = match World::new(alloc, gens) {
+        Ok(world) => world,
+        Err(Memory) => return Err(ScriptFault::Memory),
+    };
+    let mut rest = script;
+    let mut before = 0;
+    while !rest.is_empty() {
+        let (line, more) = first_line(rest);
+        play_line(alloc, &mut world, line, before, out)?;
+        before += 1;
+        rest = more;
     }
     Ok(world)
 }
 
-ghost use Rattle.std.specs.Prelude.{OnOk};
+ghost use Rattle.gate_core.specs.Inner.Replays.{PlaysLine};
+ghost use Rattle.gate_core.specs.Script.{line_adds};
+
+// Plays the line that stands behind so many.
+fn play_line(
+    alloc: Global,
+    world: &mut World<'_>,
+    line: &[u8],
+    before: usize,
+    out: &mut String,
+) -> Result<(), ScriptFault>
+    requires counts { AcceptedAtMost before (state_of world.old) }
+    requires room { before + 1 < 2 ^ 64 }
+    ensures gens { gens_of world.new ≡ gens_of world.old }
+    ensures counts { AcceptedAtMost (before + 1) (state_of world.new) }
+    ensures plays { PlaysLine (gens_of world.old) (state_of world.old) (string_bytes out.old) (line_adds line.now) (state_of world.new) (string_bytes out.new) (before + 1) result }
+{
+    if is_skipped(line) {
+        return Ok(());
+    }
+    match read_script_line(alloc, line) {
+        Ok(scripted) => match play(alloc, world, scripted, before, out) {
+            Ok(()) => Ok(()),
+            Err(Memory) => Err(ScriptFault::Memory),
+        },
+        Err(LineFault::Memory) => Err(ScriptFault::Memory),
+        Err(_) => Err(ScriptFault::Script(before + 1)),
+    }
+}
+
+ghost use Rattle.std.specs.Prelude.{◌++◌, ◌∷◌, [], ℕ, OnOk};
+ghost use Rattle.gate_core.specs.Replays.{script_lines, steps_in};
+ghost use Rattle.gate_core.specs.Steps.{left_by};
+
+// Plays what a line stands for. So many lines stood before it.
+fn play(
+    alloc: Global,
+    world: &mut World<'_>,
+    scripted: Scripted,
+    before: usize,
+    out: &mut String,
+) -> Result<(), Memory>
+    requires counts { AcceptedAtMost before (state_of world.old) }
+    requires room { before + 1 < 2 ^ 64 }
+    ensures gens { gens_of world.new ≡ gens_of world.old }
+    ensures counts { AcceptedAtMost (before + 1) (state_of world.new) }
+    ensures left { OnOk result (state_of world.new ≡ left_by (gens_of world.old) (state_of world.old) (steps_in (scripted ∷ []))) }
+    ensures printed { OnOk result (string_bytes out.new ≡ string_bytes out.old ++ script_lines (gens_of world.old) (state_of world.old) (scripted ∷ [])) }
+{
+    match scripted {
+        Scripted::Step(step) => play_step(world, step, out),
+        Scripted::Show(tenant, pipeline) => {
+            let items = world.items(TenantId(tenant), PipelineId(pipeline));
+            push_shown(out, alloc, items)
+        }
+    }
+}
+
 ghost use Rattle.gate_core.specs.Output.{answer_line};
 ghost use Rattle.gate_core.specs.Steps.{step_of};
 ghost use Rattle.gate_core.specs.Worlds.{HasNumber};
 
 // Takes a step, whose answer goes to the end of a text.
-fn play_step(
-    alloc: Global,
-    world: &mut World<'_>,
-    step: Step,
-    out: &mut String,
-) -> Result<(), Memory>
+fn play_step(world: &mut World<'_>, step: Step, out: &mut String) -> Result<(), Memory>
     requires numbers { HasNumber (state_of world.old) step }
     ensures gens { gens_of world.new ≡ gens_of world.old }
+    ensures counts { (most : ℕ) → AcceptedAtMost most (state_of world.old) → AcceptedAtMost (most + 1) (state_of world.new) }
     ensures left { OnOk result (state_of world.new ≡ (step_of (gens_of world.old) (state_of world.old) step).0) }
     ensures printed { OnOk result (string_bytes out.new ≡ string_bytes out.old ++ answer_line (step_of (gens_of world.old) (state_of world.old) step).1) }
 {
     let answer = world.step(step)?;
-    push_answer(out, alloc, &answer)
+    push_answer(out, &answer)
 }

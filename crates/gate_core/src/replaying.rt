@@ -5,9 +5,10 @@ ghost use Rattle.gate_core.specs.Replays.{Replays, FailsReplay};
 use crate::laws::every_run_delivers;
 use crate::output::push_report;
 use crate::playing::play_script;
-use crate::script::{ScriptFault, Scripted, read_script};
+use crate::script::ScriptFault;
+use crate::world::World;
 use gate_config::{GenerationFault, Generations, read_generations};
-use gate_record::{Memory, Queue};
+use gate_record::Memory;
 use std::alloc::Global;
 use std::error::Error;
 use std::fmt;
@@ -35,7 +36,7 @@ impl fmt::Display for ReplayFault {
 
 impl Error for ReplayFault {}
 
-/// Reads the generations of a configuration, a document each, and a script, takes the script's steps from the beginning, and
+/// Reads the generations of a configuration, a document each, takes the steps of a script from the beginning, line by line, and
 /// gives what its lines print, the answers to steps and the items that are shown, and then the report. A fault of the documents
 /// comes before one of the script.
 pub fn replay(alloc: Global, documents: &[Vec<u8>], script: &[u8]) -> Result<String, ReplayFault>
@@ -46,18 +47,15 @@ pub fn replay(alloc: Global, documents: &[Vec<u8>], script: &[u8]) -> Result<Str
         Ok(gens) => gens,
         Err(fault) => return Err(of_generations(fault)),
     };
-    let script = match read_script(alloc, script) {
-        Ok(script) => script,
-        Err(fault) => return Err(of_script(fault)),
-    };
     match play_text(alloc, &gens, script) {
         Ok(text) => Ok(text),
-        Err(Memory) => Err(ReplayFault::Memory),
+        Err(fault) => Err(of_script(fault)),
     }
 }
 
-ghost use Rattle.gate_core.specs.Replays.{Plays};
-ghost use Rattle.gate_core.specs.Inner.Replays.{of_generation_fault, of_script_fault};
+ghost use Rattle.gate_core.specs.Faults.{FailsScript};
+ghost use Rattle.gate_core.specs.Inner.Replays.{PlaysScript, of_generation_fault, of_script_fault};
+ghost use Rattle.gate_core.specs.Script.{script_of};
 
 // Memory is one fault, wherever it was refused.
 fn of_generations(fault: GenerationFault) -> ReplayFault
@@ -79,14 +77,34 @@ fn of_script(fault: ScriptFault) -> ReplayFault
 }
 
 // What the lines of a script print, and the report of the world that they leave.
-fn play_text(alloc: Global, gens: &Generations, script: Queue<Scripted>) -> Result<String, Memory>
-    ensures { IfOk result (λ text. Plays gens.now script (string_bytes text)) }
+fn play_text(alloc: Global, gens: &Generations, script: &[u8]) -> Result<String, ScriptFault>
+    ensures text { IfOk result (λ text. PlaysScript gens.now script.now (string_bytes text)) }
+    ensures fault { IfErr result (FailsScript (script_of script.now)) }
 {
     // What is promised of every history is a law of the definitions.
     every_run_delivers();
     let mut text = String::new(alloc);
     let world = play_script(alloc, gens, script, &mut text)?;
+    match push_left(&mut text, alloc, gens, &world) {
+        Ok(()) => Ok(text),
+        Err(Memory) => Err(ScriptFault::Memory),
+    }
+}
+
+ghost use Rattle.std.specs.Prelude.{◌++◌, OnOk};
+ghost use Rattle.gate_core.specs.Output.{report_text};
+ghost use Rattle.gate_core.specs.Reports.{report_of};
+ghost use Rattle.gate_core.specs.Worlds.{state_of};
+
+// Adds the report of a world to a text.
+fn push_left(
+    out: &mut String,
+    alloc: Global,
+    gens: &Generations,
+    world: &World<'_>,
+) -> Result<(), Memory>
+    ensures { OnOk result (string_bytes out.new ≡ string_bytes out.old ++ report_text gens.now.first (report_of (state_of world.now))) }
+{
     let report = world.report()?;
-    push_report(&mut text, alloc, gens.first(), &report)?;
-    Ok(text)
+    push_report(out, alloc, gens.first(), &report)
 }

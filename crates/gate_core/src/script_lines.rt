@@ -55,22 +55,73 @@ fn two_of(first: Field, second: Field, rest: Option<&[u8]>) -> Result<(u32, u32)
     Ok((one, other))
 }
 
+// The step of a line: those of pipelines and tenants come first, which most lines are.
 fn step_named(alloc: Global, word: &[u8], rest: Option<&[u8]>) -> Result<Step, LineFault>
     ensures { Answers step_has_bytes (step_named word.now (option_copied rest.entry)) result }
+{
+    if is_word(word, "turn") {
+        let (tenant, pipeline) = two_of(Field::Tenant, Field::Pipeline, rest)?;
+        return Ok(Step::Turn(TenantId(tenant), PipelineId(pipeline)));
+    }
+    if is_word(word, "give") {
+        return Ok(Step::Give(TenantId(one_of(Field::Tenant, rest)?)));
+    }
+    if is_word(word, "fetch") {
+        let (tenant, count) = two_of(Field::Tenant, Field::Count, rest)?;
+        return Ok(Step::Fetch(TenantId(tenant), count));
+    }
+    if is_word(word, "match") {
+        return Ok(Step::Match(TenantId(one_of(Field::Tenant, rest)?)));
+    }
+    connection_step(alloc, word, rest)
+}
+
+ghost use Rattle.gate_core.specs.Script.{connection_named};
+
+// The steps of a connection that bring nothing with them, and behind them those that do.
+fn connection_step(alloc: Global, word: &[u8], rest: Option<&[u8]>) -> Result<Step, LineFault>
+    ensures { Answers step_has_bytes (connection_named word.now (option_copied rest.entry)) result }
+{
+    if is_word(word, "send") {
+        return Ok(Step::Send(ConnId(one_of(Field::Connection, rest)?)));
+    }
+    if is_word(word, "take") {
+        return Ok(Step::Take(ConnId(one_of(Field::Connection, rest)?)));
+    }
+    if is_word(word, "close") {
+        return Ok(Step::Close(ConnId(one_of(Field::Connection, rest)?)));
+    }
+    if is_word(word, "renew") {
+        return Ok(Step::Renew(ConnId(one_of(Field::Connection, rest)?)));
+    }
+    if is_word(word, "oversize") {
+        let conn = ConnId(one_of(Field::Connection, rest)?);
+        return Ok(Step::Offer(conn, Record::Oversize));
+    }
+    bringing_step(alloc, word, rest)
+}
+
+ghost use Rattle.gate_core.specs.Script.{bringing_named};
+
+// The steps that bring something with them: a record, or what is posted to a pipeline.
+#[inline(never)]
+fn bringing_step(alloc: Global, word: &[u8], rest: Option<&[u8]>) -> Result<Step, LineFault>
+    ensures { Answers step_has_bytes (bringing_named word.now (option_copied rest.entry)) result }
 {
     if is_word(word, "offer") {
         return offer_of(alloc, rest);
     }
     match PostKind::of(word) {
         Some(kind) => posted_of(alloc, kind, rest),
-        None => plain_step(word, rest),
+        None => Err(LineFault::Unknown),
     }
 }
 
+ghost use Rattle.std.specs.Prelude.{Some};
 ghost use Rattle.gate_core.specs.Script.{posted_of};
 
 fn posted_of(alloc: Global, kind: PostKind, rest: Option<&[u8]>) -> Result<Step, LineFault>
-    ensures { Answers step_has_bytes (posted_of kind (option_copied rest.entry)) result }
+    ensures { Answers step_has_bytes (posted_of (Some kind) (option_copied rest.entry)) result }
 {
     match kind.read(alloc, rest)? {
         Post::Manage(tenant, pipeline, manage) => Ok(Step::PostManage(tenant, pipeline, manage)),
@@ -89,54 +140,4 @@ fn offer_of(alloc: Global, rest: Option<&[u8]>) -> Result<Step, LineFault>
         Ok(copy) => Ok(Step::Offer(ConnId(conn), Record::Line(Sequence::new(copy)))),
         Err(_) => Err(LineFault::Memory),
     }
-}
-
-ghost use Rattle.gate_core.specs.Script.{plain_named};
-
-// The steps that bring nothing with them.
-fn plain_step(word: &[u8], rest: Option<&[u8]>) -> Result<Step, LineFault>
-    ensures value { result ≡ plain_named word.now (option_copied rest.entry) }
-    ensures own { IfErr result IsOwn }
-{
-    if is_word(word, "oversize") {
-        let conn = ConnId(one_of(Field::Connection, rest)?);
-        return Ok(Step::Offer(conn, Record::Oversize));
-    }
-    if is_word(word, "close") {
-        return Ok(Step::Close(ConnId(one_of(Field::Connection, rest)?)));
-    }
-    if is_word(word, "renew") {
-        return Ok(Step::Renew(ConnId(one_of(Field::Connection, rest)?)));
-    }
-    if is_word(word, "take") {
-        return Ok(Step::Take(ConnId(one_of(Field::Connection, rest)?)));
-    }
-    if is_word(word, "send") {
-        return Ok(Step::Send(ConnId(one_of(Field::Connection, rest)?)));
-    }
-    tenant_step(word, rest)
-}
-
-ghost use Rattle.gate_core.specs.Script.{tenant_named};
-
-// The steps of a tenant and its pipelines.
-fn tenant_step(word: &[u8], rest: Option<&[u8]>) -> Result<Step, LineFault>
-    ensures value { result ≡ tenant_named word.now (option_copied rest.entry) }
-    ensures own { IfErr result IsOwn }
-{
-    if is_word(word, "fetch") {
-        let (tenant, count) = two_of(Field::Tenant, Field::Count, rest)?;
-        return Ok(Step::Fetch(TenantId(tenant), count));
-    }
-    if is_word(word, "match") {
-        return Ok(Step::Match(TenantId(one_of(Field::Tenant, rest)?)));
-    }
-    if is_word(word, "give") {
-        return Ok(Step::Give(TenantId(one_of(Field::Tenant, rest)?)));
-    }
-    if is_word(word, "turn") {
-        let (tenant, pipeline) = two_of(Field::Tenant, Field::Pipeline, rest)?;
-        return Ok(Step::Turn(TenantId(tenant), PipelineId(pipeline)));
-    }
-    Err(LineFault::Unknown)
 }

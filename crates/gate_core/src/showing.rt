@@ -3,10 +3,11 @@ ghost use Rattle.gate_core.specs.Shows.{change_text, counts_line, item_line, ite
 ghost use Rattle.gate_core.specs.States.{items_at};
 ghost use Rattle.gate_core.specs.Worlds.{state_of};
 
-use crate::output::push_number;
+use crate::output::push_spaced;
 use crate::world::World;
 use gate_items::{Build, Items, Key, QueueItem, Report};
-use gate_record::{Memory, PipelineId, TenantId, name_text};
+use gate_line::{push_name, push_signed};
+use gate_record::{Memory, PipelineId, TenantId};
 use std::alloc::Global;
 
 /// The queue items of a pipeline and what it reported, as text: how many there are of each, then a line for each item and
@@ -25,6 +26,7 @@ pub fn show_text(
 }
 
 /// Adds the items of a pipeline, if it is there, to a text.
+#[inline(never)]
 pub(crate) fn push_shown(
     out: &mut String,
     alloc: Global,
@@ -41,18 +43,18 @@ pub(crate) fn push_shown(
 fn push_items(out: &mut String, alloc: Global, items: &Items) -> Result<(), Memory>
     ensures { OnOk result (string_bytes out.new ≡ string_bytes out.old ++ items_text items.now) }
 {
-    push_counts(out, alloc, items)?;
+    push_counts(out, items)?;
     push_queue(out, alloc, items)?;
     push_reports(out, alloc, items.reported())
 }
 
-fn push_counts(out: &mut String, alloc: Global, items: &Items) -> Result<(), Memory>
+fn push_counts(out: &mut String, items: &Items) -> Result<(), Memory>
     ensures { OnOk result (string_bytes out.new ≡ string_bytes out.old ++ counts_line (length items.now.items) (length items.now.reported)) }
 {
-    let count = item_count(items);
-    let reports = items.reported().len();
-    let line = format!(in alloc; "shown {count} {reports}\n")?;
-    out.push_str(line.as_str())?;
+    out.push_str("shown")?;
+    push_spaced(out, item_count(items) as u64)?;
+    push_spaced(out, items.reported().len() as u64)?;
+    out.push_str("\n")?;
     Ok(())
 }
 
@@ -124,9 +126,16 @@ fn push_start(
 {
     out.push_str(word)?;
     push_key(out, alloc, key)?;
-    let sets = format!(in alloc; " patchset {patchset} set {set}")?;
-    out.push_str(sets.as_str())?;
-    Ok(())
+    push_sets(out, patchset, set)
+}
+
+fn push_sets(out: &mut String, patchset: i64, set: u64) -> Result<(), Memory>
+    ensures { OnOk result (string_bytes out.new ≡ string_bytes out.old ++ sets_text patchset set) }
+{
+    out.push_str(" patchset ")?;
+    push_signed(out, patchset)?;
+    out.push_str(" set")?;
+    push_spaced(out, set)
 }
 
 fn push_jobs(out: &mut String, alloc: Global, jobs: &[Build]) -> Result<(), Memory>
@@ -160,7 +169,7 @@ fn push_key(out: &mut String, alloc: Global, key: &Key) -> Result<(), Memory>
     ensures { OnOk result (string_bytes out.new ≡ string_bytes out.old ++ key_text key.now) }
 {
     match key {
-        Key::Change { conn, number } => push_change(out, alloc, conn.0, *number),
+        Key::Change { conn, number } => push_change(out, conn.0, *number),
         Key::Ref {
             conn,
             project,
@@ -177,14 +186,13 @@ fn push_key(out: &mut String, alloc: Global, key: &Key) -> Result<(), Memory>
     }
 }
 
-fn push_change(out: &mut String, alloc: Global, conn: u32, number: i64) -> Result<(), Memory>
+fn push_change(out: &mut String, conn: u32, number: i64) -> Result<(), Memory>
     ensures { OnOk result (string_bytes out.new ≡ string_bytes out.old ++ change_text conn number) }
 {
     out.push_str("change")?;
-    push_number(out, alloc, u64::from(conn))?;
-    let number = format!(in alloc; " {number}")?;
-    out.push_str(number.as_str())?;
-    Ok(())
+    push_spaced(out, u64::from(conn))?;
+    out.push_str(" ")?;
+    push_signed(out, number)
 }
 
 fn push_ref(
@@ -198,7 +206,7 @@ fn push_ref(
     ensures { OnOk result (string_bytes out.new ≡ string_bytes out.old ++ ref_text conn project.now refname.now newrev.now) }
 {
     out.push_str("ref")?;
-    push_number(out, alloc, u64::from(conn))?;
+    push_spaced(out, u64::from(conn))?;
     push_quoted(out, alloc, newrev)?;
     push_quoted(out, alloc, refname)?;
     push_quoted(out, alloc, project)
@@ -208,8 +216,6 @@ fn push_ref(
 fn push_quoted(out: &mut String, alloc: Global, name: &str) -> Result<(), Memory>
     ensures { OnOk result (string_bytes out.new ≡ string_bytes out.old ++ quoted name.now) }
 {
-    let name = name_text(alloc, name)?;
     out.push_str(" ")?;
-    out.push_str(name.as_str())?;
-    Ok(())
+    push_name(out, alloc, name)
 }

@@ -1,4 +1,3 @@
 pub mod Following
 pub mod Numbered
 pub mod Pushed
-pub mod Quoting

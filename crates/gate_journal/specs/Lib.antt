@@ -1,6 +1,5 @@
 pub mod Causes
 pub mod Follows
-pub mod Inner
 pub mod Lines
 pub mod Live
 pub mod Members

@@ -1,46 +1,14 @@
 //! Members of the lines, each with a comma behind it.
-ghost use Rattle.std.specs.Prelude.{◌≡◌, ◌++◌, codes, decimal, flat_map, string_bytes, IfOk, OnOk};
+ghost use Rattle.std.specs.Prelude.{◌≡◌, ◌++◌, codes, flat_map, string_bytes, IfOk, OnOk};
 ghost use Rattle.gate_record.specs.Names.{name_text};
 ghost use Rattle.gate_journal.specs.Members.{change_member, connection_text, jobs_member, more_names, names_text, next_name, number_member, patchset_member, pipeline_member, pipeline_name, record_member, ref_member, tenant_members, tenant_name};
 
 use crate::place::Place;
 use gate_config::Config;
 use gate_items::{Build, Key};
+use gate_line::{push_name, push_number};
 use gate_record::{ConnId, Memory, Stamp, name_text};
 use std::alloc::Global;
-
-/// A name as JSON text.
-pub(crate) fn push_name(out: &mut String, alloc: Global, name: &str) -> Result<(), Memory>
-    ensures { OnOk result (string_bytes out.new ≡ string_bytes out.old ++ name_text name.now) }
-{
-    if is_plain(name) {
-        return push_parts(out, "\"", name, "\"");
-    }
-    let name = name_text(alloc, name)?;
-    out.push_str(name.as_str())?;
-    Ok(())
-}
-
-ghost use Rattle.std.specs.List.{list_all};
-ghost use Rattle.gate_journal.specs.Inner.Plain.{is_plain};
-
-// Whether a name has nothing to escape.
-fn is_plain(name: &str) -> bool
-    ensures { result ≡ list_all is_plain name.now }
-{
-    name.as_bytes()
-        .iter()
-        .all(|byte| *byte >= b' ' && *byte != b'"' && *byte != b'\\')
-}
-
-/// A number.
-pub(crate) fn push_number(out: &mut String, alloc: Global, number: u64) -> Result<(), Memory>
-    ensures { OnOk result (string_bytes out.new ≡ string_bytes out.old ++ decimal number) }
-{
-    let number = format!(in alloc; "{number}")?;
-    out.push_str(number.as_str())?;
-    Ok(())
-}
 
 /// Three texts, one behind another.
 pub(crate) fn push_parts(
@@ -68,7 +36,7 @@ fn push_connection(
 {
     match config.connections().get(conn.0 as usize) {
         Some(name) => push_name(out, alloc, name.as_str()),
-        None => push_number(out, alloc, u64::from(conn.0)),
+        None => push_number(out, u64::from(conn.0)),
     }
 }
 
@@ -155,7 +123,7 @@ pub(crate) fn push_record(
     out.push_str("\"record\":{\"connection\":")?;
     push_connection(out, alloc, config, stamp.conn)?;
     out.push_str(",\"number\":")?;
-    push_number(out, alloc, stamp.number)?;
+    push_number(out, stamp.number)?;
     out.push_str("},")?;
     Ok(())
 }
@@ -197,11 +165,11 @@ fn push_next_name(out: &mut String, alloc: Global, job: &Build) -> Result<(), Me
 }
 
 // The pipeline's number.
-fn push_pipeline_number(out: &mut String, alloc: Global, place: &Place<'_>) -> Result<(), Memory>
+fn push_pipeline_number(out: &mut String, place: &Place<'_>) -> Result<(), Memory>
     ensures { OnOk result (string_bytes out.new ≡ string_bytes out.old ++ number_member place.now.pipeline.0) }
 {
     out.push_str("\"p\":")?;
-    push_number(out, alloc, u64::from(place.pipeline.0))?;
+    push_number(out, u64::from(place.pipeline.0))?;
     out.push_str(",")?;
     Ok(())
 }
@@ -240,7 +208,7 @@ pub(crate) fn push_tenant(out: &mut String, alloc: Global, place: &Place<'_>) ->
     ensures { OnOk result (string_bytes out.new ≡ string_bytes out.old ++ tenant_members place.now.config.now place.now.tenant.0) }
 {
     out.push_str("\"t\":")?;
-    push_number(out, alloc, u64::from(place.tenant.0))?;
+    push_number(out, u64::from(place.tenant.0))?;
     out.push_str(",\"tenant\":")?;
     push_tenant_name(out, alloc, place)
 }
@@ -264,7 +232,7 @@ pub(crate) fn push_pipeline(
 ) -> Result<(), Memory>
     ensures { OnOk result (string_bytes out.new ≡ string_bytes out.old ++ pipeline_members place.now.config.now place.now.tenant.0 place.now.pipeline.0) }
 {
-    push_pipeline_number(out, alloc, place)?;
+    push_pipeline_number(out, place)?;
     push_pipeline_member(out, alloc, place)?;
     Ok(())
 }
@@ -278,7 +246,7 @@ pub(crate) fn push_patched(
 ) -> Result<(), Memory>
     ensures { OnOk result (string_bytes out.new ≡ string_bytes out.old ++ patched_members place.now.config.now place.now.tenant.0 place.now.pipeline.0 patchset.now) }
 {
-    push_pipeline_number(out, alloc, place)?;
+    push_pipeline_number(out, place)?;
     push_patchset(out, alloc, patchset)?;
     push_pipeline_member(out, alloc, place)?;
     Ok(())

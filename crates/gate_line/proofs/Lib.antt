@@ -1,3 +1,4 @@
 pub mod FirstBytes
 pub mod FirstLines
 pub mod Numbers
+pub mod Quoting

@@ -1,5 +1,5 @@
 -- The words of a line.
-use Rattle.std.specs.Prelude.{ℕ, ◌+◌, ◌*◌, ◌-◌, List, [], ◌∷◌, Bool, true, ◌==◌, ◌&&◌, nat_lt, nat_le, length, Option, Some, None, fold, if◌then◌else◌}
+use Rattle.std.specs.Prelude.{ℕ, ◌+◌, ◌*◌, ◌-◌, List, [], ◌∷◌, Bool, true, ◌==◌, ◌&&◌, nat_lt, nat_le, length, Option, Some, None, codes, fold, if◌then◌else◌}
 use Rattle.std.specs.List.{list_all, before_first, after_first, position_or_len}
 use Rattle.std.specs.Str.{is_utf8}
 use Rattle.gate_record.specs.Characters.{digit_nine, digit_zero, number_sign, space}
@@ -34,6 +34,10 @@ value_of digits = fold (λ value digit. 10 * value + (digit - digit_zero)) 0 dig
 -- one or more decimal digits whose value is below a limit
 abbrev pub number_below : ℕ → List ℕ → Option ℕ
 number_below limit text = if nat_lt 0 (length text) && (list_all is_digit text && nat_lt (value_of text) limit) then Some (value_of text) else None
+
+-- how a line says whether a pipeline has finished
+abbrev pub state_word : Bool → List ℕ
+state_word finished = if finished then codes "finished" else codes "running"
 
 -- a text of one byte or more
 abbrev pub text_of : List ℕ → Option (List ℕ)

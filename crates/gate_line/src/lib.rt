@@ -1,4 +1,5 @@
-//! The lines of scripts and of the status port: their words and fields, and what a line posts to a pipeline.
+//! The lines of scripts and of the status port: their words and fields, what a line posts to a pipeline, and how numbers and names are
+//! written.
 #![tactic(auto)]
 
 mod field;
@@ -7,9 +8,11 @@ mod keys;
 mod lines;
 mod posts;
 mod words;
+mod writing;
 
 pub use field::{Field, LineFault};
 pub use fields::{at_end, last_bytes, number_field};
 pub use lines::{first_line, is_skipped};
 pub use posts::{Post, PostKind};
-pub use words::{is_blank, is_word, split_word};
+pub use words::{is_blank, is_word, split_word, state_word};
+pub use writing::{push_name, push_number, push_signed};

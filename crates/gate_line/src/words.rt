@@ -42,6 +42,15 @@ pub fn is_blank(line: &[u8]) -> bool
     line.iter().all(|byte| *byte == b' ')
 }
 
+ghost use Rattle.gate_line.specs.Words.{state_word};
+
+/// How a line says whether a pipeline has finished: `finished` or `running`.
+pub fn state_word(finished: bool) -> &'static str
+    ensures { result.now ≡ state_word finished }
+{
+    if finished { "finished" } else { "running" }
+}
+
 // A text of one byte or more.
 pub(crate) fn text_of(bytes: &[u8]) -> Option<&str>
     ensures { option_map (λ text. text.now) result ≡ text_of bytes.now }

@@ -5,7 +5,7 @@ use Rattle.gate_config.specs.declared.config.Config.{Config}
 use Rattle.gate_config.specs.declared.config.PipelineSpec.{PipelineSpec}
 use Rattle.gate_config.specs.declared.config.TenantSpec.{TenantSpec}
 use Rattle.gate_config.specs.Lookups.{tenants_of}
-use Rattle.gate_core.specs.Output.{state_word}
+use Rattle.gate_line.specs.Words.{state_word}
 use Rattle.gate_status.specs.declared.progress.Progress.{Progress}
 use Rattle.gate_status.specs.Boards.{no_progress}
 

@@ -1,10 +1,10 @@
 ghost use Rattle.std.specs.Prelude.{◌≡◌, ◌++◌, string_bytes, IfOk, OnOk};
-ghost use Rattle.gate_core.specs.Output.{state_word};
 ghost use Rattle.gate_status.specs.Status.{counts_text, pipeline_lines, pipeline_start, status_line, status_text, tenant_lines};
 
 use crate::board::{Board, TenantBoard};
 use crate::progress::Progress;
 use gate_config::{Config, PipelineSpec, TenantSpec};
+use gate_line::state_word;
 use gate_record::{Memory, name_text};
 use std::alloc::Global;
 
@@ -132,10 +132,4 @@ fn push_counts(out: &mut String, alloc: Global, progress: &Progress) -> Result<(
     out.push_str(state_word(progress.finished))?;
     out.push_str("\n")?;
     Ok(())
-}
-
-fn state_word(finished: bool) -> &'static str
-    ensures { result.now ≡ state_word finished }
-{
-    if finished { "finished" } else { "running" }
 }

@@ -1,18 +1,20 @@
-use Rattle.std.proofs.Common.{◌≡◌, ◌++◌, length}
+use Rattle.std.proofs.Common.{◌≡◌, ◌+◌, ◌≤◌, length}
 use Rattle.std.specs.Prelude.{string_bytes}
-use Rattle.gate_core.specs.Replays.{script_lines, steps_in}
+use Rattle.std.specs.Str.Lines.{lines}
+use Rattle.gate_core.specs.Inner.Replays.{played}
+use Rattle.gate_core.specs.Script.{lines_from, script_of}
 use Rattle.gate_core.specs.Steps.{first}
-use Rattle.gate_core.specs.Worlds.{state_of, gens_of}
-use Rattle.gate_core.proofs.Lines.{IsRunning}
+use Rattle.gate_core.specs.Worlds.{AcceptedAtMost, gens_of, state_of}
 use Rattle.gate_core.proofs.playing.play_script.Given as goal
 
 -- what the rest of the script does and prints completes what was done and printed
-abbrev pub invariant-loop-line : goal.invariant-loop-line
-invariant-loop-line l = record {
-  runs : IsRunning l.gens (state_of l.world) (steps_in l.script) (steps_in l.fn.script) l._total;
+abbrev pub invariant-loop-rest : goal.invariant-loop-rest
+invariant-loop-rest l = record {
   same : gens_of l.world ≡ l.gens;
-  printed : string_bytes l.out ++ script_lines l.gens (state_of l.world) l.script ≡ string_bytes l.fn.out ++ script_lines l.gens (first l.gens) l.fn.script;
+  counts : AcceptedAtMost l.before (state_of l.world);
+  few : l.before + length l.rest ≤ length l.script;
+  completes : played l.gens (state_of l.world) (string_bytes l.out) (lines_from (l.before + 1) (lines l.rest)) ≡ played l.gens (first l.gens) (string_bytes l.fn.out) (script_of l.script);
 }
 
-abbrev pub decreases-loop-line : goal.decreases-loop-line
-decreases-loop-line l = length l.script
+abbrev pub decreases-loop-rest : goal.decreases-loop-rest
+decreases-loop-rest l = length l.rest

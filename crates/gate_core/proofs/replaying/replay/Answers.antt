@@ -9,7 +9,7 @@ returns-in-Ok-play_text-clause-text c = record {
   count = c.in-Ok.ensures.count ∙ sym (length-map c.args.documents.now bytes_of);
   read = c.in-Ok.ensures.read;
   passed = c.in-Ok.ensures.passed;
-  lines = c.in-Ok-read_script.script;
-  parsed = c.in-Ok-read_script.ensures;
-  plays = c.in-Ok-play_text.ensures;
+  lines = c.in-Ok-play_text.ensures.text.lines;
+  parsed = c.in-Ok-play_text.ensures.text.parsed;
+  plays = c.in-Ok-play_text.ensures.text.plays;
 }

@@ -1,4 +1,4 @@
-use Rattle.std.proofs.Common.{◌≡◌, ◌∙◌, ap, sym, List, [], ◌∷◌}
+use Rattle.std.proofs.Common.{◌≡◌, ◌∙◌, ap, sym, [], ◌∷◌}
 use Rattle.gate_record.specs.declared.transit.ConnEntry.{ConnEntry}
 use Rattle.gate_record.specs.declared.transit.ConnEntry.TheVariants as entry
 use Rattle.gate_forward.specs.Hands.{Hand}

@@ -7,7 +7,7 @@ use Rattle.std.specs.Prelude.{◌/◌, ◌%◌}
 use Rattle.std.proofs.lemmas.Bool.{eqb-true, ltb-true, leb-true}
 use Rattle.json.specs.Print.{escape, escape_byte, escape_letter}
 use Rattle.gate_record.specs.Names.{name_text}
-use Rattle.gate_journal.specs.Inner.Plain.{is_plain}
+use Rattle.gate_line.specs.Inner.Plain.{is_plain}
 
 left : (a b : Bool) → (a && b) ≡ true → a ≡ true
 left true b e = refl

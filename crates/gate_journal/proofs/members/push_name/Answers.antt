@@ -1,7 +1,0 @@
-use Rattle.std.proofs.Common.{◌≡◌, ◌∙◌, sym, ◌++◌, ◌∷◌, []}
-use Rattle.gate_record.specs.Names.{name_text}
-use Rattle.gate_journal.proofs.Quoting.{plain_name}
-use Rattle.gate_journal.proofs.members.push_name.Goals as goal
-
-pub returns-then-is_plain : goal.returns-then-is_plain
-returns-then-is_plain c = let plain : name_text c.args.name.now ≡ 34 ∷ (c.args.name.now ++ 34 ∷ []) = plain_name c.args.name.now (sym c.is_plain.ensures ∙ c.if-is_plain.true) in rw plain c.push_parts.ensures
