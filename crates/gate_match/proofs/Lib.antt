@@ -5,6 +5,7 @@ pub mod Masks
 pub mod Narrowed
 pub mod Results
 pub mod Rows
+pub mod RuledOut
 pub mod Texts
 pub mod Truncated
 pub mod Votes

@@ -85,7 +85,7 @@ impl<'c> Answers<'c> {
     }
 
     // What is known of the entry in the field.
-    fn find(&self, field: Field, asked: &Asked<'c>) -> Option<&Mask>
+    pub(crate) fn find(&self, field: Field, asked: &Asked<'c>) -> Option<&Mask>
         ensures { (events : List Event) → AreRight events self.now → IfSome result (λ rows. rows.now ≡ met_in field asked.now.entry.now events) }
     {
         let count = *self.index.get(asked.place)? as usize;
@@ -135,7 +135,8 @@ impl<'c> Answers<'c> {
     }
 }
 
-// The rows whose field meets the entry, and so each entry of its texts.
+// The rows whose field meets the entry, and so each entry of its texts. It stands apart from what finds an answer that is known.
+#[inline(never)]
 fn rows<'c>(
     alloc: Global,
     cache: &MatcherCache<'c>,

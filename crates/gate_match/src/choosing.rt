@@ -25,8 +25,8 @@ use gate_record::{ConnId, Memory, PipelineId, TenantId};
 use std::alloc::Global;
 
 impl<'c> Program<'c> {
-    /// The program of a tenant. `Memory` where its rules and the matchers of their patterns find no room. Takes time in the
-    /// patterns of the rules of all generations, and a matcher's making for each distinct text of them.
+    /// The program of a tenant. `Memory` where its rules find no room. Takes time in the patterns of the rules of all generations. The
+    /// matcher of a pattern's text is made when it is first asked.
     pub fn new(
         alloc: Global,
         gens: &'c Generations,

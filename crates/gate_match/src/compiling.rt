@@ -65,28 +65,23 @@ fn all_asked<'c>(
     Ok(asked)
 }
 
-// Makes the matchers of the patterns in a rule's entries, where their texts have none.
-pub(crate) fn keep_rule<'c>(
-    alloc: Global,
-    cache: &mut MatcherCache<'c>,
-    rule: &'c Rule,
-) -> Result<(), Memory> {
-    keep_all(alloc, cache, Field::Kind, rule.event.as_slice())?;
-    keep_all(alloc, cache, Field::Branch, rule.branch.as_slice())?;
-    keep_all(alloc, cache, Field::Refname, rule.refname.as_slice())?;
-    keep_all(alloc, cache, Field::Username, rule.username.as_slice())?;
-    keep_all(alloc, cache, Field::Email, rule.email.as_slice())?;
-    keep_all(alloc, cache, Field::Comment, rule.comment.as_slice())
+// Makes places for the matchers of the patterns in a rule's entries, and for their answers.
+pub(crate) fn keep_rule<'c>(cache: &mut MatcherCache<'c>, rule: &'c Rule) -> Result<(), Memory> {
+    keep_all(cache, Field::Kind, rule.event.as_slice())?;
+    keep_all(cache, Field::Branch, rule.branch.as_slice())?;
+    keep_all(cache, Field::Refname, rule.refname.as_slice())?;
+    keep_all(cache, Field::Username, rule.username.as_slice())?;
+    keep_all(cache, Field::Email, rule.email.as_slice())?;
+    keep_all(cache, Field::Comment, rule.comment.as_slice())
 }
 
 fn keep_all<'c>(
-    alloc: Global,
     cache: &mut MatcherCache<'c>,
     field: Field,
     entries: &'c [Entry],
 ) -> Result<(), Memory> {
     for entry in entries {
-        cache.keep(alloc, field, entry)?;
+        cache.keep(field, entry)?;
     }
     Ok(())
 }

@@ -9,7 +9,7 @@ use crate::compiled::Compiled;
 use crate::mask::Mask;
 use crate::matcher_cache::MatcherCache;
 use crate::narrowing::narrow;
-use gate_intern::Columns;
+use gate_intern::{Columns, Field};
 use gate_record::Memory;
 use std::alloc::Global;
 
@@ -32,9 +32,30 @@ pub(crate) fn add_meeting<'c>(
 {
     let mut met = Mask::none(alloc, columns.rows())?;
     for rule in rules {
+        if is_ruled_out(answers, rule) {
+            continue;
+        }
         met.copy_from(rows);
         narrow(alloc, cache, columns, rule, answers, &mut met)?;
         out.or(&met);
     }
     Ok(())
+}
+
+ghost use Rattle.std.specs.Prelude.{List, false, map, true};
+ghost use Rattle.gate_record.specs.declared.event.Event.{Event};
+ghost use Rattle.gate_match.specs.Inner.Compiling.{rule_of};
+ghost use Rattle.gate_match.specs.Inner.Narrowing.{meeting};
+
+// Whether it is known that no event meets the rule, since none is of the kind that it asks for. Most rules that aren't met end here.
+fn is_ruled_out<'c>(answers: &Answers<'c>, rule: &Compiled<'c>) -> bool
+    ensures { (events : List Event) → AreRight events answers.now → result ≡ true → meeting (rule_of rule.now) events ≡ map (λ event. false) events }
+{
+    let [one] = rule.event.as_slice() else {
+        return false;
+    };
+    match answers.find(Field::Kind, one) {
+        Some(rows) => rows.is_none(),
+        None => false,
+    }
 }

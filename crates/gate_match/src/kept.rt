@@ -19,6 +19,7 @@ pub(crate) struct Kept<'c> {
 }
 
 impl<'c> Kept<'c> {
+    #[inline(never)]
     pub(crate) fn new(alloc: Global, pattern: &'c Pattern) -> Result<Kept<'c>, Memory>
         ensures { IfOk result (λ kept. kept.pattern.now ≡ pattern.entry.now) }
     {

@@ -19,8 +19,9 @@ use std::cell::Cell;
 // How many fields an entry may be asked of.
 const FIELDS: usize = 7;
 
-// A matcher for each distinct text of patterns, by number. It is taken out while it is used. Nothing is known of what is in a
-// cell, so the text is compared before a matcher is used, and where another one lies there, or none, a fresh one is made.
+// A matcher for each distinct text of patterns, by number, from when it is first asked. It is taken out while it is used. Nothing is
+// known of what is in a cell, so the text is compared before a matcher is used, and where another one lies there, or none, a fresh one
+// is made.
 #[derive(Drop)]
 pub(crate) struct MatcherCache<'c> {
     texts: IndexSet<&'c str>,
@@ -44,17 +45,11 @@ impl<'c> MatcherCache<'c> {
         self.questions.len()
     }
 
-    // Makes a matcher for the text of an entry's pattern, if there is none, and a place for its answer in the field.
-    pub(crate) fn keep(
-        &mut self,
-        alloc: Global,
-        field: Field,
-        entry: &'c Entry,
-    ) -> Result<(), Memory> {
+    // Makes a place for a matcher of the text of an entry's pattern, if there is none, and one for its answer in the field.
+    pub(crate) fn keep(&mut self, field: Field, entry: &'c Entry) -> Result<(), Memory> {
         let (number, is_new) = self.texts.insert_full(entry.pattern.text())?;
         if is_new {
-            let kept = Kept::new(alloc, &entry.pattern)?;
-            self.places.push(Cell::new(Some(kept)))?;
+            self.places.push(Cell::new(None))?;
         }
         self.questions
             .insert(question(field, number, entry.negate))?;

@@ -9,7 +9,7 @@ use gate_record::{ConnId, Memory, PipelineId, TenantId};
 use gate_rule::Rule;
 use std::alloc::Global;
 
-// A matcher for each distinct text of the patterns of a tenant's rules, over all generations.
+// Places for a matcher of each distinct text of the patterns of a tenant's rules, over all generations.
 pub(crate) fn matchers<'c>(
     alloc: Global,
     gens: &'c Generations,
@@ -17,13 +17,12 @@ pub(crate) fn matchers<'c>(
 ) -> Result<MatcherCache<'c>, Memory> {
     let mut cache = MatcherCache::new(alloc);
     for generation in 0..gens.count() {
-        keep_generation(alloc, &mut cache, gens.generation(generation), tenant)?;
+        keep_generation(&mut cache, gens.generation(generation), tenant)?;
     }
     Ok(cache)
 }
 
 fn keep_generation<'c>(
-    alloc: Global,
     cache: &mut MatcherCache<'c>,
     config: &'c Config,
     tenant: TenantId,
@@ -31,19 +30,15 @@ fn keep_generation<'c>(
     for pipeline in 0..pipelines(config, tenant) {
         for conn in 0..connections(config) {
             let rules = config.rules(tenant, PipelineId(pipeline), ConnId(conn));
-            keep_rules(alloc, cache, rules)?;
+            keep_rules(cache, rules)?;
         }
     }
     Ok(())
 }
 
-fn keep_rules<'c>(
-    alloc: Global,
-    cache: &mut MatcherCache<'c>,
-    rules: &'c [Rule],
-) -> Result<(), Memory> {
+fn keep_rules<'c>(cache: &mut MatcherCache<'c>, rules: &'c [Rule]) -> Result<(), Memory> {
     for rule in rules {
-        keep_rule(alloc, cache, rule)?;
+        keep_rule(cache, rule)?;
     }
     Ok(())
 }

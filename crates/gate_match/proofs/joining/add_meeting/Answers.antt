@@ -40,6 +40,24 @@ loop-rule-preserved c =
           ∙ joined_more test c.args.rules.now i c.rule-item.result out rows events c.loop-rule-test.true;
     }
 
+pub loop-rule-preserved-then-is_ruled_out : goal.loop-rule-preserved-then-is_ruled_out
+loop-rule-preserved-then-is_ruled_out c =
+    let events = c.args.columns.now in
+    let out = c.args.out.now in
+    let rows = c.args.rows.now in
+    let i = c.loop-rule.rule-index in
+    record {
+      right = c.loop-rule.invariant.right;
+      met = c.loop-rule.invariant.met;
+      len = c.loop-rule.invariant.len;
+      adds =
+          join_begins c.loop-rule.out rows events c.loop-rule.invariant.len c.requires.rows
+          ∙ ap (λ none. either c.loop-rule.out (both rows none)) (sym (c.is_ruled_out.ensures events c.loop-rule.invariant.right c.if-is_ruled_out.true))
+          ∙ ap (λ so_far. either so_far (both rows (meeting (rule_of c.rule-item.result) events))) c.loop-rule.invariant.adds
+          ∙ ap (λ (one : Compiled). either (either out (both rows (map (λ event. list_any (λ one. test one event) (take i c.args.rules.now)) events))) (both rows (meeting (rule_of one) events))) c.rule-item.is
+          ∙ joined_more test c.args.rules.now i c.rule-item.result out rows events c.loop-rule-test.true;
+    }
+
 pub returns-clause-adds : goal.returns-clause-adds
 returns-clause-adds c =
     let events = c.args.columns.now in
