@@ -11,11 +11,14 @@ use gate_record::Memory;
 use std::alloc::Global;
 use std::sync::Wait;
 
-/// Queues with a bound, with all their seats by queue.
+/// Queues with a bound and one sender each, with all their seats.
 #[derive(Drop)]
 pub struct Lane<T> {
+    /// By number.
     pub queues: Vec<EventQueue<T>>,
+    /// By queue: the taker's seat.
     pub heads: Vec<Head<T>>,
+    /// By queue: the sender's seat.
     pub tails: Vec<Tail<T>>,
 }
 

@@ -18,8 +18,8 @@ pub fn next_of<T>(rest: &mut IntoIter<T>) -> T
     next
 }
 
-/// The columns of a table of so many, as lists.
-pub fn columns_of<T: Drop>(
+// The columns of a table of so many, as lists.
+pub(crate) fn columns_of<T: Drop>(
     alloc: Global,
     width: usize,
     rows: Vec<Vec<T>>,

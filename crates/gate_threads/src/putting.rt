@@ -8,8 +8,9 @@ use std::sync::Wait;
 /// The seats of a thread that took from one queue and put into several.
 #[derive(Drop)]
 pub struct PassedOn<H, T> {
+    /// The taker's seat.
     pub head: H,
-    /// By queue.
+    /// By queue: the sender's seat.
     pub tails: Vec<FreeTail<T>>,
 }
 

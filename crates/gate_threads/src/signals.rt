@@ -19,14 +19,17 @@ use std::sync::atomic::{AtomicBool, Ordering};
 /// The flags that threads look at, and what wakes each thread.
 #[derive(Drop)]
 pub struct Signals {
+    /// All threads are started.
     pub begun: AtomicBool,
+    /// All threads are to return.
     pub halted: AtomicBool,
-    /// By connection number.
+    /// What wakes the reader of each connection, by its number.
     pub readers: Vec<Unparker>,
+    /// What wakes the forwarder of each connection, by its number.
     pub forwarders: Vec<Unparker>,
-    /// By tenant number.
+    /// What wakes the worker of each tenant, by its number.
     pub dispatchers: Vec<Unparker>,
-    /// By tenant number and pipeline number.
+    /// What wakes the worker of each pipeline, by its tenant's number and its own.
     pub workers: Vec<Vec<Unparker>>,
 }
 

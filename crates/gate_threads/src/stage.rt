@@ -13,6 +13,7 @@ use std::sync::Wait;
 /// Queues which have the same senders, with all their seats.
 #[derive(Drop)]
 pub struct Stage<T: Drop> {
+    /// By number.
     pub queues: Vec<FreeQueue<T>>,
     /// By queue: the taker's seat.
     pub heads: Vec<FreeHead<T>>,
