@@ -3,12 +3,9 @@ use gate_record::Memory;
 use std::alloc::Global;
 
 // Room for all that a run tells, and for what is seen of a value, in bytes.
-const TOLD: usize = 1_048_576;
+pub(crate) const TOLD: usize = 1_048_576;
 
 const SEEN: usize = 65_536;
-
-// No line of a refusal, a change or what is unexpected is longer.
-const LINE: usize = 256;
 
 /// How a scenario ends: early where memory was refused to itself, or where it met what it doesn't expect.
 pub(crate) type Ended = Result<(), Memory>;
@@ -22,13 +19,13 @@ pub(crate) type Ended = Result<(), Memory>;
 /// - `elsewhere`: memory was refused to the scenario itself
 /// - `unexpected WHAT`: a call answered what it never does here; no undisturbed run has such a line
 ///
-/// There is room for them from the beginning, so that no line takes memory.
+/// There is room for them, and for what is seen of a value before and after a call, from the beginning: no line takes memory.
 #[derive(Drop)]
 pub(crate) struct Log {
     pub(crate) alloc: Global,
     pub(crate) told: String,
-    before: String,
-    after: String,
+    pub(crate) before: String,
+    pub(crate) after: String,
 }
 
 impl Log {
@@ -45,37 +42,6 @@ impl Log {
         let _ = write!(self.told, "{what} {call}\n");
     }
 
-    /// The text that takes up what is seen of a value before a call.
-    pub(crate) fn before(&mut self) -> &mut String {
-        self.before.clear();
-        &mut self.before
-    }
-
-    /// The text that takes up what is seen of it after a refusal, which is told.
-    pub(crate) fn after(&mut self, call: &str) -> &mut String {
-        self.tell("refused", call);
-        self.after.clear();
-        &mut self.after
-    }
-
-    /// What was seen before and after has to be the same.
-    pub(crate) fn compare(&mut self, call: &str) {
-        let is_same = self.before.as_str() == self.after.as_str();
-        self.tell_unless(is_same, call);
-    }
-
-    /// Tells what was seen before.
-    pub(crate) fn tell_before(&mut self) {
-        let _ = write!(self.told, "{}", self.before);
-    }
-
-    /// Tells what was seen after, of which the front has to be what was seen before.
-    pub(crate) fn tell_after(&mut self, call: &str) {
-        let is_front = self.after.as_str().starts_with(self.before.as_str());
-        self.tell_unless(is_front, call);
-        let _ = write!(self.told, "{}", self.after);
-    }
-
     /// Tells of a change, unless what stands is what has to stand.
     pub(crate) fn tell_unless(&mut self, is_right: bool, call: &str) {
         if !is_right {
@@ -83,21 +49,10 @@ impl Log {
         }
     }
 
-    /// Ends a scenario in which the call that was made once more was refused, too.
-    pub(crate) fn twice(&mut self, call: &str) -> Memory {
-        self.tell("twice", call);
+    /// Ends a scenario early, and tells why: `twice`, or what is `unexpected`.
+    pub(crate) fn end(&mut self, why: &str, what: &str) -> Memory {
+        self.tell(why, what);
         Memory
-    }
-
-    /// Ends a scenario in which a call answered what it never does here.
-    pub(crate) fn unexpected(&mut self, what: &str) -> Memory {
-        self.tell("unexpected", what);
-        Memory
-    }
-
-    /// Whether so much was told that there may have been no room for a line, which is missing then.
-    pub(crate) fn is_overfull(&self) -> bool {
-        self.told.len() > TOLD - LINE
     }
 }
 
@@ -109,47 +64,51 @@ macro_rules! say {
     }};
 }
 
-/// Makes a call that is given nothing to change, and once more where memory is refused to it: what it answered. Its fault that says
-/// so is `Memory`, or else stands before the call.
+/// Ends a scenario where this is so, which it doesn't expect.
 #[macro_export]
-macro_rules! made {
-    ($log:expr, $name:expr, $call:expr) => {
-        $crate::made!($log, $name, gate_record::Memory, $call)
-    };
-    ($log:expr, $name:expr, $memory:path, $call:expr) => {
-        match $call {
-            Err($memory) => {
-                $log.tell("refused", $name);
-                match $call {
-                    Err($memory) => {
-                        $log.tell("twice", $name);
-                        Err($memory)
-                    }
-                    again => again,
-                }
-            }
-            answer => answer,
+macro_rules! unexpected {
+    ($log:expr; $is_so:expr, $what:literal) => {
+        if $is_so {
+            return Err($log.end("unexpected", $what));
         }
     };
 }
 
-/// Makes a call that may change a value, as `made` does. Where memory is refused to it, what is seen of the value, by the words of
-/// a `write!`, has to be what it was. A variable behind the call is what the call takes over, and hands back then.
+/// Makes a call, and once more where memory is refused to it: what it answered in the end. The call is written by its crate, or its
+/// name in the list stands before it. Its fault for memory is `Memory`, or else stands behind it, with what the call hands back. Last
+/// come, in brackets, the words of a `write!` for what is seen of what the call may change: that has to be the same after a refusal.
 #[macro_export]
-macro_rules! kept {
-    ($log:expr, $name:expr, ($($seen:tt)*), $call:expr $(, $given:ident)?) => {{
-        $crate::say!($log.before(), $($seen)*);
+macro_rules! made {
+    ($log:expr; $krate:ident::$first:ident$(::$then:ident)?($($given:tt)*) $($rest:tt)*) => {
+        $crate::made!(
+            $log; concat!(stringify!($krate), " ", stringify!($first) $(, "::", stringify!($then))?) =>
+            $krate::$first$(::$then)?($($given)*) $($rest)*
+        )
+    };
+    ($log:expr; $name:expr => $call:expr $(, [$($seen:tt)*])?) => {
+        $crate::made!($log; $name => $call, gate_record::Memory $(, [$($seen)*])?)
+    };
+    ($log:expr; $name:expr => $call:expr, $memory:pat $(, [$($seen:tt)*])?) => {{
+        $(
+            $log.before.clear();
+            $crate::say!($log.before, $($seen)*);
+        )?
         match $call {
-            Ok(answer) => Ok(answer),
-            Err(_refused) => {
-                $(let $given = _refused.value;)?
-                $crate::say!($log.after($name), $($seen)*);
-                $log.compare($name);
-                match $call {
-                    Ok(answer) => Ok(answer),
-                    Err(_) => Err($log.twice($name)),
+            Err($memory) => {
+                $log.tell("refused", $name);
+                $(
+                    $log.after.clear();
+                    $crate::say!($log.after, $($seen)*);
+                    let is_same = $log.before.as_str() == $log.after.as_str();
+                    $log.tell_unless(is_same, $name);
+                )?
+                let again = $call;
+                if let Err($memory) = &again {
+                    $log.tell("twice", $name);
                 }
+                again
             }
+            answer => answer,
         }
     }};
 }

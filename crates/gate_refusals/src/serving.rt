@@ -1,18 +1,15 @@
 //! What is asked of a run from outside, sessions of the status port, and whole runs in threads over streams in memory.
 ghost use Rattle.std.specs.Prelude.{◌≡◌, All, IfOk};
 ghost use Rattle.gate_run.specs.Ports.{ArePosts};
-ghost use Rattle.gate_status.specs.Replies.{ArePostsFor};
 
 use crate::log::{Ended, Log};
-use crate::{made, say};
+use crate::{made, say, unexpected};
 use gate_config::{Config, Generations};
 use gate_core::{RunReport, report_text};
 use gate_record::{Memory, PipelineId, TenantId};
 use gate_run::{Inbox, Posts, ReaderFeed, RecordFeed, RenewPostFault, serve, serve_over};
 use gate_source::StopCause;
-use gate_status::{
-    Board, BoardGate, Counted, Progress, SessionEnd, SessionFault, session, status_text,
-};
+use gate_status::{Board, BoardGate, Counted, Progress, SessionFault, session};
 use std::alloc::Global;
 use std::sync::{Mutex, Wait};
 use std::thread::Threads;
@@ -35,24 +32,20 @@ result 0 0
 stop
 ";
 
-const TALK: &str = "gate_status session";
-
 type Feed = ReaderFeed<&'static [u8]>;
 
 /// The posts of a configuration, and their other ends.
 fn opened(log: &mut Log, gens: &Generations) -> Result<(Posts, Inbox), Memory>
     ensures { IfOk result (λ ends. ArePosts gens.now ends.0 ends.1) }
 {
-    made!(log, "gate_run Posts::open", Posts::open(log.alloc, gens))
+    made!(log; gate_run::Posts::open(log.alloc, gens))
 }
 
 /// Asks for the next generation, and for one more than there are; and for stops.
 pub(crate) fn ask(log: &mut Log, gens: &Generations) -> Ended {
-    let (call, alloc) = ("gate_run Inbox::without_posts", log.alloc);
-    let inbox = made!(log, call, Inbox::without_posts(alloc, gens.first()))?;
+    let inbox = made!(log; gate_run::Inbox::without_posts(log.alloc, gens.first()))?;
     let mut stopper = inbox.stopper()?;
-    let call = "gate_run Stopper::stop";
-    let held = made!(log, call, stopper.stop(StopCause::Caller))?;
+    let held = made!(log; gate_run::Stopper::stop(&mut stopper, StopCause::Caller))?;
     say!(log.told, "{held:?}\n");
     let (mut posts, _inbox) = opened(log, gens)?;
     let (next, last) = (renew(log, &mut posts), renew(log, &mut posts));
@@ -61,8 +54,7 @@ pub(crate) fn ask(log: &mut Log, gens: &Generations) -> Ended {
 }
 
 fn renew(log: &mut Log, posts: &mut Posts) -> Result<u32, RenewPostFault> {
-    let call = "gate_run Posts::renew";
-    made!(log, call, RenewPostFault::Memory, posts.renew())
+    made!(log; gate_run::Posts::renew(posts), RenewPostFault::Memory)
 }
 
 // Where memory is refused another cause is asked for, which is the one that is held, unless the refused call left one.
@@ -74,27 +66,34 @@ fn stop(log: &mut Log, posts: &mut Posts) -> Ended {
             Err(Memory) => log.tell("refused", call),
         }
     }
-    Err(log.twice(call))
+    Err(log.end("twice", call))
 }
 
-/// A session, and once more where memory is refused.
-pub(crate) fn open_and_talk<R: AllocGlobal + Wait>(
-    rt: &R,
-    log: &mut Log,
-    gens: &Generations,
-) -> Ended {
-    let board = Mutex::new(board_of(log, gens.first())?);
+/// A session, and once more where memory is refused to it or to one of its lines. What it wrote is told where it came to its end.
+pub(crate) fn talk(rt: &(impl AllocGlobal + Wait), log: &mut Log, gens: &Generations) -> Ended {
+    let (call, config) = ("gate_status session", gens.first());
+    let board = Mutex::new(board_of(log, config)?);
     let (mut posts, _inbox) = opened(log, gens)?;
-    let config = gens.first();
-    if talk(rt, log, config, &board, &mut posts)? || talk(rt, log, config, &board, &mut posts)? {
-        return Ok(());
+    for _ in 0..2 {
+        let mut input = Counted::new(LINES.as_bytes());
+        let mut output = Counted::new(Vec::with_capacity(log.alloc, 4096)?);
+        let ended = session(rt, &mut input, &mut output, config, &board, &mut posts);
+        let Ok(text) = String::from_utf8(output.into_inner()) else {
+            return Err(log.end("unexpected", "bytes of a session"));
+        };
+        match ended {
+            Ok(end) if !text.as_str().contains("memory\n") => {
+                return Ok(say!(log.told, "{text}{end:?}\n"));
+            }
+            Ok(_) | Err(SessionFault::Memory) => log.tell("refused", call),
+            Err(_) => return Err(log.end("unexpected", "fault of a session")),
+        }
     }
-    Err(log.twice(TALK))
+    Err(log.end("twice", call))
 }
 
 fn board_of(log: &mut Log, config: &Config) -> Result<Board, Memory> {
-    let (call, alloc) = ("gate_status Board::new", log.alloc);
-    let mut board = made!(log, call, Board::new(alloc, config))?;
+    let mut board = made!(log; gate_status::Board::new(log.alloc, config))?;
     let progress = Progress {
         done: 3,
         items: 2,
@@ -102,89 +101,37 @@ fn board_of(log: &mut Log, config: &Config) -> Result<Board, Memory> {
         finished: true,
     };
     board.set(TenantId(0), PipelineId(1), progress);
-    let call = "gate_status status_text";
-    let text = made!(log, call, status_text(alloc, config, &board))?;
+    let text = made!(log; gate_status::status_text(log.alloc, config, &board))?;
     say!(log.told, "{text}");
     Ok(board)
 }
 
-// Whether the session came to its end, and no line was refused memory; what it wrote is told then.
-fn talk<R: AllocGlobal + Wait>(
-    rt: &R,
-    log: &mut Log,
-    config: &Config,
-    board: &Mutex<Board>,
-    posts: &mut Posts,
-) -> Result<bool, Memory>
-    requires { ArePostsFor config.now posts.old }
-    ensures { ArePostsFor config.now posts.new }
-{
-    let written = Vec::with_capacity(rt.alloc(), 4096)?;
-    let mut input = Counted::new(LINES.as_bytes());
-    let mut output = Counted::new(written);
-    match session(rt, &mut input, &mut output, config, board, posts) {
-        Ok(end) => tell_session(log, output.into_inner(), end),
-        Err(SessionFault::Memory) => Ok(tell_refused(log)),
-        Err(_) => Err(log.unexpected("fault of a session")),
-    }
-}
-
-fn tell_refused(log: &mut Log) -> bool {
-    log.tell("refused", TALK);
-    false
-}
-
-fn tell_session(log: &mut Log, written: Vec<u8>, end: SessionEnd) -> Result<bool, Memory> {
-    let Ok(text) = String::from_utf8(written) else {
-        return Err(log.unexpected("bytes of a session"));
-    };
-    if text.as_str().contains("memory\n") {
-        return Ok(tell_refused(log));
-    }
-    say!(log.told, "{text}{end:?}\n");
-    Ok(true)
-}
-
-/// A run by this call, and once more where memory is refused.
+/// A run by this call, and once more where memory is refused: its report is told where it came to its end. With `serve_over` each
+/// connection has two places for its records.
 pub(crate) fn run<R: Threads + Wait + Clock + Sync>(
     rt: &R,
     log: &mut Log,
     gens: &Generations,
     call: &str,
 ) -> Ended {
-    let board = Mutex::new(Board::new(log.alloc, gens.first())?);
-    if run_once(rt, log, gens, &board, call)? || run_once(rt, log, gens, &board, call)? {
-        return Ok(());
-    }
-    Err(log.twice(call))
-}
-
-// Whether the run came to its end; its report is told then. With `serve_over` each connection has two places for its records.
-fn run_once<R: Threads + Wait + Clock + Sync>(
-    rt: &R,
-    log: &mut Log,
-    gens: &Generations,
-    board: &Mutex<Board>,
-    call: &str,
-) -> Result<bool, Memory> {
-    let feeds = feeds(log.alloc)?;
-    let (mut posts, inbox) = opened(log, gens)?;
-    let _next = renew(log, &mut posts);
-    if feeds.len() != gens.first().connections().len() {
-        return Err(log.unexpected("number of connections"));
-    }
-    let (alloc, gate) = (log.alloc, BoardGate::new(board));
-    let served = match call {
-        "gate_run serve" => serve(rt, alloc, gens, feeds, inbox, &gate),
-        _ => serve_over(rt, alloc, 2, gens, feeds, inbox, &gate),
-    };
-    match served {
-        Ok(served) => tell_run(log, gens, &served.report, call),
-        Err(_) => {
-            log.tell("refused", call);
-            Ok(false)
+    let (alloc, board) = (log.alloc, Mutex::new(Board::new(log.alloc, gens.first())?));
+    for _ in 0..2 {
+        let (feeds, gate) = (feeds(alloc)?, BoardGate::new(&board));
+        unexpected!(log; feeds.len() != gens.first().connections().len(), "number of connections");
+        let (mut posts, inbox) = opened(log, gens)?;
+        let _next = renew(log, &mut posts);
+        let served = match call {
+            "gate_run serve" => serve(rt, alloc, gens, feeds, inbox, &gate),
+            _ => serve_over(rt, alloc, 2, gens, feeds, inbox, &gate),
+        };
+        if let Ok(served) = served {
+            if tell_run(log, gens, &served.report)? {
+                return Ok(());
+            }
         }
+        log.tell("refused", call);
     }
+    Err(log.end("twice", call))
 }
 
 // The streams of both connections.
@@ -196,20 +143,15 @@ fn feeds(alloc: Global) -> Result<Vec<Feed>, Memory>
     Ok(vec![in alloc; first, second]?)
 }
 
-// Tells the report of a run, each line behind `partial` where memory was refused to one of its threads.
-fn tell_run(
-    log: &mut Log,
-    gens: &Generations,
-    report: &RunReport,
-    call: &str,
-) -> Result<bool, Memory> {
+// Tells the report of a run, each line behind `partial` where memory was refused to one of its threads, and answers whether it is whole.
+fn tell_run(log: &mut Log, gens: &Generations, report: &RunReport) -> Result<bool, Memory> {
     let text = report_text(log.alloc, gens.first(), report)?;
-    if !text.as_str().contains(" memory\n") && !text.as_str().contains(" running\n") {
+    let text = text.as_str();
+    if !text.contains(" memory\n") && !text.contains(" running\n") {
         say!(log.told, "{text}");
         return Ok(true);
     }
-    log.tell("refused", call);
-    for line in text.as_str().lines() {
+    for line in text.lines() {
         log.tell("partial", line);
     }
     Ok(false)
