@@ -6,50 +6,31 @@ const RECORD: &str =
 /// So many tenants that list the project `demo` under one connection, each with so many pipelines that ask for new patch
 /// sets.
 pub fn configuration(alloc: Global, each: u32) -> Result<String, AllocError> {
-    let pipelines = pipelines(alloc, each)?;
-    configuration_of(alloc, each, pipelines.as_str())
+    let tenants = numbered(
+        alloc,
+        each,
+        "{\"name\":\"t",
+        "\",\"source\":{\"gerrit\":{\"untrusted-projects\":[\"demo\"]}}}",
+    )?;
+    let pipelines = numbered(
+        alloc,
+        each,
+        "{\"pipeline\":{\"name\":\"p",
+        "\",\"manager\":\"independent\",\"trigger\":{\"gerrit\":[{\"event\":\"patchset-created\"}]}}}",
+    )?;
+    let items = format!(in alloc; "\":[{pipelines}]")?;
+    let lists = numbered(alloc, each, "\"t", items.as_str())?;
+    format!(in alloc; "{{\"tenants\":[{tenants}],\"config\":{{{lists}}}}}")
 }
 
-fn configuration_of(alloc: Global, each: u32, pipelines: &str) -> Result<String, AllocError> {
-    let mut document = String::new(alloc);
-    push_tenants(&mut document, each, pipelines)?;
-    Ok(document)
-}
-
-fn push_tenants(document: &mut String, each: u32, pipelines: &str) -> Result<(), AllocError> {
-    document.push_str("{\"tenants\":[")?;
-    for tenant in 0..each {
-        write!(
-            document,
-            "{}{{\"name\":\"t{tenant}\",\"source\":{{\"gerrit\":{{\"untrusted-projects\":[\"demo\"]}}}}}}",
-            comma_before(tenant)
-        )?;
+// So many elements with commas between them: each has its number, from 0, between these texts.
+fn numbered(alloc: Global, count: u32, front: &str, back: &str) -> Result<String, AllocError> {
+    let mut elements = String::new(alloc);
+    for number in 0..count {
+        let comma = if number > 0 { "," } else { "" };
+        write!(elements, "{comma}{front}{number}{back}")?;
     }
-    document.push_str("],\"config\":{")?;
-    for tenant in 0..each {
-        write!(
-            document,
-            "{}\"t{tenant}\":[{pipelines}]",
-            comma_before(tenant)
-        )?;
-    }
-    document.push_str("}}")
-}
-
-fn comma_before(number: u32) -> &'static str {
-    if number > 0 { "," } else { "" }
-}
-
-fn pipelines(alloc: Global, each: u32) -> Result<String, AllocError> {
-    let mut pipelines = String::new(alloc);
-    for pipeline in 0..each {
-        write!(
-            pipelines,
-            "{}{{\"pipeline\":{{\"name\":\"p{pipeline}\",\"manager\":\"independent\",\"trigger\":{{\"gerrit\":[{{\"event\":\"patchset-created\"}}]}}}}}}",
-            comma_before(pipeline)
-        )?;
-    }
-    Ok(pipelines)
+    Ok(elements)
 }
 
 /// The lines that bring so many records from their offer to all pipelines, one record after another, and how many lines

@@ -34,7 +34,7 @@ fn main(rt: HostRuntime) -> Result<()> {
         .as_str()
         .parse::<usize>()
         .context("the size of a batch")?;
-    let times = compare_files(&rt, rt.alloc(), files.as_str(), records.as_str(), size)?;
+    let times = compare_files(&rt, files.as_str(), records.as_str(), size)?;
     println!(rt;
         "{} selected: {} rounds in {} us by gate_match, {} rounds in {} us by each rule",
         times.selected,
@@ -56,22 +56,20 @@ struct Compared {
 
 fn compare_files<R: Files<File = File> + CpuClock + AllocGlobal>(
     rt: &R,
-    alloc: Global,
     files: &str,
     records: &str,
     size: usize,
 ) -> Result<Compared> {
-    let documents = read_documents(rt, alloc, files)?;
+    let documents = read_documents(rt, files)?;
     let records = fs::read_to_string(rt, records)?;
-    compare(rt, alloc, documents.as_slice(), records.as_str(), size)
+    compare(rt, rt.alloc(), documents.as_slice(), records.as_str(), size)
 }
 
 fn read_documents<R: Files<File = File> + AllocGlobal>(
     rt: &R,
-    alloc: Global,
     files: &str,
 ) -> Result<Vec<Vec<u8>>> {
-    let mut documents = Vec::new(alloc);
+    let mut documents = Vec::new(rt.alloc());
     for file in files.split(',') {
         documents.push(fs::read(rt, file)?)?;
     }

@@ -1,10 +1,12 @@
 //! Runs in which a pipeline is held while a burst of events comes to wait for it.
-use anyhow::{Context, Result, bail};
-use gate_config::{Generations, read_config};
+use crate::documents::one_generation;
+use crate::running::run_feeds;
+use anyhow::Result;
+use gate_config::Generations;
 use gate_core::{PipelineReport, RunReport};
 use gate_pipeline::Pipeline;
 use gate_record::{PipelineId, Record, Sequence, TenantId};
-use gate_run::{FeedStep, Gate, Posts, RecordFeed, serve};
+use gate_run::{FeedStep, Gate, RecordFeed};
 use std::alloc::Global;
 use std::sync::Wait;
 use std::sync::atomic::{AtomicU32, Ordering};
@@ -30,11 +32,32 @@ const CONFIGURATION: &str = r#"{
     ]}
 }"#;
 
-/// How many events each pipeline has begun to process.
+/// How many events each pipeline has begun to process. As a gate it holds the one pipeline before a burst until the other has begun
+/// with all of it. An event is given to the one that is held first, so as many wait there then.
 #[derive(Drop)]
 struct Begun {
     held: AtomicU32,
     free: AtomicU32,
+}
+
+impl Gate for Begun {
+    fn before<R: Wait>(&self, rt: &R, _tenant: TenantId, pipeline: PipelineId, _state: &Pipeline) {
+        if pipeline.0 != HELD {
+            self.free.fetch_add(1, Ordering::SeqCst);
+            return;
+        }
+        let before = self.held.fetch_add(1, Ordering::SeqCst);
+        if before % BURST != 0 {
+            return;
+        }
+        let all = before.saturating_add(BURST);
+        for _ in rt.forever() {
+            if self.free.load(Ordering::SeqCst) >= all {
+                break;
+            }
+            thread::yield_now();
+        }
+    }
 }
 
 /// A feed that has one record so many times. Between two bursts it has none until the pipeline that is held has come to the last
@@ -76,45 +99,15 @@ impl<'a> RecordFeed for Bursts<'a> {
     }
 }
 
-/// A gate that holds the one pipeline before a burst until the other has begun with all of it. An event is given to the one that is
-/// held first, so as many wait there then.
-#[derive(Drop)]
-struct Holds<'a> {
-    begun: &'a Begun,
-}
-
-impl<'a> Gate for Holds<'a> {
-    fn before<R: Wait>(&self, rt: &R, _tenant: TenantId, pipeline: PipelineId, _state: &Pipeline) {
-        if pipeline.0 != HELD {
-            self.begun.free.fetch_add(1, Ordering::SeqCst);
-            return;
-        }
-        let before = self.begun.held.fetch_add(1, Ordering::SeqCst);
-        if before % BURST != 0 {
-            return;
-        }
-        let all = before.saturating_add(BURST);
-        for _ in rt.forever() {
-            if self.begun.free.load(Ordering::SeqCst) >= all {
-                break;
-            }
-            thread::yield_now();
-        }
-    }
-}
-
 /// Runs so many bursts, and says whether both pipelines have processed all events in order.
 pub fn run<R: Threads + Wait + Clock + Sync>(rt: &R, alloc: Global, bursts: u32) -> Result<String> {
-    let config = read_config(alloc, CONFIGURATION.as_bytes())
-        .ok()
-        .context("the configuration")?;
-    let gens = Generations::of(alloc, config);
+    let gens = one_generation(alloc, CONFIGURATION)?;
     let begun = Begun {
         held: AtomicU32::new(0),
         free: AtomicU32::new(0),
     };
     let count = BURST.saturating_mul(bursts);
-    let report = run_feed(rt, alloc, &gens, &begun, count)?;
+    let report = run_bursts(rt, alloc, &gens, &begun, count)?;
     let has_passed = report.pipelines.as_slice().iter().all(|tenant| tenant
         .as_slice()
         .iter()
@@ -123,7 +116,7 @@ pub fn run<R: Threads + Wait + Clock + Sync>(rt: &R, alloc: Global, bursts: u32)
     Ok(format!(in alloc; "{verdict}: {bursts} times {BURST} events waited for a pipeline")?)
 }
 
-fn run_feed<R: Threads + Wait + Clock + Sync>(
+fn run_bursts<R: Threads + Wait + Clock + Sync>(
     rt: &R,
     alloc: Global,
     gens: &Generations,
@@ -138,14 +131,7 @@ fn run_feed<R: Threads + Wait + Clock + Sync>(
         count,
         begun,
     })?;
-    if feeds.len() != gens.first().connections().len() {
-        bail!("a feed for each connection");
-    }
-    let (_posts, inbox) = Posts::open(alloc, gens).ok().context("memory")?;
-    let served = serve(rt, alloc, gens, feeds, inbox, &Holds { begun })
-        .ok()
-        .context("the run")?;
-    Ok(served.report)
+    run_feeds(rt, alloc, gens, feeds, begun)
 }
 
 // A new patch set, with its comment.

@@ -1,9 +1,8 @@
 //! A run whose feeds have nothing for a while.
 use crate::documents::configuration;
-use crate::running::{Silent, processed};
-use anyhow::{Context, Result, bail};
-use gate_config::{Generations, read_config};
-use gate_run::{FeedStep, Posts, RecordFeed, serve};
+use crate::running::{Silent, processed, run_feeds};
+use anyhow::Result;
+use gate_run::{FeedStep, RecordFeed};
 use std::alloc::Global;
 use std::sync::Wait;
 use std::thread;
@@ -43,31 +42,12 @@ pub fn wait<R: Threads + Wait + Clock + Sync, C: Clock + Copy + Drop + Send>(
     alloc: Global,
     clock: C,
     seconds: u64,
-) -> Result<u64> {
-    let document = configuration(alloc, CONNECTIONS)?;
-    let config = read_config(alloc, document.as_bytes())
-        .ok()
-        .context("the configuration")?;
-    let gens = Generations::of(alloc, config);
+) -> Result<()> {
+    let gens = configuration(alloc, CONNECTIONS)?;
     let mut feeds = Vec::new(alloc);
     for _ in 0..CONNECTIONS {
         feeds.push(Blocked { clock, seconds })?;
     }
-    run_feeds(rt, alloc, &gens, feeds)
-}
-
-fn run_feeds<R: Threads + Wait + Clock + Sync, C: Clock + Drop + Send>(
-    rt: &R,
-    alloc: Global,
-    gens: &Generations,
-    feeds: Vec<Blocked<C>>,
-) -> Result<u64> {
-    if feeds.len() != gens.first().connections().len() {
-        bail!("a feed for each connection");
-    }
-    let (_posts, inbox) = Posts::open(alloc, gens).ok().context("memory")?;
-    let served = serve(rt, alloc, gens, feeds, inbox, &Silent)
-        .ok()
-        .context("the run")?;
-    processed(&served.report)
+    processed(&run_feeds(rt, alloc, &gens, feeds, &Silent)?)?;
+    Ok(())
 }

@@ -1,5 +1,5 @@
 //! Eight feeds of records of three kinds and five projects, and the generations of the configuration that selects among them.
-use crate::documents::comma_before;
+use crate::documents::{Document, numbered};
 use gate_record::{Memory, Record, Sequence};
 use gate_run::{FeedStep, RecordFeed};
 use std::alloc::{AllocError, Global};
@@ -115,19 +115,13 @@ impl RecordFeed for Mixed {
 
 /// The configuration of a generation.
 pub fn configuration(alloc: Global, generation: u32) -> Result<String, AllocError> {
-    let mut tenants = String::new(alloc);
-    let mut config = String::new(alloc);
+    let mut document = Document::new(alloc);
     for tenant in 0..TENANTS {
-        let comma = comma_before(tenant);
         let source = source(alloc, generation, tenant)?;
         let items = items(alloc, generation, tenant)?;
-        write!(
-            tenants,
-            "{comma}{{\"name\":\"t{tenant}\",\"source\":{{{source}}}}}"
-        )?;
-        write!(config, "{comma}\"t{tenant}\":[{items}]")?;
+        document.push_tenant(tenant, source.as_str(), items.as_str())?;
     }
-    format!(in alloc; "{{\"tenants\":[{tenants}],\"config\":{{{config}}}}}")
+    document.text(alloc)
 }
 
 // The connections that a tenant lists, with their projects.
@@ -179,13 +173,6 @@ fn pattern_of(generation: u32, pipeline: u32) -> &'static str {
 }
 
 fn trigger(alloc: Global, pattern: &str) -> Result<String, AllocError> {
-    let mut members = String::new(alloc);
-    for connection in 0..CONNECTIONS {
-        let comma = comma_before(connection);
-        write!(
-            members,
-            "{comma}\"c{connection}\":[{{\"event\":\"{pattern}\"}}]"
-        )?;
-    }
-    Ok(members)
+    let rules = format!(in alloc; "\":[{{\"event\":\"{pattern}\"}}]")?;
+    numbered(alloc, CONNECTIONS, "\"c", rules.as_str())
 }

@@ -3,18 +3,13 @@ use crate::documents::{TENANTS, configuration};
 use crate::repeated::record;
 use crate::running::processed;
 use anyhow::Context;
-use gate_config::{Generations, read_config};
 use gate_core::{Step, play};
 use gate_record::{ConnId, Memory, PipelineId, Queue, TenantId};
 use std::alloc::Global;
 
 /// Plays so many connections with so many records each, and says how many trigger events were processed.
 pub fn play_all(alloc: Global, connections: u32, records: u32) -> anyhow::Result<u64> {
-    let document = configuration(alloc, connections)?;
-    let config = read_config(alloc, document.as_bytes())
-        .ok()
-        .context("the configuration")?;
-    let gens = Generations::of(alloc, config);
+    let gens = configuration(alloc, connections)?;
     let steps = steps(alloc, connections, records).ok().context("memory")?;
     let played = play(alloc, &gens, steps).ok().context("the run")?;
     let report = played.world.report().ok().context("memory")?;

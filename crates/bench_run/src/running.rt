@@ -1,8 +1,10 @@
 //! Runs in threads.
+ghost use Rattle.std.specs.Prelude.{◌-◌, ◌<◌, ◌^◌, All};
+
 use crate::documents::configuration;
 use crate::repeated::Repeated;
 use anyhow::{Context, Result, bail};
-use gate_config::{Generations, read_config};
+use gate_config::Generations;
 use gate_core::RunReport;
 use gate_run::{Gate, Posts, RecordFeed, serve};
 use std::alloc::Global;
@@ -23,32 +25,32 @@ pub fn serve_all<R: Threads + Wait + Clock + Sync>(
     connections: u32,
     records: u32,
 ) -> Result<u64> {
-    let document = configuration(alloc, connections)?;
-    let config = read_config(alloc, document.as_bytes())
-        .ok()
-        .context("the configuration")?;
-    let gens = Generations::of(alloc, config);
+    let gens = configuration(alloc, connections)?;
     let mut feeds = Vec::new(alloc);
     for _ in 0..connections {
         feeds.push(Repeated::new(alloc, records).ok().context("memory")?)?;
     }
-    run_feeds(rt, alloc, &gens, feeds)
+    processed(&run_feeds(rt, alloc, &gens, feeds, &Silent)?)
 }
 
-fn run_feeds<R: Threads + Wait + Clock + Sync>(
+/// Runs over these feeds, one for each connection, and gives the report.
+pub fn run_feeds<F: RecordFeed + Drop + Send, G: Gate + Sync, R: Threads + Wait + Clock + Sync>(
     rt: &R,
     alloc: Global,
     gens: &Generations,
-    feeds: Vec<Repeated>,
-) -> Result<u64> {
+    feeds: Vec<F>,
+    gate: &G,
+) -> Result<RunReport>
+    requires few { All (λ feed. F.fault_count feed < 2 ^ 64 - 1) feeds.items }
+{
     if feeds.len() != gens.first().connections().len() {
         bail!("a feed for each connection");
     }
     let (_posts, inbox) = Posts::open(alloc, gens).ok().context("memory")?;
-    let served = serve(rt, alloc, gens, feeds, inbox, &Silent)
+    let served = serve(rt, alloc, gens, feeds, inbox, gate)
         .ok()
         .context("the run")?;
-    processed(&served.report)
+    Ok(served.report)
 }
 
 /// How many trigger events were processed by pipelines that are all finished.

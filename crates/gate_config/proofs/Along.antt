@@ -1,6 +1,7 @@
 -- Loops over the items of a list, each with its checks by the items before it.
-use Rattle.std.proofs.Common.{◌≡◌, ◌∙◌, ◌+◌, ◌<◌, ◌≤◌, ℕ, List, [], ◌∷◌, ◌++◌, map, length, get_or, take, drop, refl, sym, ap, subst, append_assoc, append-nil, Option, Bor, String, Global}
-use Rattle.std.proofs.lemmas.List.{map-append, take_all}
+use Rattle.std.proofs.Common.{◌≡◌, ◌∙◌, ◌+◌, ◌<◌, ◌≤◌, ℕ, List, [], ◌∷◌, ◌++◌, map, length, get_or, take, drop, refl, sym, ap, subst, append_assoc, append-nil, Option, Result, Bor, String, Global}
+use Rattle.std.specs.Result.{IsErrAnd}
+use Rattle.std.proofs.lemmas.List.{take_all}
 use Rattle.gate_config.specs.declared.path.Step.{Step}
 use Rattle.gate_config.specs.declared.fault.ConfigFault.{ConfigFault}
 use Rattle.serde_json.specs.Data.{Data}
@@ -9,11 +10,11 @@ use Rattle.gate_config.specs.Checks.{along, along_from, source_checks, tenant_ch
 use Rattle.gate_config.specs.Document.{names_in, sources_of, tenant_of}
 use Rattle.gate_config.specs.Inner.Found.{found_view, key_view}
 use Rattle.gate_config.specs.Faults.{Check}
-use Rattle.gate_config.specs.Inner.Faults.{HasPassed, HasFault}
+use Rattle.gate_config.specs.Inner.Faults.{HasPassed, HasFault, Reads}
 use Rattle.gate_config.specs.Names.{with_name, with_names}
-use Rattle.gate_config.proofs.Each.{map_more, split}
+use Rattle.gate_config.proofs.Each.{map_more, says_more, split}
 use Rattle.gate_config.proofs.Listed.{names_more, with_names-append}
-use Rattle.gate_config.proofs.Faults.{fault_front, fault_rest, passed_both}
+use Rattle.gate_config.proofs.Faults.{exit, fault_front, fault_rest, passed_both}
 
 pub along_from-append : {A : Type 0} (checks : List A → A → List Check) (before xs ys : List A) → along_from checks before (xs ++ ys) ≡ along_from checks before xs ++ along_from checks (before ++ xs) ys
 along_from-append checks before [] ys = ap (λ b. along_from checks b ys) (sym (append-nil before))
@@ -47,6 +48,10 @@ module _ {X A : Type 0} {checks : List A → A → List Check} {v : X → A} {it
       (sym (ap (along checks) (split v items i x h e) ∙ along_from-append checks [] (front ++ v x ∷ []) rest
       ∙ ap (λ cs. cs ++ along_from checks (front ++ v x ∷ []) rest) (one_more checks front (v x))))
       (fault_front (along_from checks (front ++ v x ∷ []) rest) (fault_rest t.passed f))
+
+  -- what the exit of a `?` answers at an item behind those that passed
+  pub along_exit : {T : Type 0} {i : ℕ} (P : T → Type 0) (x : X) {found : ConfigFault} (r : Result T ConfigFault) → IsErrAnd r (λ answer. answer ≡ found) → i < length items → x ≡ get_or items i x → AlongSoFar checks v items i → HasFault (checks (map v (take i items)) (v x)) found → Reads (along checks (map v items)) P r
+  along_exit P x r answers h e t f = exit P r answers (along_fault x h e t f)
 
   pub along_all : {i : ℕ} → length items ≤ i → AlongSoFar checks v items i → HasPassed (along checks (map v items))
   along_all {i} h t = subst (λ xs. HasPassed (along checks (map v xs))) (take_all i items h) t.passed
@@ -107,14 +112,8 @@ module _ {X A T B : Type 0} {checks : List A → A → List Check} {v : X → A}
   pub read_none : ReadAlong checks v texts gives items 0 []
   read_none = record { tested = along_none; says = refl }
 
-  pub read_more : {i : ℕ} {out : List T} (x : X) (y : T) → i < length items → x ≡ get_or items i x → ReadAlong checks v texts gives items i out → HasPassed (checks (map v (take i items)) (v x)) → texts y ≡ gives (v x) → ReadAlong checks v texts gives items (i + 1) (out ++ y ∷ [])
-  read_more {i} {out} x y h e r p s = record {
-    tested = along_more x h e r.tested p;
-    says =
-        map-append texts out (y ∷ []) ∙ ap (λ front. front ++ texts y ∷ []) r.says
-        ∙ ap (λ z. map gives (map v (take i items)) ++ z ∷ []) s
-        ∙ sym (ap (map gives) (map_more v items i x h e) ∙ map-append gives (map v (take i items)) (v x ∷ []));
-  }
+  pub read_more : {i : ℕ} {out next : List T} (x : X) (y : T) → next ≡ out ++ y ∷ [] → i < length items → x ≡ get_or items i x → ReadAlong checks v texts gives items i out → HasPassed (checks (map v (take i items)) (v x)) → texts y ≡ gives (v x) → ReadAlong checks v texts gives items (i + 1) next
+  read_more {out} x y pushed h e r p s = record { tested = along_more x h e r.tested p; says = says_more v texts gives items out x y pushed h e r.says s }
 
   pub read_all : {i : ℕ} {out : List T} → length items ≤ i → ReadAlong checks v texts gives items i out → HasPassed (along checks (map v items)) × (map texts out ≡ map gives (map v items))
   read_all {i} h r = (along_all h r.tested, r.says ∙ ap (λ xs. map gives (map v xs)) (take_all i items h))

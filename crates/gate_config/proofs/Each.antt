@@ -1,12 +1,13 @@
 -- Loops over the items of a list, each with its checks.
-use Rattle.std.proofs.Common.{◌≡◌, ◌∙◌, ◌+◌, ◌<◌, ◌≤◌, ℕ, List, [], ◌∷◌, ◌++◌, map, length, get_or, take, drop, refl, sym, ap, Option, Some, subst, arith, append_assoc, add-zero, zero-add, suc}
+use Rattle.std.proofs.Common.{◌≡◌, ◌∙◌, ◌+◌, ◌<◌, ◌≤◌, ℕ, List, [], ◌∷◌, ◌++◌, map, length, get_or, take, drop, refl, sym, ap, Option, Some, Result, subst, arith, append_assoc, add-zero, zero-add, suc}
 use Rattle.std.specs.List.{flat_map, filter_map, enumerate_from}
+use Rattle.std.specs.Result.{IsErrAnd}
 use Rattle.std.proofs.lemmas.List.{append-nil, map-append, map-id, take_more, take_all, take-append-drop, length-map, length-take-le}
 use Rattle.gate_config.specs.declared.fault.ConfigFault.{ConfigFault}
 use Rattle.gate_config.specs.Checks.{each}
 use Rattle.gate_config.specs.Faults.{Check}
-use Rattle.gate_config.specs.Inner.Faults.{HasPassed, HasFault}
-use Rattle.gate_config.proofs.Faults.{fault_front, fault_rest, passed_both}
+use Rattle.gate_config.specs.Inner.Faults.{HasPassed, HasFault, Reads}
+use Rattle.gate_config.proofs.Faults.{exit, fault_front, fault_rest, passed_both}
 
 -- the checks from a position on
 abbrev pub each_from : {A : Type 0} → (ℕ → A → List Check) → ℕ → List A → List Check
@@ -72,6 +73,10 @@ module _ {X A : Type 0} {checks : ℕ → A → List Check} {v : X → A} {items
       ∙ ap (λ cs. cs ++ each_from checks (length (front ++ v x ∷ [])) rest) (one_more checks front (v x) i (count v items i h))))
       (fault_front (each_from checks (length (front ++ v x ∷ [])) rest) (fault_rest t.passed f))
 
+  -- what the exit of a `?` answers at an item behind those that passed
+  pub tested_exit : {T : Type 0} {i : ℕ} (P : T → Type 0) (x : X) {found : ConfigFault} (r : Result T ConfigFault) → IsErrAnd r (λ answer. answer ≡ found) → i < length items → x ≡ get_or items i x → TestedSoFar checks v items i → HasFault (checks i (v x)) found → Reads (each checks (map v items)) P r
+  tested_exit P x r answers h e t f = exit P r answers (tested_fault x h e t f)
+
   pub tested_all : {i : ℕ} → length items ≤ i → TestedSoFar checks v items i → HasPassed (each checks (map v items))
   tested_all {i} h t = subst (λ xs. HasPassed (each checks (map v xs))) (take_all i items h) t.passed
 
@@ -79,21 +84,25 @@ module _ {X A : Type 0} {checks : A → List Check} {v : X → A} {items : List 
   pub flat_fault : {i : ℕ} (x : X) {found : ConfigFault} → i < length items → x ≡ get_or items i x → TestedSoFar (λ _. checks) v items i → HasFault (checks (v x)) found → HasFault (flat_map checks (map v items)) found
   flat_fault x {found} h e t f = subst (λ cs. HasFault cs found) (each_from-flat checks 0 (map v items)) (tested_fault x h e t f)
 
+  pub flat_exit : {T : Type 0} {i : ℕ} (P : T → Type 0) (x : X) {found : ConfigFault} (r : Result T ConfigFault) → IsErrAnd r (λ answer. answer ≡ found) → i < length items → x ≡ get_or items i x → TestedSoFar (λ _. checks) v items i → HasFault (checks (v x)) found → Reads (flat_map checks (map v items)) P r
+  flat_exit P x r answers h e t f = exit P r answers (flat_fault x h e t f)
+
   pub flat_all : {i : ℕ} → length items ≤ i → TestedSoFar (λ _. checks) v items i → HasPassed (flat_map checks (map v items))
   flat_all h t = subst HasPassed (each_from-flat checks 0 (map v items)) (tested_all h t)
+
+-- what was read of the items so far and of one more, which was pushed behind it
+pub says_more : {X A T B : Type 0} {i : ℕ} {next : List T} (v : X → A) (texts : T → B) (gives : A → B) (items : List X) (out : List T) (x : X) (y : T) → next ≡ out ++ y ∷ [] → i < length items → x ≡ get_or items i x → map texts out ≡ map gives (map v (take i items)) → texts y ≡ gives (v x) → map texts next ≡ map gives (map v (take (i + 1) items))
+says_more {i} v texts gives items out x y pushed h e so_far s =
+    ap (map texts) pushed ∙ map-append texts out (y ∷ []) ∙ ap (λ front. front ++ texts y ∷ []) so_far
+    ∙ ap (λ z. map gives (map v (take i items)) ++ z ∷ []) s
+    ∙ sym (ap (map gives) (map_more v items i x h e) ∙ map-append gives (map v (take i items)) (v x ∷ []))
 
 module _ {X A T B : Type 0} {checks : ℕ → A → List Check} {v : X → A} {texts : T → B} {gives : A → B} {items : List X} where
   pub read_none : ReadSoFar checks v texts gives items 0 []
   read_none = record { tested = tested_none; says = refl }
 
-  pub read_more : {i : ℕ} {out : List T} (x : X) (y : T) → i < length items → x ≡ get_or items i x → ReadSoFar checks v texts gives items i out → HasPassed (checks i (v x)) → texts y ≡ gives (v x) → ReadSoFar checks v texts gives items (i + 1) (out ++ y ∷ [])
-  read_more {i} {out} x y h e r p s = record {
-    tested = tested_more x h e r.tested p;
-    says =
-        map-append texts out (y ∷ []) ∙ ap (λ front. front ++ texts y ∷ []) r.says
-        ∙ ap (λ z. map gives (map v (take i items)) ++ z ∷ []) s
-        ∙ sym (ap (map gives) (map_more v items i x h e) ∙ map-append gives (map v (take i items)) (v x ∷ []));
-  }
+  pub read_more : {i : ℕ} {out next : List T} (x : X) (y : T) → next ≡ out ++ y ∷ [] → i < length items → x ≡ get_or items i x → ReadSoFar checks v texts gives items i out → HasPassed (checks i (v x)) → texts y ≡ gives (v x) → ReadSoFar checks v texts gives items (i + 1) next
+  read_more {out} x y pushed h e r p s = record { tested = tested_more x h e r.tested p; says = says_more v texts gives items out x y pushed h e r.says s }
 
   pub read_all : {i : ℕ} {out : List T} → length items ≤ i → ReadSoFar checks v texts gives items i out → map texts out ≡ map gives (map v items)
   read_all {i} h r = r.says ∙ ap (λ xs. map gives (map v xs)) (take_all i items h)
@@ -102,6 +111,9 @@ module _ {X A T B : Type 0} {checks : ℕ → A → List Check} {v : X → A} {t
 module _ {A : Type 0} {checks : A → List Check} {items : List A} where
   pub plain_fault : {i : ℕ} (x : A) {found : ConfigFault} → i < length items → x ≡ get_or items i x → TestedSoFar (λ _. checks) (λ y. y) items i → HasFault (checks x) found → HasFault (flat_map checks items) found
   plain_fault x {found} h e t f = subst (λ xs. HasFault (flat_map checks xs) found) (map-id items) (flat_fault x h e t f)
+
+  pub plain_exit : {T : Type 0} {i : ℕ} (P : T → Type 0) (x : A) {found : ConfigFault} (r : Result T ConfigFault) → IsErrAnd r (λ answer. answer ≡ found) → i < length items → x ≡ get_or items i x → TestedSoFar (λ _. checks) (λ y. y) items i → HasFault (checks x) found → Reads (flat_map checks items) P r
+  plain_exit P x r answers h e t f = exit P r answers (plain_fault x h e t f)
 
   pub plain_all : {i : ℕ} → length items ≤ i → TestedSoFar (λ _. checks) (λ y. y) items i → HasPassed (flat_map checks items)
   plain_all h t = subst (λ xs. HasPassed (flat_map checks xs)) (map-id items) (flat_all h t)

@@ -10,3 +10,4 @@ pub mod Keyed
 pub mod Lookups
 pub mod Steps
 pub mod Structures
+pub mod Wanted

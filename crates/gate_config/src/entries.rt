@@ -32,7 +32,7 @@ pub(crate) fn read_entry(
     ensures { Reads (entry_checks_at (steps_of here.now) (view value.now)) (λ entry. texts_of_entry entry ≡ entry_in (view value.now)) result }
 {
     match value.as_str() {
-        Some(text) => Ok(Entry::new(build_pattern(alloc, table, here, text)?, false)),
+        Some(text) => Ok(Entry::new(table.pattern_at(alloc, here, text)?, false)),
         None => read_object(alloc, table, here, value),
     }
 }
@@ -49,7 +49,7 @@ fn read_object(
     let text = required_text(alloc, here, value, "regex")?;
     let negate = read_negate(alloc, here, value)?;
     let place = here.member("regex");
-    let pattern = build_pattern(alloc, table, &place, text)?;
+    let pattern = table.pattern_at(alloc, &place, text)?;
     Ok(Entry::new(pattern, negate))
 }
 
@@ -90,18 +90,20 @@ fn read_negate(alloc: Global, here: &Place<'_>, value: &Value) -> Result<bool, C
     Ok(negate.unwrap_or(false))
 }
 
-// The pattern of a text. `Pattern` at the place where `regex` refuses it.
-fn build_pattern(
-    alloc: Global,
-    table: &mut PatternTable,
-    place: &Place<'_>,
-    text: &str,
-) -> Result<Pattern, ConfigFault>
-    ensures { Reads (Builds text.now (steps_of place.now) ∷ []) (λ pattern. text_of pattern ≡ text.now) result }
-{
-    match table.pattern(alloc, text) {
-        Ok(pattern) => Ok(pattern),
-        Err(PatternFault::Memory) => Err(ConfigFault::Memory),
-        Err(PatternFault::Refused) => Err(ConfigFault::Pattern(place.path(alloc)?)),
+impl PatternTable {
+    // The pattern of a text. `Pattern` at the place where `regex` refuses it.
+    fn pattern_at(
+        &mut self,
+        alloc: Global,
+        place: &Place<'_>,
+        text: &str,
+    ) -> Result<Pattern, ConfigFault>
+        ensures { Reads (Builds text.now (steps_of place.now) ∷ []) (λ pattern. text_of pattern ≡ text.now) result }
+    {
+        match self.pattern(alloc, text) {
+            Ok(pattern) => Ok(pattern),
+            Err(PatternFault::Memory) => Err(ConfigFault::Memory),
+            Err(PatternFault::Refused) => Err(ConfigFault::Pattern(place.path(alloc)?)),
+        }
     }
 }

@@ -32,6 +32,7 @@ mod sources;
 mod stanzas;
 mod tenants;
 mod text;
+mod wanted;
 
 pub use config::{Config, PipelineSpec, TenantSpec};
 pub use fault::ConfigFault;

@@ -169,38 +169,6 @@ pub(crate) fn required_text<'v>(
     }
 }
 
-// The items of a required list. `Shape` at its place where it is missing or no list.
-pub(crate) fn required_list<'v>(
-    alloc: Global,
-    place: &Place<'_>,
-    value: &'v Value,
-    key: &str,
-) -> Result<&'v [Value], ConfigFault>
-    ensures { Reads (Asks (is_there is_list (get key.now (view value.now))) (Shape (below (steps_of place.now) key.now)) ∷ [])
-        (λ items. map view items.now ≡ items_of (get key.now (view value.now))) result }
-{
-    match value.get(key).and_then(list) {
-        Some(items) => Ok(items),
-        None => Err(ConfigFault::Shape(place.member(key).path(alloc)?)),
-    }
-}
-
-// A required object. `Shape` at its place where it is missing or no object.
-pub(crate) fn required_object<'v>(
-    alloc: Global,
-    place: &Place<'_>,
-    value: &'v Value,
-    key: &str,
-) -> Result<&'v Value, ConfigFault>
-    ensures { Reads (Asks (is_there is_object (get key.now (view value.now))) (Shape (below (steps_of place.now) key.now)) ∷ [])
-        (λ found. Some (view found.now) ≡ get key.now (view value.now)) result }
-{
-    match value.get(key) {
-        Some(found) if found.is_object() => Ok(found),
-        _ => Err(ConfigFault::Shape(place.member(key).path(alloc)?)),
-    }
-}
-
 // The text of a member that was checked.
 pub(crate) fn text_at<'v>(value: &'v Value, key: &str) -> &'v str
     ensures { result.now ≡ text_of_member key.now (view value.now) }

@@ -63,8 +63,7 @@ fn read_items(
 {
     let mut entries = Vec::new(alloc);
     for (position, item) in items.iter().enumerate() {
-        let entry = read_item(alloc, table, place, position, item)?;
-        entries.push(entry)?;
+        entries.push(read_item(alloc, table, place, position, item)?)?;
     }
     Ok(Sequence::new(entries))
 }

@@ -2,7 +2,7 @@ ghost use Rattle.std.specs.Prelude.{◌≡◌, ◌∷◌, [], Some, length, map,
 ghost use Rattle.std.specs.List.{flat_map, list_any};
 ghost use Rattle.std.specs.Str.{bytes_eq};
 ghost use Rattle.serde_json.specs.View.{view};
-ghost use Rattle.gate_config.specs.Checks.{along, each, config_checks, all_items_checks, items_checks, item_checks, is_named, pipeline_checks, pipeline_checks_at, manager_checks};
+ghost use Rattle.gate_config.specs.Checks.{along, config_checks, all_items_checks, items_checks, is_named, pipeline_checks, pipeline_checks_at, manager_checks};
 ghost use Rattle.gate_config.specs.Document.{name_of, tenant_texts, pipeline_texts, pipeline_items, manager_named, jobs_in, pipeline_names, project_items};
 ghost use Rattle.gate_config.specs.Inner.Found.{found_view};
 ghost use Rattle.gate_config.specs.Faults.{Asks};
@@ -27,6 +27,7 @@ use crate::rules::read_trigger;
 use crate::sources::read_sources;
 use crate::stanzas::read_stanzas;
 use crate::tenants::tenant_name;
+use crate::wanted::{Wanted, check_each};
 use gate_record::{ManagerKind, Sequence, Text};
 use serde_json::Value;
 use std::alloc::Global;
@@ -102,33 +103,9 @@ fn read_items(
     ensures { Reads (items_checks connections.now (steps_of place.now) (map view items.now))
         (λ pipelines. map texts_of_pipeline pipelines ≡ map (pipeline_texts connections.now) (pipeline_items (map view items.now))) result }
 {
-    check_each_item(alloc, place, items)?;
+    check_each(alloc, Wanted::Object, place, items)?;
     let entries = entries_at(alloc, items, "pipeline")?;
     read_pipelines(alloc, table, connections, place, entries.as_slice())
-}
-
-fn check_each_item(alloc: Global, place: &Place<'_>, items: &[Value]) -> Result<(), ConfigFault>
-    ensures { Tests (each (item_checks (steps_of place.now)) (map view items.now)) result }
-{
-    for (position, item) in items.iter().enumerate() {
-        check_item(alloc, place, position, item)?;
-    }
-    Ok(())
-}
-
-// `Shape` at an item that is no object.
-fn check_item(
-    alloc: Global,
-    place: &Place<'_>,
-    position: usize,
-    item: &Value,
-) -> Result<(), ConfigFault>
-    ensures { Tests (item_checks (steps_of place.now) position (view item.now)) result }
-{
-    if item.is_object() {
-        return Ok(());
-    }
-    Err(ConfigFault::Shape(place.item(position).path(alloc)?))
 }
 
 fn read_pipelines(

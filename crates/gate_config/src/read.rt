@@ -1,5 +1,6 @@
 ghost use Rattle.std.specs.Prelude.{◌≡◌, ◌∷◌, [], Some, IfOk, IfErr, OnOk, length, map, nat_le, codes};
 ghost use Rattle.serde_json.specs.Data.{Data};
+ghost use Rattle.serde_json.specs.Find.{get};
 ghost use Rattle.serde_json.specs.View.{view};
 ghost use Rattle.gate_record.specs.Json.{json_of};
 ghost use Rattle.gate_config.specs.Checks.{checks_of, document_checks, entries_checks};
@@ -7,16 +8,18 @@ ghost use Rattle.gate_config.specs.Document.{connection_names, names_in, tenant_
 ghost use Rattle.gate_config.specs.Inner.Found.{found_view};
 ghost use Rattle.gate_config.specs.Faults.{AllPass, Asks, IsFaultOf};
 ghost use Rattle.gate_config.specs.Inner.Faults.{Reads, Tests};
+ghost use Rattle.gate_config.specs.Inner.Steps.{steps_of};
 ghost use Rattle.gate_config.specs.Limits.{most_tenants};
+ghost use Rattle.gate_config.specs.Parts.{is_list, is_object, is_there, items_of};
 ghost use Rattle.gate_config.specs.Places.{below, whole};
 ghost use Rattle.gate_config.specs.Texts.{IsReadFrom, texts_of_tenant};
-ghost use Rattle.gate_config.specs.declared.fault.ConfigFault.TheVariants.{Limit};
+ghost use Rattle.gate_config.specs.declared.fault.ConfigFault.TheVariants.{Limit, Shape};
 
 use crate::config::Config;
 use crate::document::{Found, tenant_entries};
 use crate::fault::ConfigFault;
 use crate::limits::MAX_TENANTS;
-use crate::parts::{check_object, required_list, required_object};
+use crate::parts::{check_object, list};
 use crate::pattern_table::PatternTable;
 use crate::pipelines::read_tenants;
 use crate::places::Place;
@@ -71,10 +74,40 @@ fn read_document(
 {
     let place = Place::Document;
     check_object(alloc, &place, document)?;
-    let items = required_list(alloc, &place, document, "tenants")?;
-    let config = required_object(alloc, &place, document, "config")?;
+    let items = tenants_list(alloc, &place, document)?;
+    let config = config_object(alloc, &place, document)?;
     let entries = tenant_entries(alloc, items)?;
     read_entries(alloc, table, config, entries.as_slice())
+}
+
+// The list of tenants. `Shape` at its place where it is missing or no list.
+fn tenants_list<'v>(
+    alloc: Global,
+    place: &Place<'_>,
+    document: &'v Value,
+) -> Result<&'v [Value], ConfigFault>
+    ensures { Reads (Asks (is_there is_list (get (codes "tenants") (view document.now))) (Shape (below (steps_of place.now) (codes "tenants"))) ∷ [])
+        (λ items. map view items.now ≡ items_of (get (codes "tenants") (view document.now))) result }
+{
+    match document.get("tenants").and_then(list) {
+        Some(items) => Ok(items),
+        None => Err(ConfigFault::Shape(place.member("tenants").path(alloc)?)),
+    }
+}
+
+// The object of the tenants' lists. `Shape` at its place where it is missing or no object.
+fn config_object<'v>(
+    alloc: Global,
+    place: &Place<'_>,
+    document: &'v Value,
+) -> Result<&'v Value, ConfigFault>
+    ensures { Reads (Asks (is_there is_object (get (codes "config") (view document.now))) (Shape (below (steps_of place.now) (codes "config"))) ∷ [])
+        (λ config. Some (view config.now) ≡ get (codes "config") (view document.now)) result }
+{
+    match document.get("config") {
+        Some(config) if config.is_object() => Ok(config),
+        _ => Err(ConfigFault::Shape(place.member("config").path(alloc)?)),
+    }
 }
 
 // All tenants, and then their lists in `config`.

@@ -56,8 +56,7 @@ fn read_connections(
 {
     let mut rules = Vec::new(alloc);
     for connection in connections {
-        let read = read_connection(alloc, table, place, trigger, connection.as_str())?;
-        rules.push(read)?;
+        rules.push(read_connection(alloc, table, place, trigger, connection.as_str())?)?;
     }
     Ok(Sequence::new(rules))
 }
@@ -139,8 +138,7 @@ fn read_items(
 {
     let mut rules = Vec::new(alloc);
     for (position, item) in items.iter().enumerate() {
-        let rule = read_item(alloc, table, place, position, item)?;
-        rules.push(rule)?;
+        rules.push(read_item(alloc, table, place, position, item)?)?;
     }
     Ok(Sequence::new(rules))
 }

@@ -1,7 +1,7 @@
 ghost use Rattle.std.specs.Prelude.{◌≡◌, ◌∷◌, [], ℕ, List, IfOk, OnOk, map, option_map, is_some};
 ghost use Rattle.std.specs.List.{flat_map};
 ghost use Rattle.serde_json.specs.View.{view};
-ghost use Rattle.gate_config.specs.Checks.{each, job_checks, jobs_checks, part_checks, parts_checks, stanza_checks, stanza_checks_at};
+ghost use Rattle.gate_config.specs.Checks.{jobs_checks, part_checks, parts_checks, stanza_checks, stanza_checks_at};
 ghost use Rattle.gate_config.specs.Document.{jobs_for, jobs_in, plain_name, project_items, project_of};
 ghost use Rattle.gate_config.specs.Inner.Found.{found_view};
 ghost use Rattle.gate_config.specs.Inner.Faults.{Reads, Tests};
@@ -14,9 +14,9 @@ use crate::config::PipelineSpec;
 use crate::document::{Found, entries_at};
 use crate::fault::ConfigFault;
 use crate::jobs::Jobs;
-use crate::names::name_in;
 use crate::parts::{check_object, check_optional_object, items, member, member_of, optional_list};
 use crate::places::Place;
+use crate::wanted::{Wanted, check_each};
 use gate_record::{Memory, Sequence};
 use serde_json::Value;
 use std::alloc::Global;
@@ -51,6 +51,7 @@ fn check_stanzas(
     Ok(())
 }
 
+// A project item: an object. What it has for the pipelines is looked into where it is of a project.
 fn check_entry(
     alloc: Global,
     pipelines: &[PipelineSpec],
@@ -61,32 +62,9 @@ fn check_entry(
 {
     let item = place.item(entry.position);
     let here = item.member("project");
-    check_stanza(alloc, pipelines, &here, entry.value)
-}
-
-// A project item: an object. What it has for the pipelines is looked into where it is of a project.
-fn check_stanza(
-    alloc: Global,
-    pipelines: &[PipelineSpec],
-    here: &Place<'_>,
-    stanza: &Value,
-) -> Result<(), ConfigFault>
-    ensures { Tests (stanza_checks_at (names_of pipelines.now) (steps_of here.now) (view stanza.now)) result }
-{
-    check_object(alloc, here, stanza)?;
-    check_parts(alloc, pipelines, here, stanza)
-}
-
-fn check_parts(
-    alloc: Global,
-    pipelines: &[PipelineSpec],
-    here: &Place<'_>,
-    stanza: &Value,
-) -> Result<(), ConfigFault>
-    ensures { Tests (parts_checks (names_of pipelines.now) (steps_of here.now) (view stanza.now)) result }
-{
-    match project_of(stanza) {
-        Some(_) => check_each_part(alloc, pipelines, here, stanza),
+    check_object(alloc, &here, entry.value)?;
+    match project_of(entry.value) {
+        Some(_) => check_each_part(alloc, pipelines, &here, entry.value),
         None => Ok(()),
     }
 }
@@ -126,31 +104,7 @@ fn check_jobs(alloc: Global, place: &Place<'_>, jobs: Option<&Value>) -> Result<
     ensures { Tests (jobs_checks (steps_of place.now) (option_map (λ v. view v.now) jobs.entry)) result }
 {
     let jobs = optional_list(alloc, place, jobs)?;
-    check_each_job(alloc, place, jobs)
-}
-
-fn check_each_job(alloc: Global, place: &Place<'_>, jobs: &[Value]) -> Result<(), ConfigFault>
-    ensures { Tests (each (job_checks (steps_of place.now)) (map view jobs.now)) result }
-{
-    for (position, job) in jobs.iter().enumerate() {
-        check_job(alloc, place, position, job)?;
-    }
-    Ok(())
-}
-
-// `Shape` at a job that has no name.
-fn check_job(
-    alloc: Global,
-    place: &Place<'_>,
-    position: usize,
-    job: &Value,
-) -> Result<(), ConfigFault>
-    ensures { Tests (job_checks (steps_of place.now) position (view job.now)) result }
-{
-    if name_in(job).is_some() {
-        return Ok(());
-    }
-    Err(ConfigFault::Shape(place.item(position).path(alloc)?))
+    check_each(alloc, Wanted::Job, place, jobs)
 }
 
 // The project that a stanza is of; one without such a name is ignored.

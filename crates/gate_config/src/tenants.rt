@@ -2,7 +2,7 @@ ghost use Rattle.std.specs.Prelude.{◌≡◌, ◌∷◌, [], IfOk, not, map, op
 ghost use Rattle.std.specs.List.{list_any};
 ghost use Rattle.std.specs.Str.{bytes_eq};
 ghost use Rattle.serde_json.specs.View.{view};
-ghost use Rattle.gate_config.specs.Checks.{along, each, is_taken, tenant_checks, tenant_checks_at, tenant_place, named_checks, sources_checks, source_checks, listing_checks, list_checks, project_checks};
+ghost use Rattle.gate_config.specs.Checks.{along, is_taken, tenant_checks, tenant_checks_at, tenant_place, named_checks, sources_checks, source_checks, listing_checks, list_checks};
 ghost use Rattle.gate_config.specs.Document.{names_in, sources_of, tenant_name, tenant_of};
 ghost use Rattle.gate_config.specs.Inner.Found.{found_view, key_view};
 ghost use Rattle.gate_config.specs.Faults.{Asks};
@@ -22,7 +22,7 @@ use crate::parts::{
     text_at,
 };
 use crate::places::Place;
-use crate::projects::is_entry;
+use crate::wanted::{Wanted, check_each};
 use serde_json::Value;
 use std::alloc::Global;
 
@@ -190,33 +190,5 @@ fn check_projects(
 {
     let here = place.member(key);
     let projects = optional_list(alloc, &here, member_of(source, key))?;
-    check_each_project(alloc, &here, projects)
-}
-
-fn check_each_project(
-    alloc: Global,
-    place: &Place<'_>,
-    projects: &[Value],
-) -> Result<(), ConfigFault>
-    ensures { Tests (each (project_checks (steps_of place.now)) (map view projects.now)) result }
-{
-    for (position, project) in projects.iter().enumerate() {
-        check_project(alloc, place, position, project)?;
-    }
-    Ok(())
-}
-
-// `Shape` at an entry that names no project.
-fn check_project(
-    alloc: Global,
-    place: &Place<'_>,
-    position: usize,
-    project: &Value,
-) -> Result<(), ConfigFault>
-    ensures { Tests (project_checks (steps_of place.now) position (view project.now)) result }
-{
-    if is_entry(project) {
-        return Ok(());
-    }
-    Err(ConfigFault::Shape(place.item(position).path(alloc)?))
+    check_each(alloc, Wanted::Project, &here, projects)
 }

@@ -29,20 +29,36 @@ pub(crate) const RULES: &str =
 // what follows.
 pub(crate) fn says(alloc: Global, document: &str, script: &str) -> Result<(), Fail> {
     for block in script.split("\n\n") {
-        says_block(alloc, document, block.trim())?;
+        if let Some((text, table)) = text_and_table(block.trim())? {
+            says_table(alloc, document, text, table)?;
+        }
     }
     Ok(())
 }
 
-fn says_block(alloc: Global, document: &str, block: &str) -> Result<(), Fail> {
+// The first line of a block, and the lines behind it; nothing where the block says what follows.
+fn text_and_table(block: &str) -> Result<Option<(&str, &str)>, Fail> {
     match block.split_once('\n') {
-        Some((text, table)) => says_table(alloc, document, text, table),
-        None if block.starts_with('#') => Ok(()),
-        None => Err(Fail::from("a question")),
+        Some(halves) => Ok(Some(halves)),
+        None if block.starts_with('#') => Ok(None),
+        None => Err(Fail::from("a second line")),
     }
 }
 
-fn says_table(alloc: Global, document: &str, text: &str, table: &str) -> Result<(), Fail> {
+// Sees that several documents, which are made of a text a line, all say what one table says.
+fn each_says(alloc: Global, document: &str, texts: &str, table: &str) -> Result<(), Fail> {
+    for text in texts.trim().lines() {
+        says_table(alloc, document, text.trim(), table.trim())?;
+    }
+    Ok(())
+}
+
+pub(crate) fn says_table(
+    alloc: Global,
+    document: &str,
+    text: &str,
+    table: &str,
+) -> Result<(), Fail> {
     let whole = filled(alloc, document, text)?;
     whole_says(alloc, whole.as_str(), table)
 }
@@ -53,7 +69,7 @@ fn whole_says(alloc: Global, document: &str, table: &str) -> Result<(), Fail> {
 }
 
 // A document with this in its hole.
-fn filled(alloc: Global, document: &str, text: &str) -> Result<String, Fail> {
+pub(crate) fn filled(alloc: Global, document: &str, text: &str) -> Result<String, Fail> {
     match document.split_once('@') {
         Some((front, back)) => Ok(format!(in alloc; "{front}{text}{back}")?),
         None => Err(Fail::from("a hole")),

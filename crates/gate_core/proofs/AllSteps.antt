@@ -329,31 +329,27 @@ module _ (gens : Generations) (h : History) (state : State) (holds : Holds gens 
         (result_fits gens h tid pid Moved given (record pipe { results = pipe.results ++ r ∷ [] }) r (fits_result_post old r))
     ended_by r false = quiet_goes (step.PostResult tid pid r) pipe Full quiet_full old
 
-  turn_of_goes : (tid : TenantId) (pid : PipelineId) (ten : TenantState) → slice_get state.tenants tid.0 ≡ Some ten → (o : Option Pipeline) → slice_get ten.pipelines pid.0 ≡ o → TenantGoes (step.Turn tid pid) tid.0 (with_pipeline (turned gens.first) pid.0 o ten)
-  turn_of_goes tid pid ten at None whose = idle (step.Turn tid pid) tid.0 ten at
-  turn_of_goes tid pid ten at (Some pipe) whose = turned_goes tid pid ten pipe at whose
+  -- a step of a pipeline, wherever it is asked for
+  pipeline_of_goes : (s : Step) (move : Pipeline → Pipeline × Answer) (tid : TenantId) (p : ℕ) (ten : TenantState) → slice_get state.tenants tid.0 ≡ Some ten →
+      ((pipe : Pipeline) → slice_get ten.pipelines p ≡ Some pipe → TenantGoes s tid.0 (with_pipeline move p (Some pipe) ten)) →
+      (o : Option Pipeline) → slice_get ten.pipelines p ≡ o → TenantGoes s tid.0 (with_pipeline move p o ten)
+  pipeline_of_goes s move tid p ten at goes None whose = idle s tid.0 ten at
+  pipeline_of_goes s move tid p ten at goes (Some pipe) whose = goes pipe whose
 
-  turn_step_goes : (tid : TenantId) (pid : PipelineId) (o : Option TenantState) → slice_get state.tenants tid.0 ≡ o → Goes gens h (step.Turn tid pid) (with_tenant (on_pipeline (turned gens.first) pid.0) tid.0 o state)
-  turn_step_goes tid pid None at = quiet gens h state (step.Turn tid pid) Idle quiet_idle holds
-  turn_step_goes tid pid (Some ten) at = turn_of_goes tid pid ten at (slice_get ten.pipelines pid.0) refl
+  pipeline_step_goes : (s : Step) (move : Pipeline → Pipeline × Answer) (tid : TenantId) (p : ℕ) →
+      ((ten : TenantState) → slice_get state.tenants tid.0 ≡ Some ten → (pipe : Pipeline) → slice_get ten.pipelines p ≡ Some pipe → TenantGoes s tid.0 (with_pipeline move p (Some pipe) ten)) →
+      (o : Option TenantState) → slice_get state.tenants tid.0 ≡ o → Goes gens h s (with_tenant (on_pipeline move p) tid.0 o state)
+  pipeline_step_goes s move tid p goes None at = quiet gens h state s Idle quiet_idle holds
+  pipeline_step_goes s move tid p goes (Some ten) at = pipeline_of_goes s move tid p ten at (goes ten at) (slice_get ten.pipelines p) refl
 
-  manage_of_goes : (tid : TenantId) (pid : PipelineId) (m : Manage) (ten : TenantState) → slice_get state.tenants tid.0 ≡ Some ten → (o : Option Pipeline) → slice_get ten.pipelines pid.0 ≡ o →
-      TenantGoes (step.PostManage tid pid m) tid.0 (with_pipeline (post_manage m) pid.0 o ten)
-  manage_of_goes tid pid m ten at None whose = idle (step.PostManage tid pid m) tid.0 ten at
-  manage_of_goes tid pid m ten at (Some pipe) whose = managed_by tid pid ten pipe at whose m (nat_lt (length pipe.management) 4096)
+  turn_step_goes : (tid : TenantId) (pid : PipelineId) → Goes gens h (step.Turn tid pid) (with_tenant (on_pipeline (turned gens.first) pid.0) tid.0 (slice_get state.tenants tid.0) state)
+  turn_step_goes tid pid = pipeline_step_goes (step.Turn tid pid) (turned gens.first) tid pid.0 (λ ten at pipe whose. turned_goes tid pid ten pipe at whose) (slice_get state.tenants tid.0) refl
 
-  manage_step_goes : (tid : TenantId) (pid : PipelineId) (m : Manage) (o : Option TenantState) → slice_get state.tenants tid.0 ≡ o → Goes gens h (step.PostManage tid pid m) (with_tenant (on_pipeline (post_manage m) pid.0) tid.0 o state)
-  manage_step_goes tid pid m None at = quiet gens h state (step.PostManage tid pid m) Idle quiet_idle holds
-  manage_step_goes tid pid m (Some ten) at = manage_of_goes tid pid m ten at (slice_get ten.pipelines pid.0) refl
+  manage_step_goes : (tid : TenantId) (pid : PipelineId) (m : Manage) → Goes gens h (step.PostManage tid pid m) (with_tenant (on_pipeline (post_manage m) pid.0) tid.0 (slice_get state.tenants tid.0) state)
+  manage_step_goes tid pid m = pipeline_step_goes (step.PostManage tid pid m) (post_manage m) tid pid.0 (λ ten at pipe whose. managed_by tid pid ten pipe at whose m (nat_lt (length pipe.management) 4096)) (slice_get state.tenants tid.0) refl
 
-  result_of_goes : (tid : TenantId) (pid : PipelineId) (r : JobResult) (ten : TenantState) → slice_get state.tenants tid.0 ≡ Some ten → (o : Option Pipeline) → slice_get ten.pipelines pid.0 ≡ o →
-      TenantGoes (step.PostResult tid pid r) tid.0 (with_pipeline (post_result r) pid.0 o ten)
-  result_of_goes tid pid r ten at None whose = idle (step.PostResult tid pid r) tid.0 ten at
-  result_of_goes tid pid r ten at (Some pipe) whose = ended_by tid pid ten pipe at whose r (nat_lt (length pipe.results) 4096)
-
-  result_step_goes : (tid : TenantId) (pid : PipelineId) (r : JobResult) (o : Option TenantState) → slice_get state.tenants tid.0 ≡ o → Goes gens h (step.PostResult tid pid r) (with_tenant (on_pipeline (post_result r) pid.0) tid.0 o state)
-  result_step_goes tid pid r None at = quiet gens h state (step.PostResult tid pid r) Idle quiet_idle holds
-  result_step_goes tid pid r (Some ten) at = result_of_goes tid pid r ten at (slice_get ten.pipelines pid.0) refl
+  result_step_goes : (tid : TenantId) (pid : PipelineId) (r : JobResult) → Goes gens h (step.PostResult tid pid r) (with_tenant (on_pipeline (post_result r) pid.0) tid.0 (slice_get state.tenants tid.0) state)
+  result_step_goes tid pid r = pipeline_step_goes (step.PostResult tid pid r) (post_result r) tid pid.0 (λ ten at pipe whose. ended_by tid pid ten pipe at whose r (nat_lt (length pipe.results) 4096)) (slice_get state.tenants tid.0) refl
 
 -- what holds, holds after a step
 pub holds_on : (gens : Generations) (h : History) (state : State) (s : Step) → Holds gens h state → Goes gens h s (step_of gens state s)
@@ -365,6 +361,6 @@ holds_on gens h state (step.Send d) holds = send_goes gens h state holds d (slic
 holds_on gens h state (step.Fetch tid n) holds = fetch_goes gens h state holds tid n (slice_get state.tenants tid.0) refl
 holds_on gens h state (step.Match tid) holds = match_goes gens h state holds tid (slice_get state.tenants tid.0) refl
 holds_on gens h state (step.Give tid) holds = give_goes gens h state holds tid (slice_get state.tenants tid.0) refl
-holds_on gens h state (step.PostManage tid pid m) holds = manage_step_goes gens h state holds tid pid m (slice_get state.tenants tid.0) refl
-holds_on gens h state (step.PostResult tid pid r) holds = result_step_goes gens h state holds tid pid r (slice_get state.tenants tid.0) refl
-holds_on gens h state (step.Turn tid pid) holds = turn_step_goes gens h state holds tid pid (slice_get state.tenants tid.0) refl
+holds_on gens h state (step.PostManage tid pid m) holds = manage_step_goes gens h state holds tid pid m
+holds_on gens h state (step.PostResult tid pid r) holds = result_step_goes gens h state holds tid pid r
+holds_on gens h state (step.Turn tid pid) holds = turn_step_goes gens h state holds tid pid

@@ -22,7 +22,7 @@ use Rattle.gate_pipeline.specs.declared.which.Held.{Held}
 use Rattle.gate_pipeline.specs.declared.which.Held.TheVariants as held
 use Rattle.gate_pipeline.specs.declared.which.Taken.TheVariants as taking
 use Rattle.gate_pipeline.specs.Histories.{action_of, asking, held_ended, held_items, held_managed, is_end, managing, outcome_of, resulting, stamp_in, stamp_of, triggering}
-use Rattle.gate_pipeline.specs.States.{Processed, counted, found_empty, held_as, processed}
+use Rattle.gate_pipeline.specs.States.{Processed, State as WorkerState, counted, found_empty, held_as, processed}
 use Rattle.gate_pipeline.specs.Triggers.{trigger_of}
 use Rattle.gate_tenant.specs.Histories.{items_for}
 use Rattle.gate_core.specs.declared.pipeline.Pipeline.{Pipeline}
@@ -128,12 +128,37 @@ module _ (config : Config) (t p : ℕ) (ts : List Processed) (s : ItemsState) (s
   picked_more : {Y : Type 0} (f : Action → Option Y) → filter_map f (map action_of (ts ++ one ∷ [])) ≡ filter_map f so_far ++ option_to_list (f a)
   picked_more f = ap (filter_map f) (map-append action_of ts (one ∷ [])) ∙ filter_map_push f so_far a
 
+-- what a worker keeps when it only goes on in its pass, or holds something else
+abbrev kept : WorkerState → (Bool × ℕ) × (ℕ × (List Stamp × ItemsState))
+kept worker = ((worker.finished, worker.tenant), (worker.pipeline, (worker.done, worker.items)))
+
 module _ {config : Config} {t p : ℕ} {given : List (PipelineId × PipelineItem)} {pipe : Pipeline} {ts : List Processed} {fin : Bool} {ms : List Manage} {rs : List JobResult} (fits : PipeFits config t p given pipe ts fin ms rs) where
   abbrev s : ItemsState
   s = pipe.worker.items
 
   abbrev asked_for : Stamped → Action
   asked_for e = trigger_of config pipe.worker.tenant pipe.worker.pipeline e.stamp e.event
+
+  -- nothing is processed: what waits is split otherwise, or is more
+  still : (more : List (PipelineId × PipelineItem)) (pipe' : Pipeline) (ms' : List Manage) (rs' : List JobResult) → kept pipe'.worker ≡ kept pipe.worker →
+      items_for p more ≡ fits.taken ++ waiting_items pipe' → IsNoTrigger pipe'.worker.held →
+      filter_map managing (map action_of ts) ++ waiting_managed pipe' ≡ ms' → filter_map resulting (map action_of ts) ++ waiting_ended pipe' ≡ rs' → PipeFits config t p more pipe' ts fin ms' rs'
+  still more pipe' ms' rs' same parts plain manages ends = record {
+    taken = fits.taken;
+    parts = parts;
+    marked = fits.marked ∙ sym (ap (λ k. k.0.0) same);
+    finishes = ap (λ k. k.0.0) same ∙ fits.finishes;
+    tenant = ap (λ k. k.0.1) same ∙ fits.tenant;
+    number = ap (λ k. k.1.0) same ∙ fits.number;
+    plain = plain;
+    stamps = fits.stamps ∙ sym (ap (λ k. k.1.1.0) same);
+    asks = fits.asks;
+    does = ap (λ k. k.1.1.0) same ∙ fits.does;
+    items = ap (λ k. k.1.1.1) same ∙ fits.items;
+    outcome = fits.outcome;
+    manages = manages;
+    ends = ends;
+  }
 
   -- ---- what is held is processed
 
@@ -210,62 +235,23 @@ module _ {config : Config} {t p : ℕ} {given : List (PipelineId × PipelineItem
   -- a management event
   pub holds_managed : (m : Manage) (rest : List Manage) → pipe.management ≡ m ∷ rest → pipe.worker.held ≡ None →
       PipeFits config t p given (keeping (held.Action (action.Manage m)) (record pipe { management = rest })) ts fin ms rs
-  holds_managed m rest front free = record {
-    taken = fits.taken;
-    parts = free_parts free;
-    marked = fits.marked;
-    finishes = fits.finishes;
-    tenant = fits.tenant;
-    number = fits.number;
-    plain = tt;
-    stamps = fits.stamps;
-    asks = fits.asks;
-    does = fits.does;
-    items = fits.items;
-    outcome = fits.outcome;
-    manages = ap (λ (xs : List Manage). filter_map managing (map action_of ts) ++ xs) (sym front) ∙ free_manages free;
-    ends = free_ends free;
-  }
+  holds_managed m rest front free =
+      still given (keeping (held.Action (action.Manage m)) (record pipe { management = rest })) ms rs refl (free_parts free) tt
+      (ap (λ (xs : List Manage). filter_map managing (map action_of ts) ++ xs) (sym front) ∙ free_manages free) (free_ends free)
 
   -- a result
   pub holds_ended : (r : JobResult) (rest : List JobResult) → pipe.results ≡ r ∷ rest → pipe.worker.held ≡ None →
       PipeFits config t p given (keeping (held.Action (action.Result r)) (record pipe { results = rest })) ts fin ms rs
-  holds_ended r rest front free = record {
-    taken = fits.taken;
-    parts = free_parts free;
-    marked = fits.marked;
-    finishes = fits.finishes;
-    tenant = fits.tenant;
-    number = fits.number;
-    plain = tt;
-    stamps = fits.stamps;
-    asks = fits.asks;
-    does = fits.does;
-    items = fits.items;
-    outcome = fits.outcome;
-    manages = free_manages free;
-    ends = ap (λ (xs : List JobResult). filter_map resulting (map action_of ts) ++ xs) (sym front) ∙ free_ends free;
-  }
+  holds_ended r rest front free =
+      still given (keeping (held.Action (action.Result r)) (record pipe { results = rest })) ms rs refl (free_parts free) tt
+      (free_manages free) (ap (λ (xs : List JobResult). filter_map resulting (map action_of ts) ++ xs) (sym front) ∙ free_ends free)
 
   -- a trigger event
   pub holds_event : (e : Stamped) (rest : List PipelineItem) → pipe.triggers ≡ pipeline.Event e ∷ rest → pipe.worker.held ≡ None →
       PipeFits config t p given (keeping (held.Event e) (record pipe { triggers = rest })) ts fin ms rs
-  holds_event e rest front free = record {
-    taken = fits.taken;
-    parts = free_parts free ∙ ap (λ (xs : List PipelineItem). fits.taken ++ xs) front;
-    marked = fits.marked;
-    finishes = fits.finishes;
-    tenant = fits.tenant;
-    number = fits.number;
-    plain = tt;
-    stamps = fits.stamps;
-    asks = fits.asks;
-    does = fits.does;
-    items = fits.items;
-    outcome = fits.outcome;
-    manages = free_manages free;
-    ends = free_ends free;
-  }
+  holds_event e rest front free =
+      still given (keeping (held.Event e) (record pipe { triggers = rest })) ms rs refl (free_parts free ∙ ap (λ (xs : List PipelineItem). fits.taken ++ xs) front) tt
+      (free_manages free) (free_ends free)
 
   -- the end mark
   pub fits_end : (rest : List PipelineItem) → pipe.triggers ≡ pipeline.End ∷ rest → pipe.worker.held ≡ None →
@@ -290,97 +276,28 @@ module _ {config : Config} {t p : ℕ} {given : List (PipelineId × PipelineItem
 
   -- an empty queue
   pub fits_passed : PipeFits config t p given (record pipe { worker = found_empty pipe.worker }) ts fin ms rs
-  fits_passed = record {
-    taken = fits.taken;
-    parts = fits.parts;
-    marked = fits.marked;
-    finishes = fits.finishes;
-    tenant = fits.tenant;
-    number = fits.number;
-    plain = fits.plain;
-    stamps = fits.stamps;
-    asks = fits.asks;
-    does = fits.does;
-    items = fits.items;
-    outcome = fits.outcome;
-    manages = fits.manages;
-    ends = fits.ends;
-  }
+  fits_passed = still given (record pipe { worker = found_empty pipe.worker }) ms rs refl fits.parts fits.plain fits.manages fits.ends
 
   -- posts
   pub fits_manage_post : (m : Manage) → PipeFits config t p given (record pipe { management = pipe.management ++ m ∷ [] }) ts fin (ms ++ m ∷ []) rs
-  fits_manage_post m = record {
-    taken = fits.taken;
-    parts = fits.parts;
-    marked = fits.marked;
-    finishes = fits.finishes;
-    tenant = fits.tenant;
-    number = fits.number;
-    plain = fits.plain;
-    stamps = fits.stamps;
-    asks = fits.asks;
-    does = fits.does;
-    items = fits.items;
-    outcome = fits.outcome;
-    manages = ap (λ (xs : List Manage). filter_map managing (map action_of ts) ++ xs) (sym (append_assoc (held_managed pipe.worker.held) pipe.management (m ∷ [])))
-        ∙ sym (append_assoc (filter_map managing (map action_of ts)) (waiting_managed pipe) (m ∷ [])) ∙ ap (λ (xs : List Manage). xs ++ m ∷ []) fits.manages;
-    ends = fits.ends;
-  }
+  fits_manage_post m =
+      still given (record pipe { management = pipe.management ++ m ∷ [] }) (ms ++ m ∷ []) rs refl fits.parts fits.plain
+      (ap (λ (xs : List Manage). filter_map managing (map action_of ts) ++ xs) (sym (append_assoc (held_managed pipe.worker.held) pipe.management (m ∷ [])))
+      ∙ sym (append_assoc (filter_map managing (map action_of ts)) (waiting_managed pipe) (m ∷ [])) ∙ ap (λ (xs : List Manage). xs ++ m ∷ []) fits.manages) fits.ends
 
   pub fits_result_post : (r : JobResult) → PipeFits config t p given (record pipe { results = pipe.results ++ r ∷ [] }) ts fin ms (rs ++ r ∷ [])
-  fits_result_post r = record {
-    taken = fits.taken;
-    parts = fits.parts;
-    marked = fits.marked;
-    finishes = fits.finishes;
-    tenant = fits.tenant;
-    number = fits.number;
-    plain = fits.plain;
-    stamps = fits.stamps;
-    asks = fits.asks;
-    does = fits.does;
-    items = fits.items;
-    outcome = fits.outcome;
-    manages = fits.manages;
-    ends = ap (λ (xs : List JobResult). filter_map resulting (map action_of ts) ++ xs) (sym (append_assoc (held_ended pipe.worker.held) pipe.results (r ∷ [])))
-        ∙ sym (append_assoc (filter_map resulting (map action_of ts)) (waiting_ended pipe) (r ∷ [])) ∙ ap (λ (xs : List JobResult). xs ++ r ∷ []) fits.ends;
-  }
+  fits_result_post r =
+      still given (record pipe { results = pipe.results ++ r ∷ [] }) ms (rs ++ r ∷ []) refl fits.parts fits.plain fits.manages
+      (ap (λ (xs : List JobResult). filter_map resulting (map action_of ts) ++ xs) (sym (append_assoc (held_ended pipe.worker.held) pipe.results (r ∷ [])))
+      ∙ sym (append_assoc (filter_map resulting (map action_of ts)) (waiting_ended pipe) (r ∷ [])) ∙ ap (λ (xs : List JobResult). xs ++ r ∷ []) fits.ends)
 
   -- more is given, of which this is the pipeline's
   pub fits_given : (more : List (PipelineId × PipelineItem)) (items : List PipelineItem) → items_for p more ≡ items_for p given ++ items → PipeFits config t p more (record pipe { triggers = pipe.triggers ++ items }) ts fin ms rs
-  fits_given more items e = record {
-    taken = fits.taken;
-    parts = e ∙ ap (λ (xs : List PipelineItem). xs ++ items) fits.parts ∙ append_assoc fits.taken (waiting_items pipe) items
-        ∙ ap (λ (xs : List PipelineItem). fits.taken ++ xs) (append_assoc (held_items pipe.worker.held) pipe.triggers items);
-    marked = fits.marked;
-    finishes = fits.finishes;
-    tenant = fits.tenant;
-    number = fits.number;
-    plain = fits.plain;
-    stamps = fits.stamps;
-    asks = fits.asks;
-    does = fits.does;
-    items = fits.items;
-    outcome = fits.outcome;
-    manages = fits.manages;
-    ends = fits.ends;
-  }
+  fits_given more items e =
+      still more (record pipe { triggers = pipe.triggers ++ items }) ms rs refl
+      (e ∙ ap (λ (xs : List PipelineItem). xs ++ items) fits.parts ∙ append_assoc fits.taken (waiting_items pipe) items
+      ∙ ap (λ (xs : List PipelineItem). fits.taken ++ xs) (append_assoc (held_items pipe.worker.held) pipe.triggers items)) fits.plain fits.manages fits.ends
 
   -- more is given to others
   pub fits_still : (more : List (PipelineId × PipelineItem)) → items_for p more ≡ items_for p given → PipeFits config t p more pipe ts fin ms rs
-  fits_still more e = record {
-    taken = fits.taken;
-    parts = e ∙ fits.parts;
-    marked = fits.marked;
-    finishes = fits.finishes;
-    tenant = fits.tenant;
-    number = fits.number;
-    plain = fits.plain;
-    stamps = fits.stamps;
-    asks = fits.asks;
-    does = fits.does;
-    items = fits.items;
-    outcome = fits.outcome;
-    manages = fits.manages;
-    ends = fits.ends;
-  }
+  fits_still more e = still more pipe ms rs refl (e ∙ fits.parts) fits.plain fits.manages fits.ends

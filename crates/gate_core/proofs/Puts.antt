@@ -1,5 +1,5 @@
 -- What one step more does to what a history says of a connection's entries and renewals.
-use Rattle.std.proofs.Common.{◌≡◌, ◌∙◌, sym, ap, ℕ, ◌+◌, List, [], ◌∷◌, ◌++◌, Bool, false, length, Option, Some, None, option_map, if◌then◌else◌, arith, add-zero, zero-add, append-nil, append_assoc}
+use Rattle.std.proofs.Common.{◌≡◌, ◌∙◌, sym, ap, refl, ℕ, ◌+◌, List, [], ◌∷◌, ◌++◌, Bool, false, length, Option, Some, None, option_map, if◌then◌else◌, arith, add-zero, zero-add, append-nil, append_assoc}
 use Rattle.std.specs.Prelude.{◌&&◌}
 use Rattle.std.specs.List.{cons_option}
 use Rattle.std.specs.Option.{option_to_list}
@@ -38,25 +38,25 @@ count_cons (Some line) records = omega arith
 counted : (c n : ℕ) (x : Step × Answer) (h : History) → (n + length (option_to_list (accepted_in c x))) + length (accepted_records c h) ≡ n + length (accepted_records c (x ∷ h))
 counted c n x h = let one = count_cons (accepted_in c x) (accepted_records c h) in omega (arith, one)
 
-put_more : (c n : ℕ) (h : History) (e : Step × Answer) → put_from c n (h ++ e ∷ []) ≡ put_from c n h ++ put_in c (n + length (accepted_records c h)) e
-put_more c n [] e = append-nil (put_in c n e) ∙ ap (λ m. put_in c m e) (sym (add-zero n))
-put_more c n (x ∷ h) e =
-    let m = n + length (option_to_list (accepted_in c x)) in
-    ap (λ rest. put_in c n x ++ rest) (put_more c m h e ∙ ap (λ k. put_from c m h ++ put_in c k e) (counted c n x h))
-    ∙ sym (append_assoc (put_in c n x) (put_from c m h) (put_in c (n + length (accepted_records c (x ∷ h))) e))
+-- what is listed of each event, by how many records were accepted before it, and one event more
+module _ {X : Type 0} (c : ℕ) (listed : ℕ → History → List X) (one : ℕ → Step × Answer → List X) (nil : (n : ℕ) → listed n [] ≡ [])
+    (cons : (n : ℕ) (x : Step × Answer) (h : History) → listed n (x ∷ h) ≡ one n x ++ listed (n + length (option_to_list (accepted_in c x))) h) where
+  listed_more : (n : ℕ) (h : History) (e : Step × Answer) → listed n (h ++ e ∷ []) ≡ listed n h ++ one (n + length (accepted_records c h)) e
+  listed_more n [] e =
+      cons n e [] ∙ ap (λ rest. one n e ++ rest) (nil (n + length (option_to_list (accepted_in c e)))) ∙ append-nil (one n e) ∙ ap (λ m. one m e) (sym (add-zero n))
+      ∙ ap (λ front. front ++ one (n + 0) e) (sym (nil n))
+  listed_more n (x ∷ h) e =
+      let m = n + length (option_to_list (accepted_in c x)) in
+      let last = one (n + length (accepted_records c (x ∷ h))) e in
+      cons n x (h ++ e ∷ []) ∙ ap (λ rest. one n x ++ rest) (listed_more m h e ∙ ap (λ k. listed m h ++ one k e) (counted c n x h))
+      ∙ sym (append_assoc (one n x) (listed m h) last) ∙ ap (λ front. front ++ last) (sym (cons n x h))
 
 pub put_push : (c : ℕ) (h : History) (e : Step × Answer) → put_by c (h ++ e ∷ []) ≡ put_by c h ++ put_in c (length (accepted_records c h)) e
-put_push c h e = put_more c 0 h e ∙ ap (λ n. put_by c h ++ put_in c n e) (zero-add (length (accepted_records c h)))
-
-renewals_more : (c n : ℕ) (h : History) (e : Step × Answer) → renewals_from c n (h ++ e ∷ []) ≡ renewals_from c n h ++ renewal_in c (n + length (accepted_records c h)) e
-renewals_more c n [] e = append-nil (renewal_in c n e) ∙ ap (λ m. renewal_in c m e) (sym (add-zero n))
-renewals_more c n (x ∷ h) e =
-    let m = n + length (option_to_list (accepted_in c x)) in
-    ap (λ rest. renewal_in c n x ++ rest) (renewals_more c m h e ∙ ap (λ k. renewals_from c m h ++ renewal_in c k e) (counted c n x h))
-    ∙ sym (append_assoc (renewal_in c n x) (renewals_from c m h) (renewal_in c (n + length (accepted_records c (x ∷ h))) e))
+put_push c h e = listed_more c (put_from c) (put_in c) (λ n. refl) (λ n x h. refl) 0 h e ∙ ap (λ n. put_by c h ++ put_in c n e) (zero-add (length (accepted_records c h)))
 
 pub renewals_push : (c : ℕ) (h : History) (e : Step × Answer) → renewals c (h ++ e ∷ []) ≡ renewals c h ++ (if renewed_in c e then length (accepted_records c h) ∷ [] else [])
-renewals_push c h e = renewals_more c 0 h e ∙ ap (λ n. renewals c h ++ renewal_in c n e) (zero-add (length (accepted_records c h)))
+renewals_push c h e =
+    listed_more c (renewals_from c) (renewal_in c) (λ n. refl) (λ n x h. refl) 0 h e ∙ ap (λ n. renewals c h ++ renewal_in c n e) (zero-add (length (accepted_records c h)))
 
 -- ---- a step that puts nothing
 

@@ -21,13 +21,21 @@ pub fn push_answer(out: &mut String, answer: &Answer) -> Result<(), Memory>
         Answer::Full => out.push_str("full\n")?,
         Answer::Moved => out.push_str("moved\n")?,
         Answer::Idle => out.push_str("idle\n")?,
-        Answer::Passed => out.push_str("passed\n")?,
+        Answer::Passed => push_passed(out)?,
     }
     Ok(())
 }
 
 ghost use Rattle.gate_core.specs.Output.{action_text, outcome_text, stamp_text, turned_line};
-ghost use Rattle.gate_core.specs.declared.answer.Answer.TheVariants.{Accepted};
+ghost use Rattle.gate_core.specs.declared.answer.Answer.TheVariants.{Accepted, Passed};
+
+/// Adds the answer of a turn that found its queue empty.
+pub(crate) fn push_passed(out: &mut String) -> Result<(), Memory>
+    ensures { OnOk result (string_bytes out.new ≡ string_bytes out.old ++ answer_line Passed) }
+{
+    out.push_str("passed\n")?;
+    Ok(())
+}
 
 fn push_accepted(out: &mut String, number: u64) -> Result<(), Memory>
     ensures { OnOk result (string_bytes out.new ≡ string_bytes out.old ++ answer_line (Accepted number)) }

@@ -91,7 +91,7 @@ impl Pipeline {
     }
 
     // Processes what is held, or takes one value of the phase's queue, or finds it empty. Where memory is refused, what
-    // was taken is held. Most turns of a script find an empty queue, so that comes first, apart from what makes large answers.
+    // was taken is held.
     #[inline(never)]
     fn turn(&mut self, config: &Config) -> Result<Answer, Memory>
         ensures does { Does (refused self.old) (turned config.now self.old) self.new result }
@@ -107,8 +107,8 @@ impl Pipeline {
     ghost use Rattle.gate_core.specs.Pipelines.{Emptiness, found, passed_on};
     ghost use Rattle.gate_core.specs.declared.answer.Answer.TheVariants.{Passed};
 
-    // Goes on to the next phase where the queue of this one is empty, and says whether it did.
-    fn passes(&mut self) -> bool
+    /// Goes on to the next phase where the queue of this one is empty, and says whether it did.
+    pub fn passes(&mut self) -> bool
         ensures passes { result ≡ true → (found self.old ≡ Emptiness) × ((self.new, Passed) ≡ passed_on self.old) }
         ensures stays { result ≡ false → (self.new ≡ self.old) × (found self.old ≢ Emptiness) }
     {

@@ -5,9 +5,9 @@ ghost use Rattle.gate_core.specs.Inner.Replays.{played};
 ghost use Rattle.gate_core.specs.Steps.{first};
 ghost use Rattle.gate_core.specs.Worlds.{AcceptedAtMost, gens_of, state_of};
 
-use crate::output::push_answer;
+use crate::output::{push_answer, push_passed};
 use crate::script::{ScriptFault, Scripted};
-use crate::script_lines::read_script_line;
+use crate::script_lines::{read_script_line, turn_in};
 use crate::showing::push_shown;
 use crate::step::Step;
 use crate::world::World;
@@ -63,6 +63,55 @@ fn play_line(
     if is_skipped(line) {
         return Ok(());
     }
+    match turn_in(line) {
+        Some((tenant, pipeline)) => match play_turn(world, tenant, pipeline, out) {
+            Ok(()) => Ok(()),
+            Err(Memory) => Err(ScriptFault::Memory),
+        },
+        None => play_other(alloc, world, line, before, out),
+    }
+}
+
+ghost use Rattle.std.specs.Prelude.{◌++◌, ◌∷◌, [], ℕ, OnOk, false};
+ghost use Rattle.gate_core.specs.Replays.{script_lines, steps_in};
+ghost use Rattle.gate_core.specs.Steps.{left_by};
+ghost use Rattle.gate_core.specs.declared.step.Step.TheVariants.{Turn};
+ghost use Rattle.gate_line.specs.Words.{is_skipped};
+
+// Takes the turn of a pipeline, whose answer goes to the end of a text.
+fn play_turn(
+    world: &mut World<'_>,
+    tenant: TenantId,
+    pipeline: PipelineId,
+    out: &mut String,
+) -> Result<(), Memory>
+    ensures gens { gens_of world.new ≡ gens_of world.old }
+    ensures counts { (most : ℕ) → AcceptedAtMost most (state_of world.old) → AcceptedAtMost (most + 1) (state_of world.new) }
+    ensures left { OnOk result (state_of world.new ≡ left_by (gens_of world.old) (state_of world.old) (Turn tenant pipeline ∷ [])) }
+    ensures printed { OnOk result (string_bytes out.new ≡ string_bytes out.old ++ script_lines (gens_of world.old) (state_of world.old) (Scripted.Step (Turn tenant pipeline) ∷ [])) }
+{
+    if world.passes(tenant, pipeline) {
+        return push_passed(out);
+    }
+    play_step(world, Step::Turn(tenant, pipeline), out)
+}
+
+// Plays a line that isn't skipped, and stands behind so many.
+#[inline(never)]
+fn play_other(
+    alloc: Global,
+    world: &mut World<'_>,
+    line: &[u8],
+    before: usize,
+    out: &mut String,
+) -> Result<(), ScriptFault>
+    requires speaks { is_skipped line.now ≡ false }
+    requires counts { AcceptedAtMost before (state_of world.old) }
+    requires room { before + 1 < 2 ^ 64 }
+    ensures gens { gens_of world.new ≡ gens_of world.old }
+    ensures counts { AcceptedAtMost (before + 1) (state_of world.new) }
+    ensures plays { PlaysLine (gens_of world.old) (state_of world.old) (string_bytes out.old) (line_adds line.now) (state_of world.new) (string_bytes out.new) (before + 1) result }
+{
     match read_script_line(alloc, line) {
         Ok(scripted) => match play(alloc, world, scripted, before, out) {
             Ok(()) => Ok(()),
@@ -72,10 +121,6 @@ fn play_line(
         Err(_) => Err(ScriptFault::Script(before + 1)),
     }
 }
-
-ghost use Rattle.std.specs.Prelude.{◌++◌, ◌∷◌, [], ℕ, OnOk};
-ghost use Rattle.gate_core.specs.Replays.{script_lines, steps_in};
-ghost use Rattle.gate_core.specs.Steps.{left_by};
 
 // Plays what a line stands for. So many lines stood before it.
 fn play(

@@ -1,7 +1,8 @@
 //! The lines of a script.
-ghost use Rattle.std.specs.Prelude.{◌≡◌, IfErr, option_copied};
+ghost use Rattle.std.specs.Prelude.{◌≡◌, IfErr, IfSome, Ok, option_copied};
 ghost use Rattle.gate_line.specs.Fields.{Answers, IsOwn};
 ghost use Rattle.gate_core.specs.Script.{has_bytes, scripted_of, show_of, step_has_bytes, step_named};
+ghost use Rattle.gate_core.specs.declared.step.Step.TheVariants.{Turn};
 
 use crate::script::Scripted;
 use crate::step::Step;
@@ -23,6 +24,21 @@ pub fn read_script_line(alloc: Global, line: &[u8]) -> Result<Scripted, LineFaul
     }
     let step = step_named(alloc, word, rest)?;
     Ok(Scripted::Step(step))
+}
+
+/// The turn that a line stands for, if it is one: its tenant and pipeline. Most lines of a long script are turns, and no step is made
+/// for them.
+pub(crate) fn turn_in(line: &[u8]) -> Option<(TenantId, PipelineId)>
+    ensures { IfSome result (λ turn. scripted_of line.now ≡ Ok (Scripted.Step (Turn turn.0 turn.1))) }
+{
+    let (word, rest) = split_word(line);
+    if !is_word(word, "turn") {
+        return None;
+    }
+    match two_of(Field::Tenant, Field::Pipeline, rest) {
+        Ok((tenant, pipeline)) => Some((TenantId(tenant), PipelineId(pipeline))),
+        Err(_) => None,
+    }
 }
 
 fn show_of(rest: Option<&[u8]>) -> Result<Scripted, LineFault>

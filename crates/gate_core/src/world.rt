@@ -1,4 +1,4 @@
-ghost use Rattle.std.specs.Prelude.{◌≡◌, ◌+◌, ℕ, IfOk, OnErr, Some, option_map, slice_get};
+ghost use Rattle.std.specs.Prelude.{◌≡◌, ◌+◌, ℕ, IfOk, OnErr, Some, false, option_map, slice_get, true};
 ghost use Rattle.gate_core.specs.Inner.Views.{AreConnections, AreTenants};
 
 use crate::answer::Answer;
@@ -112,6 +112,25 @@ impl<'c> World<'c> {
         let tenant = self.tenants.get(tenant.0 as usize)?;
         let pipeline = tenant.pipelines.get(pipeline.0 as usize)?;
         Some(pipeline.worker.state())
+    }
+
+    ghost use Rattle.gate_core.specs.declared.answer.Answer.TheVariants.{Passed};
+    ghost use Rattle.gate_core.specs.declared.step.Step.TheVariants.{Turn};
+
+    /// Takes the turn of a pipeline that finds its queue empty, and says whether it is one. Most turns of a script are, and no
+    /// answer is made for them.
+    pub(crate) fn passes(&mut self, tenant: TenantId, pipeline: PipelineId) -> bool
+        ensures gens { gens_of self.new ≡ gens_of self.old }
+        ensures passes { result ≡ true → (state_of self.new, Passed) ≡ step_of (gens_of self.old) (state_of self.old) (Turn tenant pipeline) }
+        ensures stays { result ≡ false → state_of self.new ≡ state_of self.old }
+    {
+        match self.tenants.get_mut(tenant.0 as usize) {
+            Some(tenant) => match tenant.pipelines.get_mut(pipeline.0 as usize) {
+                Some(pipeline) => pipeline.passes(),
+                None => false,
+            },
+            None => false,
+        }
     }
 
     // What a connection does by itself: `Idle` where there is none of that number.

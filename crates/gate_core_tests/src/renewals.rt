@@ -1,6 +1,7 @@
 //! Steps by two generations of a configuration: the second asks for comments, and the first for patch sets.
+use crate::steps::push_report;
 use gate_config::{Generations, read_generations};
-use gate_core::{Answer, Scripted, Step, Transcript, play, read_script, report_text, run};
+use gate_core::{Answer, Scripted, Step, Transcript, play, read_script, run};
 use gate_items::Outcome;
 use gate_record::Queue;
 use gate_test_lines::comes_to;
@@ -138,7 +139,7 @@ fn is_told(alloc: Global, gens: &Generations, transcript: &Transcript<'_>) -> Re
     for answer in transcript.answers.as_slice() {
         push_answer(&mut text, answer)?;
     }
-    push_told(alloc, &mut text, gens, transcript)?;
+    push_report(alloc, &mut text, gens.first(), &transcript.world)?;
     comes_to("a run", text.as_str(), TOLD)
 }
 
@@ -156,15 +157,4 @@ fn push_answer(text: &mut String, answer: &Answer) -> Result<(), AllocError> {
         ),
         _ => text.push_str("another answer\n"),
     }
-}
-
-fn push_told(
-    alloc: Global,
-    text: &mut String,
-    gens: &Generations,
-    transcript: &Transcript<'_>,
-) -> Result<(), Fail> {
-    let report = transcript.world.report()?;
-    let told = report_text(alloc, gens.first(), &report)?;
-    Ok(text.push_str(told.as_str())?)
 }

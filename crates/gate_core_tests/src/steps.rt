@@ -71,7 +71,7 @@ fn push_shown(alloc: Global, text: &mut String, world: &World<'_>) -> Result<(),
     Ok(text.push_str(shown.as_str())?)
 }
 
-fn push_report(
+pub(crate) fn push_report(
     alloc: Global,
     text: &mut String,
     config: &Config,

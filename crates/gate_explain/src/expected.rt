@@ -26,9 +26,6 @@ pub fn push_expected(out: &mut String, document: &Value, fault: &ConfigFault) ->
 
 const MANAGER: &str = "one of the managers \"independent\" and \"dependent\"";
 
-const ATTRIBUTES: &str =
-    "attributes event branch ref username email comment approval ignore-deletes";
-
 const PATTERN: &str =
     "a pattern that `regex` builds: it has no look-around and no references back, and what is built isn't too large";
 
@@ -83,6 +80,9 @@ fn push_shape(out: &mut String, seen: Seen<'_>) -> Added {
     push_key(out, Kind::Pattern, "keys regex negate", seen.key)?;
     Ok(out.push_str(" An entry without it might be met by other texts, so it isn't ignored.")?)
 }
+
+const ATTRIBUTES: &str =
+    "attributes event branch ref username email comment approval ignore-deletes";
 
 fn push_attribute(out: &mut String, key: &str) -> Added {
     push_key(out, Kind::Rule, ATTRIBUTES, key)?;

@@ -136,10 +136,8 @@ pub const ROWS: &[Row] = rows! {
 /// The kind of the value at a key of an object of this kind, if it is read.
 pub fn read_kind(kind: Kind, key: &str) -> Option<Kind> {
     for row in ROWS {
-        match row {
-            Row::Read(it, keys, found) if *it == kind && has(*keys, key) => return Some(*found),
-            Row::Any(it, found) if *it == kind => return Some(*found),
-            _ => {}
+        if let Some(found) = row.read(kind, key) {
+            return Some(found);
         }
     }
     None
@@ -148,13 +146,31 @@ pub fn read_kind(kind: Kind, key: &str) -> Option<Kind> {
 /// What follows from a key in an object of this kind, if it is ignored.
 pub fn follows_from(kind: Kind, key: &str) -> Option<&'static str> {
     for row in ROWS {
-        match row {
-            Row::Ignored(it, keys, text) if *it == kind && has(*keys, key) => return Some(*text),
-            Row::Others(it, text) if *it == kind => return Some(*text),
-            _ => {}
+        if let Some(text) = row.ignored(kind, key) {
+            return Some(text);
         }
     }
     None
+}
+
+impl Row {
+    // The kind of the value at a key of an object of this kind, if this row says that it is read.
+    fn read(&self, kind: Kind, key: &str) -> Option<Kind> {
+        match self {
+            Row::Read(it, keys, found) if *it == kind && has(*keys, key) => Some(*found),
+            Row::Any(it, found) if *it == kind => Some(*found),
+            _ => None,
+        }
+    }
+
+    // What follows from a key in an object of this kind, if this row says that it is ignored.
+    fn ignored(&self, kind: Kind, key: &str) -> Option<&'static str> {
+        match self {
+            Row::Ignored(it, keys, text) if *it == kind && has(*keys, key) => Some(*text),
+            Row::Others(it, text) if *it == kind => Some(*text),
+            _ => None,
+        }
+    }
 }
 
 fn has(keys: &str, key: &str) -> bool {

@@ -8,22 +8,12 @@ use serde_json::{Map, Value};
 
 const NO_TENANT_HERE: &str = "it has neither `tenant` nor `name`, so it is ignored";
 
-const NAMELESS: &str =
-    "it has no text `name`, so it is ignored, where Zuul takes the project that it stands in";
-
-const PATTERN: &str =
-    "its name begins with `^`, so it is ignored: its jobs aren't those of the projects that it means";
-
-const UNLISTED: &str = "the tenant lists no project of this name, so no event of it enters";
-
 const NO_TENANT: &str = "no tenant has this name, so nothing of it is read";
 
 const NO_CONNECTION: &str =
     "the tenant lists no connection of this name, so these rules select nothing";
 
 const NO_PIPELINE: &str = "the tenant has no pipeline of this name, so its jobs never run";
-
-const UNKNOWN: &str = "no member of this name is known here, so it is ignored";
 
 /// Adds what of a document isn't applied.
 pub fn push_unapplied(out: &mut String, document: &Document<'_>) -> Added {
@@ -112,17 +102,8 @@ impl<'d, 'v> Walk<'d, 'v> {
     fn whole(&self, value: &Value, kind: Kind) -> Option<&'static str> {
         match kind {
             Kind::Tenant if text_at(value, "name").is_none() => Some(NO_TENANT_HERE),
-            Kind::Project => self.stanza(text_at(value, "name")),
+            Kind::Project => stanza(text_at(value, "name"), self.tenant),
             Kind::ListedProject | Kind::ProjectJob if !value.is_object() => follows_from(kind, ""),
-            _ => None,
-        }
-    }
-
-    fn stanza(&self, name: Option<&str>) -> Option<&'static str> {
-        match (name, self.tenant) {
-            (None, _) => Some(NAMELESS),
-            (Some(name), _) if name.starts_with("^") => Some(PATTERN),
-            (Some(name), Some(tenant)) if !tenant.has_project(name) => Some(UNLISTED),
             _ => None,
         }
     }
@@ -184,6 +165,26 @@ impl<'d, 'v> Walk<'d, 'v> {
         Next::Tell(NO_PIPELINE, nearest)
     }
 }
+
+const NAMELESS: &str =
+    "it has no text `name`, so it is ignored, where Zuul takes the project that it stands in";
+
+const PATTERN: &str =
+    "its name begins with `^`, so it is ignored: its jobs aren't those of the projects that it means";
+
+const UNLISTED: &str = "the tenant lists no project of this name, so no event of it enters";
+
+// What is to be said of a project of this name in the list of a tenant.
+fn stanza(name: Option<&str>, tenant: Option<&Tenant<'_>>) -> Option<&'static str> {
+    match (name, tenant) {
+        (None, _) => Some(NAMELESS),
+        (Some(name), _) if name.starts_with("^") => Some(PATTERN),
+        (Some(name), Some(tenant)) if !tenant.has_project(name) => Some(UNLISTED),
+        _ => None,
+    }
+}
+
+const UNKNOWN: &str = "no member of this name is known here, so it is ignored";
 
 // A member that isn't read.
 fn setting(kind: Kind, key: &str) -> Next<'static> {

@@ -1,58 +1,24 @@
 -- What tenants have of what was loaded, after any history of calls.
-use Rattle.std.proofs.Common.{◌≡◌, ◌∙◌, refl, sym, ap, ℕ, zero, suc, ◌+◌, ◌<◌, ◌==◌, List, [], ◌∷◌, ◌++◌, Bool, true, false, length, Option, Some, None, option_map, if◌then◌else◌, append-nil, append_assoc, arith, eqb-true}
-use Rattle.std.proofs.lemmas.Bool.{eq-eqb}
+use Rattle.std.proofs.Common.{◌≡◌, ◌∙◌, refl, sym, ap, ℕ, suc, ◌<◌, List, [], ◌∷◌, ◌++◌, length, Option, Some, None, append-nil, append_assoc}
 use Rattle.std.proofs.lemmas.List.Elements.{filter_map-append}
 use Rattle.std.proofs.lemmas.List.Sums.{fold-append}
-use Rattle.std.specs.List.{cons_option, filter_map, range_with_len}
+use Rattle.std.specs.List.{cons_option, filter_map}
 use Rattle.std.specs.Option.{option_to_list}
-use Rattle.gate_record.specs.declared.ids.TenantId.{TenantId}
 use Rattle.gate_record.specs.declared.transit.ConnEntry.{ConnEntry}
 use Rattle.gate_record.specs.declared.transit.ConnEntry.TheVariants as entry
 use Rattle.gate_record.specs.declared.transit.TenantItem.{TenantItem}
 use Rattle.gate_record.specs.Entries.{behind, generation_behind, with_generations}
 use Rattle.gate_record.specs.Generations.{EntriesHaveGenerations}
+use Rattle.gate_record.proofs.Addressed.{has_its_own}
 use Rattle.gate_config.specs.declared.generations.Generations.{Generations}
 use Rattle.gate_config.specs.Lookups.{tenants_of}
 use Rattle.gate_forward.specs.Forwarding.{for_tenant, forwarded, forwarded_at, forwarded_entry, sends}
 use Rattle.gate_forward.specs.Histories.{EachTenantGetsItsOwn, Happens, History, begins, comes_back, ends, is_sent, item_to, items_to, loads, moves, renews}
 
-differs : (a t : ℕ) → (a ≡ t → ⊥) → (a == t) ≡ false
-differs a t other = by (a == t) refl
-  where
-    by : (b : Bool) → (a == t) ≡ b → (a == t) ≡ false
-    by true e = absurd (other (eqb-true a t e))
-    by false e = e
-
 -- ---- what an entry sends to a tenant
 
-module _ (gets : ℕ → Option TenantItem) where
-  mine : (t u : ℕ) (o : Option TenantItem) (rest : List (TenantId × TenantItem)) → (u == t) ≡ true → items_to t (cons_option (option_map (for_tenant u) o) rest) ≡ option_to_list o ++ items_to t rest
-  mine t u None rest e = refl
-  mine t u (Some item) rest e = ap (λ b. cons_option (if b then Some item else None) (items_to t rest)) e
-
-  others : (t u : ℕ) (o : Option TenantItem) (rest : List (TenantId × TenantItem)) → (u == t) ≡ false → items_to t (cons_option (option_map (for_tenant u) o) rest) ≡ items_to t rest
-  others t u None rest e = refl
-  others t u (Some item) rest e = ap (λ b. cons_option (if b then Some item else None) (items_to t rest)) e
-
-  none_behind : (t a n : ℕ) → t < a → items_to t (filter_map (λ u. option_map (for_tenant u) (gets u)) (range_with_len a n)) ≡ []
-  none_behind t a zero h = refl
-  none_behind t a (suc n) h =
-      others t a (gets a) (filter_map (λ u. option_map (for_tenant u) (gets u)) (range_with_len (a + 1) n)) (differs a t (λ e. absurd (omega (arith, e, h))))
-      ∙ none_behind t (a + 1) n (omega (arith, h))
-
-  among : (t a k n : ℕ) → a + k ≡ t → k < n → items_to t (filter_map (λ u. option_map (for_tenant u) (gets u)) (range_with_len a n)) ≡ option_to_list (gets t)
-  among t a k zero e h = absurd (omega (arith, h))
-  among t a zero (suc n) e h =
-      let at : a ≡ t = omega (arith, e) in
-      mine t a (gets a) (filter_map (λ u. option_map (for_tenant u) (gets u)) (range_with_len (a + 1) n)) (eq-eqb a t at)
-      ∙ ap (λ xs. option_to_list (gets a) ++ xs) (none_behind t (a + 1) n (omega (arith, at)))
-      ∙ append-nil (option_to_list (gets a)) ∙ ap (λ u. option_to_list (gets u)) at
-  among t a (suc k) (suc n) e h =
-      others t a (gets a) (filter_map (λ u. option_map (for_tenant u) (gets u)) (range_with_len (a + 1) n)) (differs a t (λ same. absurd (omega (arith, same, e))))
-      ∙ among t (a + 1) k n (omega (arith, e)) (omega (arith, h))
-
 sent_to : (gens : Generations) (t c g : ℕ) (e : ConnEntry) → t < length (tenants_of gens.first) → items_to t (sends gens c g e) ≡ option_to_list (forwarded_entry gens t c g e)
-sent_to gens t c g e h = among (λ u. forwarded_entry gens u c g e) t 0 t (length (tenants_of gens.first)) (omega arith) h
+sent_to gens t c g e h = has_its_own for_tenant item_to (λ n m item. refl) (λ u. forwarded_entry gens u c g e) t (length (tenants_of gens.first)) h
 
 -- ---- any history
 

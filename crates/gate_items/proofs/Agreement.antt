@@ -1,6 +1,6 @@
 -- The index of a pipeline's items agrees with them after each change.
 use Rattle.std.proofs.Common.{◌≡◌, ◌∙◌, ◌+◌, ◌<◌, ◌≤◌, ℕ, List, [], ◌∷◌, ◌++◌, Bool, true, false, cond, Option, Some, None, map, nat_eq, refl, sym, ap, arith, subst}
-use Rattle.std.specs.Prelude.{IsSome, is_some}
+use Rattle.std.specs.Prelude.{IsSome, is_some, unwrap_or}
 use Rattle.std.specs.BTreeMap.{insert_entry, is_at}
 use Rattle.std.specs.Cmp.{unsigned_ties}
 use Rattle.std.specs.List.{list_all}
@@ -60,14 +60,7 @@ away_by None next low = refl
 away_by (Some place) next low = at_apart place next (λ s. omega (arith, s, low place refl))
 
 pub new_live : (b : Bool) (o o' : Option ℕ) (next place : ℕ) (P : ℕ → Type 0) → o' ≡ cond b (Some next) o → (o ≡ Some place → P place) → P next → o' ≡ Some place → P place
-new_live true o o' next place P e old new is = subst P (number (sym e ∙ is)) new
-  where
-    number : Some next ≡ Some place → next ≡ place
-    number h = ap (λ (x : Option ℕ). of x) h
-      where
-        of : Option ℕ → ℕ
-        of None = next
-        of (Some n) = n
+new_live true o o' next place P e old new is = subst P (ap (λ (o : Option ℕ). unwrap_or o next) (sym e ∙ is)) new
 new_live false o o' next place P e old new is = old (sym e ∙ is)
 
 -- ---- an index that agrees

@@ -250,31 +250,34 @@ module _ (next : ℕ) (items : List QueueItem) (told : List Report) where
         is_meant : item.set ∷ [] ≡ option_to_list (set_under s key)
         is_meant = ap (λ (o : Option QueueItem). option_to_list (option_map (λ (x : QueueItem). x.set) o)) (sym found)
 
-        replaced_parts : Parts s trigger (left_over ++ new ∷ []) 1
-        replaced_parts = record {
+        -- the parts of what is made of the items on both sides of it
+        around : (a : Action) (made : List QueueItem) (sets : ℕ) → ((n : ℕ) → n < next → times n made ≡ times n (before (is_of key) items) + times n (behind (is_of key) items)) →
+            item.set ∷ [] ≡ option_to_list (option_and_then (set_under s) (key_meant a)) → ((other : Key) → keyed other made ≤ 1) →
+            ((other : Key) → under other (waiting made) ≡ set_behind s a (map report_of (filter is_complete made)) other) → Parts s a made sets
+        around a made sets keeps meant one_each leaves = record {
           ahead = before (is_of key) items;
           lost = item ∷ [];
           others = behind (is_of key) items;
           old = split (is_of key) items item found keys;
-          keeps = λ n h. omega (arith, times-append n left_over (new ∷ []), times-append n (before (is_of key) items) (behind (is_of key) items), not_next n h);
-          meant = is_meant;
-          keys = λ other. few left_over other (is_same key other) refl (λ same. none_left (is_of key) items item found keys other (same_key other ∙ same)) (omega (arith, keyed_without (is_of key) items item found keys other, keys other));
-          leaves = λ other. quiet trigger (left_over ++ new ∷ []) other (each_append Waits left_over (new ∷ []) left_wait (new_waits key patchset next names some, tt))
-              (added_by left_over other (is_same key other) refl (λ same. none_left (is_of key) items item found keys other (same_key other ∙ same))
-              (λ differs. left_under other ∙ ap (λ (b : Bool). cond b None (under other items)) differs));
+          keeps = keeps;
+          meant = meant;
+          keys = one_each;
+          leaves = leaves;
         }
 
+        replaced_parts : Parts s trigger (left_over ++ new ∷ []) 1
+        replaced_parts =
+            around trigger (left_over ++ new ∷ []) 1 (λ n h. omega (arith, times-append n left_over (new ∷ []), times-append n (before (is_of key) items) (behind (is_of key) items), not_next n h)) is_meant
+            (λ other. few left_over other (is_same key other) refl (λ same. none_left (is_of key) items item found keys other (same_key other ∙ same)) (omega (arith, keyed_without (is_of key) items item found keys other, keys other)))
+            (λ other. quiet trigger (left_over ++ new ∷ []) other (each_append Waits left_over (new ∷ []) left_wait (new_waits key patchset next names some, tt))
+            (added_by left_over other (is_same key other) refl (λ same. none_left (is_of key) items item found keys other (same_key other ∙ same))
+            (λ differs. left_under other ∙ ap (λ (b : Bool). cond b None (under other items)) differs)))
+
         dequeued_parts : Parts s (action.Manage (manage.Dequeue key)) left_over 0
-        dequeued_parts = record {
-          ahead = before (is_of key) items;
-          lost = item ∷ [];
-          others = behind (is_of key) items;
-          old = split (is_of key) items item found keys;
-          keeps = λ n h. times-append n (before (is_of key) items) (behind (is_of key) items);
-          meant = is_meant;
-          keys = λ other. omega (arith, keyed_without (is_of key) items item found keys other, keys other);
-          leaves = λ other. quiet (action.Manage (manage.Dequeue key)) left_over other left_wait (left_under other);
-        }
+        dequeued_parts =
+            around (action.Manage (manage.Dequeue key)) left_over 0 (λ n h. times-append n (before (is_of key) items) (behind (is_of key) items)) is_meant
+            (λ other. omega (arith, keyed_without (is_of key) items item found keys other, keys other))
+            (λ other. quiet (action.Manage (manage.Dequeue key)) left_over other left_wait (left_under other))
 
         abbrev again : QueueItem
         again = with_set next item
@@ -292,18 +295,12 @@ module _ (next : ℕ) (items : List QueueItem) (told : List Report) where
             ∙ without (is_of key) items item found keys other ∙ ap (λ (b : Bool). cond b None (under other items)) e
 
         renewed_parts : Parts s (action.Manage (manage.Reset key)) renewed_all 1
-        renewed_parts = record {
-          ahead = before (is_of key) items;
-          lost = item ∷ [];
-          others = behind (is_of key) items;
-          old = split (is_of key) items item found keys;
-          keeps = λ n h. omega (arith, times-append n (before (is_of key) items) (again ∷ behind (is_of key) items), not_next n h);
-          meant = is_meant;
-          keys = λ other. omega (arith, keyed_split (is_of key) items item found keys other, keyed-append other (before (is_of key) items) (again ∷ behind (is_of key) items), keys other);
-          leaves = λ other. quiet (action.Manage (manage.Reset key)) renewed_all other
-              (each_append Waits (before (is_of key) items) (again ∷ behind (is_of key) items) (each_before Waits (is_of key) items waits) (again_waits, each_behind Waits (is_of key) items waits))
-              (renewed_by other (is_same item.key other) refl ∙ ap (λ (b : Bool). cond b (Some next) (under other items)) (same_key other));
-        }
+        renewed_parts =
+            around (action.Manage (manage.Reset key)) renewed_all 1 (λ n h. omega (arith, times-append n (before (is_of key) items) (again ∷ behind (is_of key) items), not_next n h)) is_meant
+            (λ other. omega (arith, keyed_split (is_of key) items item found keys other, keyed-append other (before (is_of key) items) (again ∷ behind (is_of key) items), keys other))
+            (λ other. quiet (action.Manage (manage.Reset key)) renewed_all other
+            (each_append Waits (before (is_of key) items) (again ∷ behind (is_of key) items) (each_before Waits (is_of key) items waits) (again_waits, each_behind Waits (is_of key) items waits))
+            (renewed_by other (is_same item.key other) refl ∙ ap (λ (b : Bool). cond b (Some next) (under other items)) (same_key other)))
 
     -- an outcome
     module _ (result : JobResult) (item : QueueItem) (found : find (has_set result.set) items ≡ Some item) where

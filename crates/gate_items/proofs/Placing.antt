@@ -1,5 +1,5 @@
 -- An item that an index puts last, in place of an older one of its key or of none.
-use Rattle.std.proofs.Common.{◌≡◌, ◌∙◌, ◌+◌, ◌<◌, ◌≤◌, ℕ, ℤ, List, [], ◌∷◌, ◌++◌, Bool, true, false, cond, Option, Some, None, length, refl, sym, ap, arith}
+use Rattle.std.proofs.Common.{◌≡◌, ◌∙◌, ◌+◌, ◌<◌, ◌≤◌, ℕ, ℤ, List, [], ◌∷◌, ◌++◌, Bool, true, false, cond, Option, Some, None, length, refl, sym, ap, arith, subst}
 use Rattle.std.specs.Prelude.{is_some, int_lt, ◌^◌}
 use Rattle.std.specs.BTreeMap.{BTreeMap, get}
 use Rattle.std.specs.List.{find}
@@ -124,3 +124,10 @@ placed next items keys sets ok item items' keys' sets' set waits (Some p) e swap
       agrees = swapped next items.entries (get key_cmp keys) (get nat_cmp sets) ok p seen.item item e seen.is set waits items'.entries (get key_cmp keys') (get nat_cmp sets') same swap.keys (swap.sets seen.item (ap (lookup (at_place p)) last ∙ look_front p seen.item items.entries (next, item) seen.is));
       same = same;
     }
+
+-- the same of an item that was made as this one, and of a copy of its key
+pub placed_as : (next : ℕ) (items : BTreeMap ℕ QueueItem) (keys : BTreeMap Key ℕ) (sets : BTreeMap ℕ ℕ) (ok : Agrees next items.entries (get key_cmp keys) (get nat_cmp sets)) (item made : QueueItem) (copy : Key) (items' : BTreeMap ℕ QueueItem) (keys' : BTreeMap Key ℕ) (sets' : BTreeMap ℕ ℕ) → made ≡ item → copy ≡ item.key → item.set ≡ next → is_complete item ≡ false → (o : Option ℕ) → get key_cmp keys item.key ≡ o → Placed o next copy made items keys sets items' keys' sets' → Anew next items.entries items'.entries (get key_cmp keys') (get nat_cmp sets') o item
+placed_as next items keys sets ok item made copy items' keys' sets' same copied set waits o e put =
+    placed next items keys sets ok item items' keys' sets' set waits o e
+    (subst (λ k. Placed o next k item items keys sets items' keys' sets') copied
+    (subst (λ i. Placed o next copy i items keys sets items' keys' sets') same put))

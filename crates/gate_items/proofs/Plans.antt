@@ -1,6 +1,6 @@
 -- The plans of actions by the place of the item that is meant.
 use Rattle.std.proofs.Common.{◌≡◌, ◌∙◌, ◌+◌, ◌<◌, ℕ, ℤ, List, [], ◌∷◌, ◌++◌, Bool, true, false, cond, Option, Some, None, length, suc, zero, take, drop, get_or, nat_lt, refl, set, sym, ap, arith, subst}
-use Rattle.std.specs.Prelude.{◌^◌, ◌≤◌, int_lt, OnErr, Result}
+use Rattle.std.specs.Prelude.{◌^◌, ◌≤◌, int_lt, OnErr, Result, Ok}
 use Rattle.std.proofs.lemmas.Bool.{ltb-false}
 use Rattle.std.proofs.lemmas.List.{set_split}
 use Rattle.std.specs.List.{find, position, slice_get}
@@ -167,6 +167,17 @@ not_renewed s k result item b items quiet h inside e = kept s k result item item
 
 pub judged_as : (s : State) (key : Key) (z patchset : ℤ) (jobs : List (List ℕ)) (r q : Result (Option ℕ) Discard) → z ≡ patchset → r ≡ q → Judges s key z jobs r → Judges s key patchset jobs q
 judged_as s key z patchset jobs r q e f h = subst (λ o. Judges s key patchset jobs o) f (subst (λ y. Judges s key y jobs r) e h)
+
+-- the plan of a trigger whose patch set is at hand as a machine word: a new item comes last, or one takes the place of an older one
+pub triggers_last : (s : State) (o : Option Key) (key : Key) (z patchset : ℤ) (jobs : List (List ℕ)) (r : Result (Option ℕ) Discard) → z ≡ patchset → o ≡ Some key → (length jobs ≡ 0 → ⊥) → r ≡ Ok None → Judges s key z jobs r → triggered s o patchset jobs ≡ placed_last s key z jobs
+triggers_last s o key z patchset jobs r word is some answers judges =
+    triggers_by s o key patchset jobs (placed_last s key patchset jobs) is some (judged_as s key z patchset jobs r (Ok None) word answers judges)
+    ∙ ap (λ y. placed_last s key y jobs) (sym word)
+
+pub triggers_at : (s : State) (o : Option Key) (key : Key) (z patchset : ℤ) (jobs : List (List ℕ)) (r : Result (Option ℕ) Discard) (k : ℕ) → z ≡ patchset → o ≡ Some key → (length jobs ≡ 0 → ⊥) → r ≡ Ok (Some k) → Judges s key z jobs r → triggered s o patchset jobs ≡ replaced_at s k key z jobs
+triggers_at s o key z patchset jobs r k word is some answers judges =
+    triggers_by s o key patchset jobs (replaced_at s k key patchset jobs) is some (judged_as s key z patchset jobs r (Ok (Some k)) word answers judges).1
+    ∙ ap (λ y. replaced_at s k key y jobs) (sym word)
 
 -- ---- memory that is refused
 

@@ -1,6 +1,6 @@
 -- A ring of items and the index of its keys agree after each change.
 use Rattle.std.proofs.Common.{◌≡◌, ◌∙◌, ◌+◌, ◌<◌, ◌≤◌, ℕ, List, [], ◌∷◌, ◌++◌, Bool, true, false, cond, Option, Some, None, suc, zero, take, drop, map, slice_get, refl, sym, ap, arith, subst}
-use Rattle.std.specs.Prelude.{◌||◌}
+use Rattle.std.specs.Prelude.{◌||◌, unwrap_or}
 use Rattle.std.specs.BTreeMap.{is_at}
 use Rattle.std.specs.List.{list_any}
 use Rattle.std.proofs.lemmas.List.{map-append}
@@ -28,14 +28,7 @@ numbers = map (λ (t : Tag). t.0)
 
 tag_at : (f : Key → Option ℕ) (tags : List Tag) (k : ℕ) (t : Tag) → EachFound f tags → slice_get tags k ≡ Some t → (key : Key) → is_same t.1 key ≡ is_here (f key) t.0
 tag_at f [] k t each is = cc
-tag_at f (x ∷ tags) zero t each is = subst (λ (y : Tag). (key : Key) → is_same y.1 key ≡ is_here (f key) y.0) (some_is is) each.0
-  where
-    some_is : Some x ≡ Some t → x ≡ t
-    some_is e = ap (λ (o : Option Tag). of o) e
-      where
-        of : Option Tag → Tag
-        of None = x
-        of (Some y) = y
+tag_at f (x ∷ tags) zero t each is = subst (λ (y : Tag). (key : Key) → is_same y.1 key ≡ is_here (f key) y.0) (ap (λ (o : Option Tag). unwrap_or o x) is) each.0
 tag_at f (x ∷ tags) (suc k) t each is = tag_at f tags k t each.1 is
 
 -- numbers that aren't p

@@ -15,7 +15,6 @@ use std::collections::VecDeque;
 /// The items with the build sets that were handed out from a number on.
 pub(crate) fn push_begun(
     out: &mut String,
-    alloc: Global,
     place: &Place<'_>,
     stamp: Option<Stamp>,
     items: &Items,
@@ -26,7 +25,7 @@ pub(crate) fn push_begun(
     let next = items.next_set();
     let mut set = from;
     while set < next {
-        push_item(out, alloc, place, stamp, items, set)?;
+        push_item(out, place, stamp, next, items, set)?;
         set += 1;
     }
     Ok(())
@@ -34,43 +33,34 @@ pub(crate) fn push_begun(
 
 ghost use Rattle.std.specs.Option.{option_to_list};
 
-// The item with a build set, if there is one.
+// The item with a build set, if there is one. The next one has the number `next`.
 fn push_item(
     out: &mut String,
-    alloc: Global,
     place: &Place<'_>,
     stamp: Option<Stamp>,
+    next: u64,
     items: &Items,
     set: u64,
 ) -> Result<(), Memory>
-    ensures { OnOk result (string_bytes out.new ≡ string_bytes out.old ++ begin_lines place.now.config.now place.now.tenant.0 place.now.pipeline.0 stamp items.now.next (option_to_list (find (has_set set) items.now.items))) }
+    ensures { OnOk result (string_bytes out.new ≡ string_bytes out.old ++ begin_lines place.now.config.now place.now.tenant.0 place.now.pipeline.0 stamp next (option_to_list (find (has_set set) items.now.items))) }
 {
     match items.item(set) {
-        Some(item) => push_own(out, alloc, place, stamp, items.next_set(), item),
+        Some(item) => push_begin(out, place, own_stamp(stamp, next, item), item),
         None => Ok(()),
     }
 }
 
 ghost use Rattle.std.specs.Prelude.{◌==◌, ◌+◌, None, if◌then◌else◌};
-ghost use Rattle.gate_journal.specs.Lines.{begin_line};
 
 // The item of the last number is the trigger's own.
-fn push_own(
-    out: &mut String,
-    alloc: Global,
-    place: &Place<'_>,
-    stamp: Option<Stamp>,
-    next: u64,
-    item: &QueueItem,
-) -> Result<(), Memory>
-    ensures { OnOk result (string_bytes out.new ≡ string_bytes out.old ++ begin_line place.now.config.now place.now.tenant.0 place.now.pipeline.0 (if item.now.set + 1 == next then stamp else None) item.now) }
+fn own_stamp(stamp: Option<Stamp>, next: u64, item: &QueueItem) -> Option<Stamp>
+    ensures { result ≡ (if item.now.set + 1 == next then stamp else None) }
 {
-    let own = if item.set.checked_add(1) == Some(next) {
+    if item.set.checked_add(1) == Some(next) {
         stamp
     } else {
         None
-    };
-    push_begin(out, alloc, place, own, item)
+    }
 }
 
 /// What was reported.

@@ -1,13 +1,11 @@
 //! The build sets of an independent pipeline, by the keys of their items.
 ghost use Rattle.std.specs.Prelude.{◌≡◌, ◌++◌, cond, option_and_then, string_bytes, None, OnOk, Some};
 ghost use Rattle.std.specs.BTreeMap.{get};
-ghost use Rattle.std.specs.List.{list_any};
 ghost use Rattle.std.specs.Option.{option_to_list};
 ghost use Rattle.gate_items.specs.KeyOrder.{key_cmp};
 ghost use Rattle.gate_items.specs.Keys.{is_same};
 ghost use Rattle.gate_items.specs.Sets.{key_meant};
 ghost use Rattle.gate_items.specs.declared.key.Key.{Key as ItemKey};
-ghost use Rattle.gate_items.specs.declared.item.Report.{Report as ItemReport};
 ghost use Rattle.gate_journal.specs.Lines.{cancel_lines};
 ghost use Rattle.gate_journal.specs.Live.{keyed_after};
 

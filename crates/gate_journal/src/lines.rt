@@ -16,47 +16,43 @@ use std::alloc::Global;
 /// A build set begins.
 pub(crate) fn push_begin(
     out: &mut String,
-    alloc: Global,
     place: &Place<'_>,
     stamp: Option<Stamp>,
     item: &QueueItem,
 ) -> Result<(), Memory>
     ensures { OnOk result (string_bytes out.new ≡ string_bytes out.old ++ begin_line place.now.config.now place.now.tenant.0 place.now.pipeline.0 stamp item.now) }
 {
+    let alloc = *out.allocator();
     push_set(out, alloc, "{\"begin\":", item.set)?;
-    push_subject(out, alloc, place, item)?;
-    push_patched(out, alloc, place, &item.patchset)?;
-    push_begin_end(out, alloc, place, stamp, &item.key)?;
+    push_subject(out, place, item)?;
+    push_patched(out, place, &item.patchset)?;
+    push_begin_end(out, place, stamp, &item.key)?;
     Ok(())
 }
 
 ghost use Rattle.gate_journal.specs.Members.{change_member, jobs_member};
 
 // A change, and the jobs that are run for it.
-fn push_subject(
-    out: &mut String,
-    alloc: Global,
-    place: &Place<'_>,
-    item: &QueueItem,
-) -> Result<(), Memory>
+fn push_subject(out: &mut String, place: &Place<'_>, item: &QueueItem) -> Result<(), Memory>
     ensures { OnOk result (string_bytes out.new ≡ string_bytes out.old ++ (change_member place.now.config.now item.now.key ++ jobs_member item.now.jobs)) }
 {
-    push_change(out, alloc, place.config, &item.key)?;
+    let alloc = *out.allocator();
+    push_change(out, place.config, &item.key)?;
     push_jobs(out, alloc, item.jobs.as_slice())?;
     Ok(())
 }
 
 fn push_begin_end(
     out: &mut String,
-    alloc: Global,
     place: &Place<'_>,
     stamp: Option<Stamp>,
     key: &Key,
 ) -> Result<(), Memory>
     ensures { OnOk result (string_bytes out.new ≡ string_bytes out.old ++ begin_end place.now.config.now place.now.tenant.0 stamp key.now) }
 {
-    push_record(out, alloc, place.config, stamp)?;
-    push_ref(out, alloc, place.config, key)?;
+    let alloc = *out.allocator();
+    push_record(out, place.config, stamp)?;
+    push_ref(out, place.config, key)?;
     push_line_end(out, alloc, place)?;
     Ok(())
 }
@@ -88,7 +84,7 @@ pub(crate) fn push_cancel(
     ensures { OnOk result (string_bytes out.new ≡ string_bytes out.old ++ cancel_line place.now.config.now place.now.tenant.0 place.now.pipeline.0 cause set) }
 {
     push_set(out, alloc, "{\"cancel\":", set)?;
-    push_pipeline(out, alloc, place)?;
+    push_pipeline(out, place)?;
     push_why(out, alloc, place, cause.word())?;
     Ok(())
 }
@@ -111,22 +107,17 @@ pub(crate) fn push_report(
 ) -> Result<(), Memory>
     ensures { OnOk result (string_bytes out.new ≡ string_bytes out.old ++ report_line place.now.config.now place.now.tenant.0 place.now.pipeline.0 report.now) }
 {
-    push_report_start(out, alloc, place, &report.key)?;
-    push_patched(out, alloc, place, &report.patchset)?;
+    push_report_start(out, place, &report.key)?;
+    push_patched(out, place, &report.patchset)?;
     push_report_end(out, alloc, place, report)?;
     Ok(())
 }
 
-fn push_report_start(
-    out: &mut String,
-    alloc: Global,
-    place: &Place<'_>,
-    key: &Key,
-) -> Result<(), Memory>
+fn push_report_start(out: &mut String, place: &Place<'_>, key: &Key) -> Result<(), Memory>
     ensures { OnOk result (string_bytes out.new ≡ string_bytes out.old ++ (codes "{" ++ change_member place.now.config.now key.now)) }
 {
     out.push_str("{")?;
-    push_change(out, alloc, place.config, key)?;
+    push_change(out, place.config, key)?;
     Ok(())
 }
 
@@ -138,7 +129,7 @@ fn push_report_end(
 ) -> Result<(), Memory>
     ensures { OnOk result (string_bytes out.new ≡ string_bytes out.old ++ report_end place.now.config.now place.now.tenant.0 report.now) }
 {
-    push_ref(out, alloc, place.config, &report.key)?;
+    push_ref(out, place.config, &report.key)?;
     push_reported(out, alloc, report.set, report.success)?;
     push_line_end(out, alloc, place)?;
     Ok(())
@@ -195,8 +186,8 @@ fn push_lost_trigger(
     ensures { OnOk result (string_bytes out.new ≡ string_bytes out.old ++ lost_trigger place.now.config.now place.now.tenant.0 place.now.pipeline.0 stamp why.now) }
 {
     out.push_str("{\"discard\":\"trigger\",")?;
-    push_pipeline(out, alloc, place)?;
-    push_record(out, alloc, place.config, stamp)?;
+    push_pipeline(out, place)?;
+    push_record(out, place.config, stamp)?;
     push_why(out, alloc, place, why)?;
     Ok(())
 }
@@ -211,7 +202,7 @@ fn push_lost_result(
     ensures { OnOk result (string_bytes out.new ≡ string_bytes out.old ++ lost_result place.now.config.now place.now.tenant.0 place.now.pipeline.0 ended.now why.now) }
 {
     push_job(out, alloc, ended.job.as_str())?;
-    push_pipeline(out, alloc, place)?;
+    push_pipeline(out, place)?;
     push_set(out, alloc, "\"set\":", ended.set)?;
     push_why(out, alloc, place, why)?;
     Ok(())
@@ -234,24 +225,18 @@ fn push_lost_manage(
 ) -> Result<(), Memory>
     ensures { OnOk result (string_bytes out.new ≡ string_bytes out.old ++ lost_manage place.now.config.now place.now.tenant.0 place.now.pipeline.0 member.now key.now why.now) }
 {
-    push_lost_key(out, alloc, place, member, key)?;
-    push_pipeline(out, alloc, place)?;
-    push_ref(out, alloc, place.config, key)?;
+    push_lost_key(out, place, member, key)?;
+    push_pipeline(out, place)?;
+    push_ref(out, place.config, key)?;
     push_why(out, alloc, place, why)?;
     Ok(())
 }
 
-fn push_lost_key(
-    out: &mut String,
-    alloc: Global,
-    place: &Place<'_>,
-    member: &str,
-    key: &Key,
-) -> Result<(), Memory>
+fn push_lost_key(out: &mut String, place: &Place<'_>, member: &str, key: &Key) -> Result<(), Memory>
     ensures { OnOk result (string_bytes out.new ≡ string_bytes out.old ++ (codes "{" ++ (change_member place.now.config.now key.now ++ member.now))) }
 {
     out.push_str("{")?;
-    push_change(out, alloc, place.config, key)?;
+    push_change(out, place.config, key)?;
     out.push_str(member)?;
     Ok(())
 }
@@ -275,7 +260,7 @@ pub fn push_end(
     ensures { OnOk result (string_bytes out.new ≡ string_bytes out.old ++ end_line place.now.config.now place.now.tenant.0 place.now.pipeline.0 finished) }
 {
     out.push_str(end_member(finished))?;
-    push_pipeline(out, alloc, place)?;
+    push_pipeline(out, place)?;
     push_line_end(out, alloc, place)?;
     Ok(())
 }

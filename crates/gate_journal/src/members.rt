@@ -26,14 +26,10 @@ pub(crate) fn push_parts(
 }
 
 // The name of a connection, or its number where there is none.
-fn push_connection(
-    out: &mut String,
-    alloc: Global,
-    config: &Config,
-    conn: ConnId,
-) -> Result<(), Memory>
+fn push_connection(out: &mut String, config: &Config, conn: ConnId) -> Result<(), Memory>
     ensures { OnOk result (string_bytes out.new ≡ string_bytes out.old ++ connection_text config.now conn.0) }
 {
+    let alloc = *out.allocator();
     match config.connections().get(conn.0 as usize) {
         Some(name) => push_name(out, alloc, name.as_str()),
         None => push_number(out, u64::from(conn.0)),
@@ -41,32 +37,23 @@ fn push_connection(
 }
 
 /// The change that a key is of, if it is of one.
-pub(crate) fn push_change(
-    out: &mut String,
-    alloc: Global,
-    config: &Config,
-    key: &Key,
-) -> Result<(), Memory>
+pub(crate) fn push_change(out: &mut String, config: &Config, key: &Key) -> Result<(), Memory>
     ensures { OnOk result (string_bytes out.new ≡ string_bytes out.old ++ change_member config.now key.now) }
 {
     let Key::Change { conn, number } = key else {
         return Ok(());
     };
     out.push_str("\"change\":{\"connection\":")?;
-    push_connection(out, alloc, config, *conn)?;
+    push_connection(out, config, *conn)?;
     out.push_str(",\"number\":")?;
+    let alloc = *out.allocator();
     let number = format!(in alloc; "{number}}},")?;
     out.push_str(number.as_str())?;
     Ok(())
 }
 
 /// The ref that a key is of, if it is of one.
-pub(crate) fn push_ref(
-    out: &mut String,
-    alloc: Global,
-    config: &Config,
-    key: &Key,
-) -> Result<(), Memory>
+pub(crate) fn push_ref(out: &mut String, config: &Config, key: &Key) -> Result<(), Memory>
     ensures { OnOk result (string_bytes out.new ≡ string_bytes out.old ++ ref_member config.now key.now) }
 {
     let Key::Ref {
@@ -79,25 +66,19 @@ pub(crate) fn push_ref(
         return Ok(());
     };
     out.push_str("\"ref\":{\"connection\":")?;
-    push_connection(out, alloc, config, *conn)?;
-    push_ref_names(
-        out,
-        alloc,
-        project.as_str(),
-        refname.as_str(),
-        newrev.as_str(),
-    )
+    push_connection(out, config, *conn)?;
+    push_ref_names(out, project.as_str(), refname.as_str(), newrev.as_str())
 }
 
 fn push_ref_names(
     out: &mut String,
-    alloc: Global,
     project: &str,
     refname: &str,
     newrev: &str,
 ) -> Result<(), Memory>
     ensures { OnOk result (string_bytes out.new ≡ string_bytes out.old ++ (codes ",\"name\":" ++ (name_text refname.now ++ (codes ",\"newrev\":" ++ (name_text newrev.now ++ (codes ",\"project\":" ++ (name_text project.now ++ codes "},"))))))) }
 {
+    let alloc = *out.allocator();
     out.push_str(",\"name\":")?;
     push_name(out, alloc, refname)?;
     out.push_str(",\"newrev\":")?;
@@ -111,7 +92,6 @@ fn push_ref_names(
 /// The record that a stamp is of, if there is one.
 pub(crate) fn push_record(
     out: &mut String,
-    alloc: Global,
     config: &Config,
     stamp: Option<Stamp>,
 ) -> Result<(), Memory>
@@ -121,7 +101,7 @@ pub(crate) fn push_record(
         return Ok(());
     };
     out.push_str("\"record\":{\"connection\":")?;
-    push_connection(out, alloc, config, stamp.conn)?;
+    push_connection(out, config, stamp.conn)?;
     out.push_str(",\"number\":")?;
     push_number(out, stamp.number)?;
     out.push_str("},")?;
@@ -175,18 +155,19 @@ fn push_pipeline_number(out: &mut String, place: &Place<'_>) -> Result<(), Memor
 }
 
 // The number of a patch set.
-fn push_patchset(out: &mut String, alloc: Global, patchset: &i64) -> Result<(), Memory>
+fn push_patchset(out: &mut String, patchset: &i64) -> Result<(), Memory>
     ensures { OnOk result (string_bytes out.new ≡ string_bytes out.old ++ patchset_member patchset.now) }
 {
+    let alloc = *out.allocator();
     let patchset = format!(in alloc; "{patchset}")?;
     push_parts(out, "\"patchset\":", patchset.as_str(), ",")
 }
 
 // The pipeline's name.
-fn push_pipeline_member(out: &mut String, alloc: Global, place: &Place<'_>) -> Result<(), Memory>
+fn push_pipeline_member(out: &mut String, place: &Place<'_>) -> Result<(), Memory>
     ensures { OnOk result (string_bytes out.new ≡ string_bytes out.old ++ pipeline_member place.now.config.now place.now.tenant.0 place.now.pipeline.0) }
 {
-    let name = pipeline_name(alloc, place)?;
+    let name = pipeline_name(*out.allocator(), place)?;
     push_parts(out, "\"pipeline\":", name.as_str(), ",")
 }
 
@@ -225,29 +206,24 @@ fn push_tenant_name(out: &mut String, alloc: Global, place: &Place<'_>) -> Resul
 ghost use Rattle.gate_journal.specs.Members.{patched_members, pipeline_members};
 
 /// The pipeline's number and its name.
-pub(crate) fn push_pipeline(
-    out: &mut String,
-    alloc: Global,
-    place: &Place<'_>,
-) -> Result<(), Memory>
+pub(crate) fn push_pipeline(out: &mut String, place: &Place<'_>) -> Result<(), Memory>
     ensures { OnOk result (string_bytes out.new ≡ string_bytes out.old ++ pipeline_members place.now.config.now place.now.tenant.0 place.now.pipeline.0) }
 {
     push_pipeline_number(out, place)?;
-    push_pipeline_member(out, alloc, place)?;
+    push_pipeline_member(out, place)?;
     Ok(())
 }
 
 /// The same, with the number of a patch set between them.
 pub(crate) fn push_patched(
     out: &mut String,
-    alloc: Global,
     place: &Place<'_>,
     patchset: &i64,
 ) -> Result<(), Memory>
     ensures { OnOk result (string_bytes out.new ≡ string_bytes out.old ++ patched_members place.now.config.now place.now.tenant.0 place.now.pipeline.0 patchset.now) }
 {
     push_pipeline_number(out, place)?;
-    push_patchset(out, alloc, patchset)?;
-    push_pipeline_member(out, alloc, place)?;
+    push_patchset(out, patchset)?;
+    push_pipeline_member(out, place)?;
     Ok(())
 }

@@ -69,7 +69,7 @@ impl PipelineJournal {
         discarded_actions_change_nothing();
         match outcome {
             Outcome::Discarded(why) => push_discard(out, alloc, place, stamp, action, why),
-            Outcome::Applied => self.push_applied(out, alloc, place, items, stamp, action),
+            Outcome::Applied => self.push_applied(out, place, items, stamp, action),
         }
     }
 
@@ -77,7 +77,6 @@ impl PipelineJournal {
     fn push_applied(
         &mut self,
         out: &mut String,
-        alloc: Global,
         place: &Place<'_>,
         items: &Items,
         stamp: Option<Stamp>,
@@ -86,9 +85,10 @@ impl PipelineJournal {
         ensures lines { (manager : Kind) (actions : List AnAction) → Knows self.old manager (items_after manager actions) → (items.now, Applied) ≡ apply (items_after manager actions) action.now → OnOk result (string_bytes out.new ≡ string_bytes out.old ++ action_lines place.now.config.now place.now.tenant.0 place.now.pipeline.0 (items_after manager actions) stamp action.now Applied items.now) }
         ensures knows { (manager : Kind) (actions : List AnAction) → Knows self.old manager (items_after manager actions) → (items.now, Applied) ≡ apply (items_after manager actions) action.now → OnOk result (Knows self.new manager items.now) }
     {
+        let alloc = *out.allocator();
         let reports = reports_from(items, self.reports);
         self.push_cancelled(out, alloc, place, items, action, reports)?;
-        push_begun(out, alloc, place, stamp, items, self.next)?;
+        push_begun(out, place, stamp, items, self.next)?;
         push_reports(out, alloc, place, reports)?;
         self.next = items.next_set();
         self.reports = items.reported().len();

@@ -5,8 +5,16 @@ use crate::MARKED;
 use crate::groups::{Join, join_all};
 use std::simd::prelude::*;
 
+// How two masks are joined word by word: by the rows that both mark, by those that either does, and by those of the first that the
+// second doesn't mark.
 #[derive(Clone, Copy)]
 struct And;
+
+#[derive(Clone, Copy)]
+struct Or;
+
+#[derive(Clone, Copy)]
+struct Clear;
 
 impl Join for And {
     ghost join = { λ _. bit_and };
@@ -22,9 +30,6 @@ impl Join for And {
     }
 }
 
-#[derive(Clone, Copy)]
-struct Or;
-
 impl Join for Or {
     ghost join = { λ _. bit_or };
 
@@ -38,9 +43,6 @@ impl Join for Or {
         word | other
     }
 }
-
-#[derive(Clone, Copy)]
-struct Clear;
 
 impl Join for Clear {
     ghost join = { λ _. cleared_if };

@@ -7,7 +7,7 @@ use Rattle.std.proofs.lemmas.List.Elements.{All-head, All-tail}
 use Rattle.std.proofs.lemmas.List.Folds.{list_all_more, list_any-append}
 use Rattle.std.proofs.lemmas.Simd.{map-map, zip2-map}
 use Rattle.std.proofs.lemmas.Slice.Zip.{firsts-zip, seconds-zip}
-use Rattle.std.proofs.Math.Bool.{or_assoc}
+use Rattle.std.proofs.Math.Bool.{or-false, or-true, or_assoc}
 use Rattle.gate_record.specs.declared.event.Event.{Event}
 use Rattle.gate_config.specs.declared.generations.Generations.{Generations}
 use Rattle.gate_config.specs.Generations.{config_at}
@@ -20,14 +20,6 @@ use Rattle.gate_match.specs.Inner.Marks.{both, either}
 use Rattle.gate_match.specs.Inner.Tables.{meets_any}
 use Rattle.gate_match.proofs.Rows.{map_alike, none_of}
 
-or_false : (b : Bool) → (b || false) ≡ b
-or_false true = refl
-or_false false = refl
-
-or_true : (b : Bool) → (b || true) ≡ true
-or_true true = refl
-or_true false = refl
-
 -- the rows of a generation, and among them those of a connection
 pub active_is : (gens : Generations) (t g c : ℕ) (generations conns : List ℕ) (events : List Event) →
     both (both (map (is_among (g ∷ [])) generations) (map (is_among (c ∷ [])) conns)) (listed_in (config_at gens g) t c events) ≡ active_in gens t (g, c) (zip (zip generations conns) events)
@@ -35,7 +27,7 @@ active_is gens t g c [] conns events = refl
 active_is gens t g c (n ∷ generations) [] events = refl
 active_is gens t g c (n ∷ generations) (w ∷ conns) [] = refl
 active_is gens t g c (n ∷ generations) (w ∷ conns) (e ∷ events) =
-    ap₂ ◌∷◌ (ap₂ (λ a b. (a && b) && is_listed (config_at gens g) t c e.project) (or_false (n == g)) (or_false (w == c))) (active_is gens t g c generations conns events)
+    ap₂ ◌∷◌ (ap₂ (λ a b. (a && b) && is_listed (config_at gens g) t c e.project) (or-false (n == g)) (or-false (w == c))) (active_is gens t g c generations conns events)
 
 and_left : (a b : Bool) → (a && b) ≡ true → a ≡ true
 and_left true b e = refl
@@ -68,7 +60,7 @@ all_more old new keys i h was keeps has =
 pub key_behind : (actives : List Active) (active : Active) (key : ℕ × ℕ) → key_of active ≡ key → is_key_of (actives ++ active ∷ []) key ≡ true
 key_behind actives active key e =
     list_any-append (λ (a : Active). same_key key (key_of a)) actives (active ∷ [])
-    ∙ ap (λ b. is_key_of actives key || (b || false)) (ap (same_key key) e ∙ same_as_itself key) ∙ or_true (is_key_of actives key)
+    ∙ ap (λ b. is_key_of actives key || (b || false)) (ap (same_key key) e ∙ same_as_itself key) ∙ or-true (is_key_of actives key)
 
 pub key_before : (actives : List Active) (active : Active) (key : ℕ × ℕ) → is_key_of actives key ≡ true → is_key_of (actives ++ active ∷ []) key ≡ true
 key_before actives active key e = list_any-append (λ (a : Active). same_key key (key_of a)) actives (active ∷ []) ∙ ap (λ b. b || is_key_of (active ∷ []) key) e
@@ -95,7 +87,7 @@ module _ (gens : Generations) (t p : ℕ) where
 
   joined : (actives : List Active) (g : Row → Bool) (batch : List Row) → AreActive gens t batch actives →
       chosen gens t p (map (λ (row : Row). row.1) batch) (map g batch) actives ≡ map (λ row. g row || list_any (λ (a : Active). of_key (key_of a) row) actives) batch
-  joined [] g batch h = map_alike g (λ row. g row || false) batch (λ row. sym (or_false (g row)))
+  joined [] g batch h = map_alike g (λ row. g row || false) batch (λ row. sym (or-false (g row)))
   joined (a ∷ actives) g batch h =
       ap (λ rows. chosen gens t p (map (λ (row : Row). row.1) batch) rows actives)
       (ap (either (map g batch)) (chosen_is a batch (All-head (λ (active : Active). active.rows ≡ active_in gens t (key_of active) batch) a actives h)) ∙ zip2-map (λ a b. a || b) g (of_key (key_of a)) batch)

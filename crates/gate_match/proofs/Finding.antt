@@ -40,6 +40,11 @@ module _ {R A : Type 0} (text_at : R → A) (texts : List R) (test : A → Bool)
       ∙ sym (ap (λ xs. ids ++ xs) (next_left i d (id + 1) h ∙ ap (λ (b : Bool). if b then (id + 1) ∷ left (id + 1 + 1) (i + 1) else left (id + 1 + 1) (i + 1)) fails))
       ∙ was
 
+  pub numbered_more : (i : ℕ) (d : R) (ids new all : List ℕ) (id next : ℕ) (passes : Bool) → i < length texts → next ≡ id + 1 → new ≡ (if passes then ids ++ next ∷ [] else ids) → passes ≡ test (text_at (get_or texts i d)) →
+      ids ++ numbers_from (id + 1) test (map text_at (drop i texts)) ≡ all → new ++ numbers_from (next + 1) test (map text_at (drop (i + 1) texts)) ≡ all
+  numbered_more i d ids new all id next true h e is answer was = ap (λ xs. xs ++ left (next + 1) (i + 1)) is ∙ found_more i d ids all id next h e (sym answer) was
+  numbered_more i d ids new all id next false h e is answer was = ap (λ xs. xs ++ left (next + 1) (i + 1)) is ∙ missed_more i d ids all id next h e (sym answer) was
+
   -- no text is left
   pub none_more : (i : ℕ) (ids all : List ℕ) (id : ℕ) → length texts ≤ i → ids ++ numbers_from id test (map text_at (drop i texts)) ≡ all → ids ≡ all
   none_more i ids all id h was =

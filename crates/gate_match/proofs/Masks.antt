@@ -1,6 +1,7 @@
 -- Masks whose words are all ones or 0.
 use Rattle.std.proofs.Common.{◌≡◌, ◌∙◌, refl, sym, ap, ap₂, ℕ, zero, suc, if◌then◌else◌, ◌+◌, ◌==◌, ◌&&◌, ◌||◌, Bool, true, false, not, cond, List, [], ◌∷◌, ◌++◌, map, replicate, length, take, arith, bit_and, bit_or}
 use Rattle.std.proofs.Math.Seq.{take-append_seam}
+use Rattle.std.proofs.lemmas.List.{length-map}
 use Rattle.std.proofs.lemmas.List.Recursion.{is_count_by}
 use Rattle.std.proofs.lemmas.Simd.{length-zip2}
 use Rattle.std.specs.Simd.Lanes.{zip2}
@@ -53,6 +54,25 @@ joined f g h n new old other rest marks others e same is =
     written n new rest (ap length is ∙ length-zip2 f old other (sym same) ∙ e)
     ∙ is ∙ ap (λ ws. zip2 f ws other) (sym marks) ∙ ap (zip2 f (words_of (marks_of old))) (sym others)
     ∙ zip2_words f g h (marks_of old) (marks_of other)
+
+-- what a mask is whose words are those of two others, joined
+pub record IsJoined (g : Bool → Bool → Bool) (words : List ℕ) (old other : List Bool) : Type 0 where
+  pub marks : AreMarks words
+  pub value : marks_of words ≡ zip2 g old other
+  pub len : length (marks_of words) ≡ length old
+
+pub joins : (f : ℕ → ℕ → ℕ) (g : Bool → Bool → Bool) → ((a b : Bool) → f (mark_if a) (mark_if b) ≡ mark_if (g a b)) →
+    (n : ℕ) (new words others rest : List ℕ) (old other : List Bool) → AreMarks words → AreMarks others → length words ≡ n → marks_of words ≡ old → marks_of others ≡ other →
+    length other ≡ length old → new ≡ zip2 f words others → IsJoined g (take n (new ++ rest)) old other
+joins f g h n new words others rest old other marks other_marks e seen other_seen same is =
+    let alike : length others ≡ length words = sym (length-map others is_marked) ∙ ap length other_seen ∙ same ∙ ap length (sym seen) ∙ length-map words is_marked in
+    let all = joined f g h n new words others rest marks other_marks e alike is in
+    let value = marks_are (take n (new ++ rest)) (zip2 g (marks_of words) (marks_of others)) all ∙ ap (λ xs. zip2 g xs (marks_of others)) seen ∙ ap (zip2 g old) other_seen in
+    record {
+      marks = are_marks (take n (new ++ rest)) (zip2 g (marks_of words) (marks_of others)) all;
+      value = value;
+      len = ap length value ∙ length-zip2 g old other (sym same);
+    }
 
 pub and_marks : (a b : Bool) → bit_and (mark_if a) (mark_if b) ≡ mark_if (a && b)
 and_marks true true = refl

@@ -1,6 +1,7 @@
 -- Masks over the rows of a batch.
 use Rattle.std.proofs.Common.{◌≡◌, ◌∙◌, refl, sym, ap, ap₂, ℕ, ◌+◌, ◌<◌, ◌≤◌, ◌&&◌, ◌||◌, Bool, true, false, not, List, [], ◌∷◌, map, replicate, take, length, get_or, arith}
 use Rattle.std.specs.List.{list_all, list_any}
+use Rattle.std.proofs.lemmas.Bool.{or_parts}
 use Rattle.std.proofs.lemmas.List.Folds.{list_all_more, list_any_more}
 use Rattle.std.proofs.lemmas.Simd.{zip2-map}
 use Rattle.std.proofs.Math.Bool.{and_assoc}
@@ -10,14 +11,6 @@ use Rattle.gate_match.specs.Inner.Marks.{both, either, marks_any, without}
 pub map_alike : {A B : Type 0} (f g : A → B) (xs : List A) → ((x : A) → f x ≡ g x) → map f xs ≡ map g xs
 map_alike f g [] h = refl
 map_alike f g (x ∷ xs) h = ap₂ ◌∷◌ (h x) (map_alike f g xs h)
-
-or_left : (a b : Bool) → (a || b) ≡ false → a ≡ false
-or_left true b e = e
-or_left false b e = refl
-
-or_right : (a b : Bool) → (a || b) ≡ false → b ≡ false
-or_right true b e = absurd cc
-or_right false b e = e
 
 stays_false : (y f g : Bool) → (y && f) ≡ false → (y && f) ≡ (y && (f && g))
 stays_false true f g e = e ∙ sym (ap (λ a. a && g) e)
@@ -53,7 +46,7 @@ module _ {X : Type 0} where
   none_left f g [] xs e = refl
   none_left f g (y ∷ ys) [] e = refl
   none_left f g (y ∷ ys) (x ∷ xs) e =
-      ap₂ ◌∷◌ (stays_false y (f x) (g x) (or_left (y && f x) (marks_any (both ys (map f xs))) e)) (none_left f g ys xs (or_right (y && f x) (marks_any (both ys (map f xs))) e))
+      let none = or_parts (y && f x) (marks_any (both ys (map f xs))) e in ap₂ ◌∷◌ (stays_false y (f x) (g x) none.0) (none_left f g ys xs none.1)
 
   pub without_is : (f : X → Bool) (ys : List Bool) (xs : List X) → without ys (map f xs) ≡ both ys (map (λ x. not (f x)) xs)
   without_is f [] xs = refl

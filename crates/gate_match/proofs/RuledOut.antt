@@ -1,5 +1,6 @@
 -- Rules that no event of a batch meets, since none is of their kind.
-use Rattle.std.proofs.Common.{◌≡◌, ◌∙◌, refl, sym, ap, ap₂, ◌<◌, ◌≤◌, ◌&&◌, ◌||◌, Bool, true, false, not, List, [], ◌∷◌, map, length, get_or, Some, arith}
+use Rattle.std.proofs.Common.{◌≡◌, ◌∙◌, refl, sym, ap, ap₂, ◌<◌, ◌≤◌, ◌&&◌, ◌||◌, Bool, false, not, List, [], ◌∷◌, map, length, get_or, Some, arith}
+use Rattle.std.proofs.lemmas.Bool.{or_parts}
 use Rattle.gate_record.specs.declared.event.Event.{Event}
 use Rattle.gate_record.specs.Events.{is_delete}
 use Rattle.gate_rule.specs.declared.entry.Entry.{Entry}
@@ -11,14 +12,6 @@ use Rattle.gate_match.specs.declared.asked.Asked.{Asked}
 use Rattle.gate_match.specs.Inner.Finding.{met_in}
 use Rattle.gate_match.specs.Inner.Marks.{marks_any}
 use Rattle.gate_match.specs.Inner.Narrowing.{meeting}
-
-or_left : (a b : Bool) → (a || b) ≡ false → a ≡ false
-or_left true b e = e
-or_left false b e = refl
-
-or_right : (a b : Bool) → (a || b) ≡ false → b ≡ false
-or_right true b e = absurd cc
-or_right false b e = e
 
 -- a list of one
 pub only : (xs : List Asked) (one : Asked) → 1 ≤ length xs → length xs < 2 → one ≡ get_or xs 0 one → xs ≡ one ∷ []
@@ -35,6 +28,6 @@ not_met rule event e =
 pub none_meets : (rule : Rule) (entry : Entry) (events : List Event) → rule.event ≡ entry ∷ [] → marks_any (met_in Kind entry events) ≡ false → meeting rule events ≡ map (λ event. false) events
 none_meets rule entry [] one none = refl
 none_meets rule entry (event ∷ events) one none =
-    let kind : entry_front entry event.kind ≡ false = or_left (entry_front entry event.kind) (marks_any (met_in Kind entry events)) none in
-    ap₂ ◌∷◌ (not_met rule event (ap (λ (entries : List Entry). is_met entry_front entries (Some event.kind)) one ∙ ap (λ (b : Bool). b || false) kind))
-    (none_meets rule entry events one (or_right (entry_front entry event.kind) (marks_any (met_in Kind entry events)) none))
+    let each = or_parts (entry_front entry event.kind) (marks_any (met_in Kind entry events)) none in
+    ap₂ ◌∷◌ (not_met rule event (ap (λ (entries : List Entry). is_met entry_front entries (Some event.kind)) one ∙ ap (λ (b : Bool). b || false) each.0))
+    (none_meets rule entry events one each.1)

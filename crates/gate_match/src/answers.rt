@@ -69,10 +69,8 @@ impl<'c> Answers<'c> {
         joining: Joining,
         out: &mut Mask,
     ) -> Result<(), Memory>
-        requires right { AreRight columns.now self.old }
-        requires len { length out.old ≡ length columns.now }
-        ensures right { AreRight columns.now self.new }
-        ensures len { length out.new ≡ length columns.now }
+        requires { AreRight columns.now self.old × (length out.old ≡ length columns.now) }
+        ensures fits { AreRight columns.now self.new × (length out.new ≡ length columns.now) }
         ensures joins { OnOk result (out.new ≡ joined joining out.old (met_in field asked.now.entry.now columns.now)) }
     {
         if let Some(rows) = self.find(field, asked) {

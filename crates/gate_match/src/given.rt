@@ -45,10 +45,8 @@ impl Approvals {
         wanted: &(Text, i64),
         out: &mut Mask,
     ) -> Result<(), Memory>
-        requires right { AreGiven columns.now self.old }
-        requires len { length out.old ≡ length columns.now }
-        ensures right { AreGiven columns.now self.new }
-        ensures len { length out.new ≡ length columns.now }
+        requires { AreGiven columns.now self.old × (length out.old ≡ length columns.now) }
+        ensures fits { AreGiven columns.now self.new × (length out.new ≡ length columns.now) }
         ensures leaves { OnOk result (out.new ≡ both out.old (given_to wanted.now columns.now)) }
     {
         if out.is_none() {

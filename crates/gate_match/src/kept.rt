@@ -4,6 +4,7 @@ ghost use Rattle.gate_config.specs.Texts.{texts_of_entry};
 ghost use Rattle.gate_intern.specs.Marks.{numbers_where};
 ghost use Rattle.gate_match.specs.Inner.Finding.{HoldsOfEntry, HoldsOfText, entry_meets, finds};
 
+use crate::numbering::number_text;
 use crate::reach::Reach;
 use gate_record::Memory;
 use gate_rule::{Entry, Matcher, Pattern, patterns_of_one_text_answer_alike};
@@ -65,13 +66,7 @@ impl<'c> Kept<'c> {
         let mut ids = Vec::new(alloc);
         let mut id: u32 = 0;
         for text in texts {
-            let Some(next) = id.checked_add(1) else {
-                return Err(Memory);
-            };
-            id = next;
-            if self.meets(reach, entry, text) {
-                ids.push(id)?;
-            }
+            id = number_text(&mut ids, id, self.meets(reach, entry, text))?;
         }
         Ok(ids)
     }

@@ -14,6 +14,7 @@ mod listed;
 mod mask;
 mod matcher_cache;
 mod narrowing;
+mod numbering;
 mod program;
 mod reach;
 mod rules_of_conn;

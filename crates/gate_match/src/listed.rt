@@ -4,6 +4,7 @@ ghost use Rattle.gate_intern.specs.Marks.{numbers_where};
 ghost use Rattle.gate_match.specs.Inner.Choosing.{listed_in};
 
 use crate::mask::Mask;
+use crate::numbering::number_text;
 use gate_config::Config;
 use gate_intern::{Columns, Field, texts_mark_their_events};
 use gate_record::{ConnId, Memory, TenantId};
@@ -36,13 +37,7 @@ fn listed_ids(
     let mut ids = Vec::new(alloc);
     let mut id: u32 = 0;
     for project in projects {
-        let Some(next) = id.checked_add(1) else {
-            return Err(Memory);
-        };
-        id = next;
-        if config.belongs(tenant, conn, project) {
-            ids.push(id)?;
-        }
+        id = number_text(&mut ids, id, config.belongs(tenant, conn, project))?;
     }
     Ok(ids)
 }

@@ -71,25 +71,9 @@ fn push_generation<'c>(
     ensures { OnOk result (AreOfGenerations gens.entry.now tenant.0 table.new.items) }
 {
     for pipeline in 0..pipelines(gens.first(), tenant) {
-        push_pipeline(alloc, gens, tenant, generation, pipeline, cache, table)?;
-    }
-    Ok(())
-}
-
-fn push_pipeline<'c>(
-    alloc: Global,
-    gens: &'c Generations,
-    tenant: TenantId,
-    generation: u32,
-    pipeline: u32,
-    cache: &MatcherCache<'c>,
-    table: &mut Vec<RulesOfConn<'c>>,
-) -> Result<(), Memory>
-    requires { AreOfGenerations gens.now tenant.0 table.old.items }
-    ensures { OnOk result (AreOfGenerations gens.entry.now tenant.0 table.new.items) }
-{
-    for conn in 0..connections(gens.first()) {
-        table.push(rules_of_conn(alloc, gens, tenant, generation, pipeline, conn, cache)?)?;
+        for conn in 0..connections(gens.first()) {
+            table.push(rules_of_conn(alloc, gens, tenant, generation, pipeline, conn, cache)?)?;
+        }
     }
     Ok(())
 }

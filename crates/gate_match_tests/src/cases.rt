@@ -78,17 +78,6 @@ fn is_alike(
     alloc: Global,
     gens: &Generations,
     program: &Program<'_>,
-    number: u32,
-) -> Result<(), Fail> {
-    let batch = batch_of(alloc, number)?;
-    compare(rt, alloc, gens, program, &batch)
-}
-
-fn compare(
-    rt: &impl Abort,
-    alloc: Global,
-    gens: &Generations,
-    program: &Program<'_>,
     batch: &Batch,
 ) -> Result<(), Fail> {
     let found = shown(alloc, program, batch)?;
@@ -106,7 +95,8 @@ fn are_alike(
 ) -> Result<(), Fail> {
     let first = number.saturating_mul(BATCHES);
     for batch in 0..BATCHES {
-        is_alike(rt, alloc, gens, program, first.saturating_add(batch))?;
+        let batch = batch_of(alloc, first.saturating_add(batch))?;
+        is_alike(rt, alloc, gens, program, &batch)?;
     }
     Ok(())
 }

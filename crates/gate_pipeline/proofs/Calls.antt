@@ -69,17 +69,24 @@ items_of_processed config None state = refl
 items_of_processed config (Some (held.Action action)) state = refl
 items_of_processed config (Some (held.Event stamped)) state = refl
 
-items_of_taken : (given : Taken) (state : State) → (taken_in given state).items ≡ state.items
-items_of_taken (taken.Manage manage) state = refl
-items_of_taken (taken.Result result) state = refl
-items_of_taken (taken.Trigger (item.Event stamped)) state = refl
-items_of_taken (taken.Trigger item.End) state = refl
-items_of_taken taken.Again state = refl
+-- what taking in leaves as it is
+pub record Stays (given : Taken) (state : State) : Type 0 where
+  pub items : (taken_in given state).items ≡ state.items
+  pub done : (taken_in given state).done ≡ state.done
+  pub tenant : (taken_in given state).tenant ≡ state.tenant
+  pub pipeline : (taken_in given state).pipeline ≡ state.pipeline
+
+pub stays : (given : Taken) (state : State) → Stays given state
+stays (taken.Manage manage) state = record { items = refl; done = refl; tenant = refl; pipeline = refl }
+stays (taken.Result result) state = record { items = refl; done = refl; tenant = refl; pipeline = refl }
+stays (taken.Trigger (item.Event stamped)) state = record { items = refl; done = refl; tenant = refl; pipeline = refl }
+stays (taken.Trigger item.End) state = record { items = refl; done = refl; tenant = refl; pipeline = refl }
+stays taken.Again state = record { items = refl; done = refl; tenant = refl; pipeline = refl }
 
 items_of_took : (config : Config) (state : State) (given : Taken) → (takes config state given).0.items ≡ after state.items (map action_of (option_to_list (takes config state given).1))
 items_of_took config state given =
     items_of_processed config (to_process state.held given) (taken_in given state)
-    ∙ ap (λ (s : items.State). after s (map action_of (option_to_list (takes config state given).1))) (items_of_taken given state)
+    ∙ ap (λ (s : items.State). after s (map action_of (option_to_list (takes config state given).1))) (stays given state).items
 
 items_of_calls : (state : State) (calls : List Call) → (after_calls state calls).items ≡ after state.items (map action_of (processed_from state calls))
 items_of_calls state [] = refl
@@ -92,7 +99,7 @@ items_of_calls state (Took config given ∷ calls) =
 items_of_calls state (Refused given ∷ calls) =
     let next = held_as (to_process state.held given) (taken_in given state) in
     items_of_calls next calls
-    ∙ ap (λ (s : items.State). after s (map action_of (processed_from next calls))) (items_of_taken given state)
+    ∙ ap (λ (s : items.State). after s (map action_of (processed_from next calls))) (stays given state).items
 items_of_calls state (FoundEmpty ∷ calls) = items_of_calls (found_empty state) calls
 
 -- ---- what is done
@@ -103,17 +110,10 @@ done_of_processed config None state = sym (append-nil state.done)
 done_of_processed config (Some (held.Action action)) state = sym (append-nil state.done)
 done_of_processed config (Some (held.Event stamped)) state = refl
 
-done_of_taken : (given : Taken) (state : State) → (taken_in given state).done ≡ state.done
-done_of_taken (taken.Manage manage) state = refl
-done_of_taken (taken.Result result) state = refl
-done_of_taken (taken.Trigger (item.Event stamped)) state = refl
-done_of_taken (taken.Trigger item.End) state = refl
-done_of_taken taken.Again state = refl
-
 done_of_took : (config : Config) (state : State) (given : Taken) → (takes config state given).0.done ≡ state.done ++ filter_map stamp_of (option_to_list (takes config state given).1)
 done_of_took config state given =
     done_of_processed config (to_process state.held given) (taken_in given state)
-    ∙ ap (λ (stamps : List Stamp). stamps ++ filter_map stamp_of (option_to_list (takes config state given).1)) (done_of_taken given state)
+    ∙ ap (λ (stamps : List Stamp). stamps ++ filter_map stamp_of (option_to_list (takes config state given).1)) (stays given state).done
 
 done_of_calls : (state : State) (calls : List Call) → (after_calls state calls).done ≡ state.done ++ filter_map stamp_of (processed_from state calls)
 done_of_calls state [] = sym (append-nil state.done)
@@ -128,7 +128,7 @@ done_of_calls state (Took config given ∷ calls) =
 done_of_calls state (Refused given ∷ calls) =
     let next = held_as (to_process state.held given) (taken_in given state) in
     done_of_calls next calls
-    ∙ ap (λ (stamps : List Stamp). stamps ++ filter_map stamp_of (processed_from next calls)) (done_of_taken given state)
+    ∙ ap (λ (stamps : List Stamp). stamps ++ filter_map stamp_of (processed_from next calls)) (stays given state).done
 done_of_calls state (FoundEmpty ∷ calls) = done_of_calls (found_empty state) calls
 
 pub applied_once : AppliedOnce

@@ -1,11 +1,12 @@
 -- What was taken is processed or held, after any history of calls.
 use Rattle.std.proofs.Common.{◌≡◌, ◌∙◌, refl, sym, ap, subst, ℕ, List, [], ◌∷◌, ◌++◌, Bool, true, false, map, Option, Some, None, append-nil}
-use Rattle.std.specs.Prelude.{◌||◌, is_some, if◌then◌else◌}
+use Rattle.std.specs.Prelude.{is_some, if◌then◌else◌}
 use Rattle.std.specs.List.{cons_option, filter_map, list_any}
 use Rattle.std.specs.Option.{option_to_list}
 use Rattle.std.proofs.lemmas.List.{map-append}
 use Rattle.std.proofs.lemmas.List.Elements.{filter_map-append}
 use Rattle.std.proofs.lemmas.List.Folds.{list_any-append}
+use Rattle.std.proofs.Math.Bool.{or-false, or-true}
 use Rattle.gate_record.specs.declared.ids.Stamp.{Stamp}
 use Rattle.gate_record.specs.declared.transit.Stamped.{Stamped}
 use Rattle.gate_record.specs.declared.transit.PipelineItem.{PipelineItem}
@@ -20,6 +21,7 @@ use Rattle.gate_items.specs.History.{after, start}
 use Rattle.gate_items.specs.Machine.{apply}
 use Rattle.gate_items.specs.Machine as items
 use Rattle.gate_items.specs.Outcomes.{run}
+use Rattle.gate_pipeline.specs.declared.pass.Pass.{Pass}
 use Rattle.gate_pipeline.specs.declared.pass.Phase.{Phase}
 use Rattle.gate_pipeline.specs.declared.pass.Phase.TheVariants as phase
 use Rattle.gate_pipeline.specs.declared.which.Held.{Held}
@@ -40,14 +42,6 @@ alone (Some y) = refl
 
 picked : {X Y : Type 0} (f : X → Option Y) (xs : List X) (x : X) → filter_map f (xs ++ x ∷ []) ≡ filter_map f xs ++ option_to_list (f x)
 picked f xs x = filter_map-append f xs (x ∷ []) ∙ ap (λ zs. filter_map f xs ++ zs) (alone (f x))
-
-or_false : (b : Bool) → (b || false) ≡ b
-or_false true = refl
-or_false false = refl
-
-or_true : (b : Bool) → (b || true) ≡ true
-or_true true = refl
-or_true false = refl
 
 after_push : (s : items.State) (done : List Action) (a : Action) → after s (done ++ a ∷ []) ≡ (apply (after s done) a).0
 after_push s [] a = refl
@@ -172,7 +166,7 @@ module _ (config : Config) (t p : ℕ) where
           asked_for = picked triggering done x ∙ ap (λ (xs : List (Option Stamp × Action)). xs ++ (Some e.stamp, a) ∷ []) was.asked_for
               ∙ (λ i. filter_map (asking config t p) was.front ++ (Some e.stamp, trigger_of config (holds.tenant i) (holds.number i) e.stamp e.event) ∷ [])
               ∙ sym (picked (asking config t p) was.front (item.Event e));
-          ends = list_any-append is_end was.front (item.Event e ∷ []) ∙ or_false (list_any is_end was.front) ∙ was.ends;
+          ends = list_any-append is_end was.front (item.Event e ∷ []) ∙ or-false (list_any is_end was.front) ∙ was.ends;
           management = was.management ∙ ap (λ (o : Option Held). filter_map managing (map action_of done) ++ held_managed o) waits
               ∙ sym (more_picked h was (Some e.stamp) a managing) ∙ sym (append-nil (filter_map managing (map action_of (done ++ x ∷ []))));
           results = was.results ∙ ap (λ (o : Option Held). filter_map resulting (map action_of done) ++ held_ended o) waits
@@ -195,6 +189,18 @@ module _ (config : Config) (t p : ℕ) where
     abbrev keeping : Taken → History
     keeping given = with_taken given (held_as (to_process h.state.held given) (taken_in given h.state)) h.processed h
 
+    -- of what is held nothing is processed yet: all else but the lists of what was taken is as it was
+    stays : {o : Option Held} {pass : Pass} {triggers : List PipelineItem} {management : List Manage} {results : List JobResult} →
+        triggers ≡ was.front ++ held_items o → management ≡ filter_map managing (map action_of h.processed) ++ held_managed o →
+        results ≡ filter_map resulting (map action_of h.processed) ++ held_ended o → IsNoTrigger o →
+        Holds config t p (record h { state = record h.state { pass = pass; held = o }; triggers = triggers; management = management; results = results })
+    stays of_triggers of_management of_results plain = record {
+      are = record { front = was.front; triggers = of_triggers; stamps = was.stamps; asked_for = was.asked_for; ends = was.ends; management = of_management; results = of_results; done = was.done; items = was.items; outcomes = was.outcomes };
+      tenant = holds.tenant;
+      number = holds.number;
+      plain = plain;
+    }
+
     module _ (none : h.state.held ≡ None) where
       free_triggers : h.triggers ≡ was.front
       free_triggers = was.triggers ∙ ap (λ (o : Option Held). was.front ++ held_items o) none ∙ append-nil was.front
@@ -205,122 +211,53 @@ module _ (config : Config) (t p : ℕ) where
       free_results : h.results ≡ filter_map resulting (map action_of h.processed)
       free_results = was.results ∙ ap (λ (o : Option Held). filter_map resulting (map action_of h.processed) ++ held_ended o) none ∙ append-nil (filter_map resulting (map action_of h.processed))
 
+      -- with these behind what was taken of triggers, management and results
+      triggers_with : (more : List PipelineItem) → h.triggers ++ more ≡ was.front ++ more
+      triggers_with more = ap (λ (xs : List PipelineItem). xs ++ more) free_triggers
+
+      managed_with : (more : List Manage) → h.management ++ more ≡ filter_map managing (map action_of h.processed) ++ more
+      managed_with more = ap (λ (xs : List Manage). xs ++ more) free_management
+
+      ended_with : (more : List JobResult) → h.results ++ more ≡ filter_map resulting (map action_of h.processed) ++ more
+      ended_with more = ap (λ (xs : List JobResult). xs ++ more) free_results
+
       keeps_manage : (m : Manage) → Holds config t p (keeping (taken.Manage m))
-      keeps_manage m = record {
-        are = record {
-          front = was.front;
-          triggers = ap (λ (xs : List PipelineItem). xs ++ []) free_triggers;
-          stamps = was.stamps;
-          asked_for = was.asked_for;
-          ends = was.ends;
-          management = ap (λ (xs : List Manage). xs ++ m ∷ []) free_management;
-          results = ap (λ (xs : List JobResult). xs ++ []) free_results;
-          done = was.done;
-          items = was.items;
-          outcomes = was.outcomes;
-        };
-        tenant = holds.tenant;
-        number = holds.number;
-        plain = tt;
-      }
+      keeps_manage m = stays {o = Some (held.Action (action.Manage m))} (triggers_with []) (managed_with (m ∷ [])) (ended_with []) tt
 
       keeps_result : (r : JobResult) → Holds config t p (keeping (taken.Result r))
-      keeps_result r = record {
-        are = record {
-          front = was.front;
-          triggers = ap (λ (xs : List PipelineItem). xs ++ []) free_triggers;
-          stamps = was.stamps;
-          asked_for = was.asked_for;
-          ends = was.ends;
-          management = ap (λ (xs : List Manage). xs ++ []) free_management;
-          results = ap (λ (xs : List JobResult). xs ++ r ∷ []) free_results;
-          done = was.done;
-          items = was.items;
-          outcomes = was.outcomes;
-        };
-        tenant = holds.tenant;
-        number = holds.number;
-        plain = tt;
-      }
+      keeps_result r = stays {o = Some (held.Action (action.Result r))} (triggers_with []) (managed_with []) (ended_with (r ∷ [])) tt
 
       keeps_event : (e : Stamped) → Holds config t p (keeping (taken.Trigger (item.Event e)))
-      keeps_event e = record {
-        are = record {
-          front = was.front;
-          triggers = ap (λ (xs : List PipelineItem). xs ++ item.Event e ∷ []) free_triggers;
-          stamps = was.stamps;
-          asked_for = was.asked_for;
-          ends = was.ends;
-          management = ap (λ (xs : List Manage). xs ++ []) free_management;
-          results = ap (λ (xs : List JobResult). xs ++ []) free_results;
-          done = was.done;
-          items = was.items;
-          outcomes = was.outcomes;
-        };
-        tenant = holds.tenant;
-        number = holds.number;
-        plain = tt;
-      }
+      keeps_event e = stays {o = Some (held.Event e)} (triggers_with (item.Event e ∷ [])) (managed_with []) (ended_with []) tt
+
+      abbrev ending : History
+      ending = with_taken (taken.Trigger item.End) (record (counted h.state) { finished = true }) h.processed h
 
       -- the end mark, of which nothing is processed
-      takes_end : Holds config t p (with_taken (taken.Trigger item.End) (record (counted h.state) { finished = true }) h.processed h)
-      takes_end = record {
-        are = record {
-          front = was.front ++ item.End ∷ [];
-          triggers = ap (λ (xs : List PipelineItem). xs ++ item.End ∷ []) free_triggers ∙ sym (append-nil (was.front ++ item.End ∷ []))
-              ∙ ap (λ (o : Option Held). (was.front ++ item.End ∷ []) ++ held_items o) (sym none);
-          stamps = picked stamp_in was.front item.End ∙ append-nil (filter_map stamp_in was.front) ∙ was.stamps;
-          asked_for = was.asked_for ∙ sym (picked (asking config t p) was.front item.End ∙ append-nil (filter_map (asking config t p) was.front));
-          ends = list_any-append is_end was.front (item.End ∷ []) ∙ or_true (list_any is_end was.front);
-          management = append-nil h.management ∙ was.management;
-          results = append-nil h.results ∙ was.results;
-          done = was.done;
-          items = was.items;
-          outcomes = was.outcomes;
-        };
-        tenant = holds.tenant;
-        number = holds.number;
-        plain = holds.plain;
-      }
-
-    -- what is held is held again
-    keeps_on : Holds config t p (keeping taken.Again)
-    keeps_on = record {
-      are = record {
-        front = was.front;
-        triggers = append-nil h.triggers ∙ was.triggers;
-        stamps = was.stamps;
-        asked_for = was.asked_for;
-        ends = was.ends;
+      end_is_processed : AreProcessed config t p ending
+      end_is_processed = record {
+        front = was.front ++ item.End ∷ [];
+        triggers = triggers_with (item.End ∷ []) ∙ sym (append-nil (was.front ++ item.End ∷ []))
+            ∙ ap (λ (o : Option Held). (was.front ++ item.End ∷ []) ++ held_items o) (sym none);
+        stamps = picked stamp_in was.front item.End ∙ append-nil (filter_map stamp_in was.front) ∙ was.stamps;
+        asked_for = was.asked_for ∙ sym (picked (asking config t p) was.front item.End ∙ append-nil (filter_map (asking config t p) was.front));
+        ends = list_any-append is_end was.front (item.End ∷ []) ∙ or-true (list_any is_end was.front);
         management = append-nil h.management ∙ was.management;
         results = append-nil h.results ∙ was.results;
         done = was.done;
         items = was.items;
         outcomes = was.outcomes;
-      };
-      tenant = holds.tenant;
-      number = holds.number;
-      plain = holds.plain;
-    }
+      }
+
+      takes_end : Holds config t p ending
+      takes_end = record { are = end_is_processed; tenant = holds.tenant; number = holds.number; plain = holds.plain }
+
+    -- what is held is held again
+    keeps_on : Holds config t p (keeping taken.Again)
+    keeps_on = stays {o = h.state.held} (append-nil h.triggers ∙ was.triggers) (append-nil h.management ∙ was.management) (append-nil h.results ∙ was.results) holds.plain
 
     passes_on : Holds config t p (record h { state = found_empty h.state })
-    passes_on = record {
-      are = record {
-        front = was.front;
-        triggers = was.triggers;
-        stamps = was.stamps;
-        asked_for = was.asked_for;
-        ends = was.ends;
-        management = was.management;
-        results = was.results;
-        done = was.done;
-        items = was.items;
-        outcomes = was.outcomes;
-      };
-      tenant = holds.tenant;
-      number = holds.number;
-      plain = holds.plain;
-    }
+    passes_on = stays {o = h.state.held} was.triggers was.management was.results holds.plain
 
     -- ---- each call
 

@@ -5,12 +5,10 @@ use Rattle.gate_config.specs.Lookups.{jobs_of}
 use Rattle.gate_items.specs.declared.action.Action.TheVariants as action
 use Rattle.gate_pipeline.specs.declared.which.Held.{Held}
 use Rattle.gate_pipeline.specs.declared.which.Held.TheVariants as held
-use Rattle.gate_pipeline.specs.declared.which.Taken.{Taken}
-use Rattle.gate_pipeline.specs.declared.which.Taken.TheVariants as taken
-use Rattle.gate_record.specs.declared.transit.PipelineItem.TheVariants as item
 use Rattle.gate_pipeline.specs.Histories.{SameJobsSameActions}
 use Rattle.gate_pipeline.specs.States.{State, applied, held_as, taken_in, to_process, with_processed}
 use Rattle.gate_pipeline.specs.Triggers.{key_of, patchset_of, project_of}
+use Rattle.gate_pipeline.proofs.Calls.{stays}
 
 module _ (a b : Config) (t p : ℕ) (same : (project : List ℕ) → jobs_of a t p project ≡ jobs_of b t p project) where
   of_waiting : (waiting : Option Held) (state : State) → state.tenant ≡ t → state.pipeline ≡ p → with_processed a waiting state ≡ with_processed b waiting state
@@ -23,20 +21,6 @@ module _ (a b : Config) (t p : ℕ) (same : (project : List ℕ) → jobs_of a t
       ∙ sym (ap (λ i. jobs_of b i state.pipeline (project_of s.event)) of_t ∙ ap (λ i. jobs_of b t i (project_of s.event)) of_p) in
       ap (λ names. (let done = applied (Some s.stamp) (action.Trigger key (patchset_of s.event key) names) (record (held_as None state) { done = state.done ++ s.stamp ∷ [] }) in (done.0, Some done.1))) jobs
 
-tenant_kept : (given : Taken) (state : State) → (taken_in given state).tenant ≡ state.tenant
-tenant_kept (taken.Manage manage) state = refl
-tenant_kept (taken.Result result) state = refl
-tenant_kept (taken.Trigger (item.Event s)) state = refl
-tenant_kept (taken.Trigger item.End) state = refl
-tenant_kept taken.Again state = refl
-
-pipeline_kept : (given : Taken) (state : State) → (taken_in given state).pipeline ≡ state.pipeline
-pipeline_kept (taken.Manage manage) state = refl
-pipeline_kept (taken.Result result) state = refl
-pipeline_kept (taken.Trigger (item.Event s)) state = refl
-pipeline_kept (taken.Trigger item.End) state = refl
-pipeline_kept taken.Again state = refl
-
 pub same_jobs_same_actions : SameJobsSameActions
 same_jobs_same_actions a b state given same =
-    of_waiting a b state.tenant state.pipeline same (to_process state.held given) (taken_in given state) (tenant_kept given state) (pipeline_kept given state)
+    of_waiting a b state.tenant state.pipeline same (to_process state.held given) (taken_in given state) (stays given state).tenant (stays given state).pipeline

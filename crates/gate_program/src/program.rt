@@ -113,8 +113,7 @@ where
             let documents = files(rt, config)?;
             let journal = journal_path(rt)?;
             let path = journal.as_deref();
-            let (documents, sources) = (documents.as_slice(), sources.as_slice());
-            let ran = serve_words(rt, documents, status.as_str(), sources, path)?;
+            let ran = serve_words(rt, documents, status.as_str(), sources.as_slice(), path)?;
             Ok(said_of_run(rt.alloc(), ran, path))
         }
         Task::Input => replay_input(rt, input),

@@ -42,7 +42,7 @@ pub(crate) struct Ran {
 /// `Connect` for the streams, in the order of their words; `Thread`. `Memory` where it is refused.
 pub(crate) fn serve_words<X>(
     rt: &X,
-    documents: &[Vec<u8>],
+    documents: Vec<Vec<u8>>,
     status: &str,
     words: &[String],
     journal: Option<&str>,
@@ -60,7 +60,9 @@ where
         + 'static,
 {
     let alloc = rt.alloc();
-    let gens = read_generations(alloc, documents)?;
+    let gens = read_generations(alloc, documents.as_slice())?;
+    // A run may take days, and what was read isn't asked again.
+    drop(documents);
     let address = port_address(status)?;
     let sources = sources_of(alloc, gens.first(), words)?;
     let (port, socket) = listen(rt, status, address)?;

@@ -15,7 +15,7 @@ use Rattle.gate_queue.specs.Views.{as_sender}
 use Rattle.gate_queue.specs.Inner.Views.{with_more}
 use Rattle.gate_queue.proofs.Views.{each_set, each_snoc}
 use Rattle.gate_queue.proofs.Told.{put_keeps, take_keeps_at}
-use Rattle.gate_queue.proofs.Keeps.{takes_many}
+use Rattle.gate_queue.proofs.Keeps.{nothing_yet, refit, takes_many}
 use Rattle.gate_queue.proofs.Parts.{plans, seats, parts}
 
 module _ {T : Type 0} where
@@ -113,16 +113,7 @@ module _ {T : Type 0} where
       let s = b.shares in
       inr
       (record {
-        shares = record {
-          taker = s.taker;
-          senders = s.senders;
-          holder = s.holder;
-          all = s.all;
-          taken = s.taken;
-          history = s.history;
-          from = s.from;
-          fits = each_snoc (Fits s.taker s.senders s.holder s.all s.taken) views Nothing s.fits tt;
-        };
+        shares = refit s s.holder s.taken s.history (each_snoc (Fits s.taker s.senders s.holder s.all s.taken) views Nothing s.fits tt);
         taker = b.taker;
         first = first_snoc views Nothing (Taker b.taker) b.first;
       }))
@@ -137,18 +128,10 @@ module _ {T : Type 0} where
       let F : ℕ → Known T → Type 0 = Fits 0 0 (λ _. 0) [] [] in
       inr
       (record {
-        shares = record {
-          taker = 0;
-          senders = 0;
-          holder = λ _. 0;
-          all = [];
-          taken = [];
-          history = sym f.none_waits;
-          from = λ k d h. absurd (omega arith);
-          fits = each_snoc F (set views pass w) Nothing
-              (each_set F views pass w (record { here = here; got = refl; count = refl; unmade = λ s h. (refl, refl); joined = λ s h. absurd (omega arith) })
-              (λ j u apart e. subst (F j) (sym (f.none_knows j u e)) tt)) tt;
-        };
+        shares = nothing_yet f.none_waits
+            (each_snoc F (set views pass w) Nothing
+            (each_set F views pass w (record { here = here; got = refl; count = refl; unmade = λ s h. (refl, refl); joined = λ s h. absurd (omega arith) })
+            (λ j u apart e. subst (F j) (sym (f.none_knows j u e)) tt)) tt);
         taker = record { senders = 0; made = 0; taken = []; joined = [] };
         first = first_snoc (set views pass w) Nothing w (subst (λ p. get_elem? (set views p w) 0 ≡ some w) (sym here) (first_set views w Nothing f.first));
       }))

@@ -14,22 +14,23 @@ use Rattle.gate_queue.specs.Inner.Views.{with_more}
 use Rattle.gate_queue.specs.Sharing.{IsSender, IsTaker, Fits, Shares, joined_number}
 use Rattle.gate_queue.specs.Inner.Sharing.{newcomer, HasPut, HasTaken, HasTakenAll, CanWait, SenderAllows, TakerAllows}
 use Rattle.gate_queue.proofs.Values.{values_of-same, values_of-other}
-use Rattle.gate_queue.proofs.Views.{each_set, each_snoc}
+use Rattle.gate_queue.proofs.Views.{Each, each_set, each_snoc}
 
 module _ {T : Type 0} where
+  -- the rule while nothing was put and no sender has a seat
+  pub nothing_yet : {items : List (Tagged T)} {views : List (Known T)} → items ≡ [] → Each (Fits 0 0 (λ _. 0) [] []) views → Shares items views
+  nothing_yet none fits = record { taker = 0; senders = 0; holder = λ _. 0; all = []; taken = []; history = sym none; from = λ k d h. absurd (omega arith); fits = fits }
+
   -- the rule of a new queue
   pub begins : Shares {T = T} [] (newcomer 0 ∷ [])
-  begins = record {
-    taker = 0;
-    senders = 0;
-    holder = λ _. 0;
-    all = [];
-    taken = [];
-    history = refl;
-    from = λ k d h. absurd (omega arith);
-    fits = each_snoc (Fits 0 0 (λ _. 0) [] []) [] (newcomer 0) (λ pass v e. absurd (some-ne-none v (sym e)))
-        (record { here = refl; got = refl; count = refl; unmade = λ s h. (refl, refl); joined = λ s h. absurd (omega arith) });
-  }
+  begins =
+      nothing_yet refl
+      (each_snoc (Fits 0 0 (λ _. 0) [] []) [] (newcomer 0) (λ pass v e. absurd (some-ne-none v (sym e)))
+      (record { here = refl; got = refl; count = refl; unmade = λ s h. (refl, refl); joined = λ s h. absurd (omega arith) }))
+
+  -- the same history, of which perhaps more is taken, with other views and perhaps other holders of seats
+  pub refit : {items rest : List (Tagged T)} {views others : List (Known T)} (h : Shares items views) (holder : ℕ → ℕ) (taken : List (Tagged T)) → h.all ≡ taken ++ rest → Each (Fits h.taker h.senders holder h.all taken) others → Shares rest others
+  refit h holder taken history fits = record { taker = h.taker; senders = h.senders; holder = holder; all = h.all; taken = taken; history = history; from = h.from; fits = fits }
 
   one_from : (senders : ℕ) (x : Tagged T) → x.sender < senders → AreFrom senders (x ∷ [])
   one_from senders x h zero d k = h
@@ -100,17 +101,9 @@ module _ {T : Type 0} where
       let mine : IsTaker h.taker h.senders h.holder h.all taken pass w =
       record { here = me.here; got = ap (λ l. l ++ xs) me.got; count = me.count; unmade = me.unmade; joined = me.joined } in (
         Taker w,
-        record {
-          taker = h.taker;
-          senders = h.senders;
-          holder = h.holder;
-          all = h.all;
-          taken = taken;
-          history = history;
-          from = h.from;
-          fits = each_set (Fits h.taker h.senders h.holder h.all taken) views pass (Taker w) mine
-              (λ j u apart e. fits_take h.taker h.senders h.holder h.all h.taken taken pass me.here j u apart (h.fits j u e));
-        },
+        refit h h.holder taken history
+            (each_set (Fits h.taker h.senders h.holder h.all taken) views pass (Taker w) mine
+            (λ j u apart e. fits_take h.taker h.senders h.holder h.all h.taken taken pass me.here j u apart (h.fits j u e))),
         (refl, (items, taker_allows h.taker h.senders h.holder h.all taken items pass w history h.from mine)),
       )
 

@@ -15,6 +15,7 @@ use Rattle.gate_queue.specs.Inner.FreeSharing.{parted, first_joined}
 use Rattle.gate_queue.specs.Inner.Views.{with_joined}
 use Rattle.crossbeam_queue.proofs.Lists.{set_else}
 use Rattle.gate_queue.proofs.Views.{Each, each_set, each_snoc}
+use Rattle.gate_queue.proofs.Keeps.{refit}
 
 -- the holders when seat s goes to p
 abbrev given : (ℕ → ℕ) → ℕ → ℕ → ℕ → ℕ
@@ -90,17 +91,9 @@ module _ {T : Type 0} where
       let new : IsSender h.senders (given h.holder v.made n) h.all (length vs) next =
       record { seat = given_there h.holder v.made n; put = sym free.1; count = me.count; within = subst (λ k. v.made < k) me.count room } in
       let F : ℕ → Known T → Type 0 = Fits h.taker h.senders (given h.holder v.made n) h.all h.taken in
-      record {
-        taker = h.taker;
-        senders = h.senders;
-        holder = given h.holder v.made n;
-        all = h.all;
-        taken = h.taken;
-        history = h.history;
-        from = h.from;
-        fits = each_snoc F vs (Sender next)
-            (each_set F views pass (Taker w) mine (λ j u apart e. fits_seat h.taker h.senders h.holder h.all h.taken pass v.made n me.here free.0 j u apart (h.fits j u e))) new;
-      }
+      refit h (given h.holder v.made n) h.taken h.history
+      (each_snoc F vs (Sender next)
+      (each_set F views pass (Taker w) mine (λ j u apart e. fits_seat h.taker h.senders h.holder h.all h.taken pass v.made n me.here free.0 j u apart (h.fits j u e))) new)
 
   pub seats : (pass : ℕ) (k : Known T) (v : Got T) → k ≡ Taker v → v.made < v.senders → length v.joined ≡ 0 → Forks Shares pass k (seated k) (next_sender k)
   seats pass k v is room apart = subst (λ (k : Known T). Forks Shares pass k (seated k) (next_sender k)) (sym is) (seats_at pass v room apart)
@@ -129,17 +122,9 @@ module _ {T : Type 0} where
       let new : IsSender h.senders (given h.holder s n) h.all (length vs) next =
       record { seat = given_there h.holder s n; put = free.1; count = me.count; within = subst (λ k. s < k) me.count (omega arith) } in
       let F : ℕ → Known T → Type 0 = Fits h.taker h.senders (given h.holder s n) h.all h.taken in
-      record {
-        taker = h.taker;
-        senders = h.senders;
-        holder = given h.holder s n;
-        all = h.all;
-        taken = h.taken;
-        history = h.history;
-        from = h.from;
-        fits = each_snoc F vs (Sender next)
-            (each_set F views pass (Taker w) mine (λ j u apart e. fits_seat h.taker h.senders h.holder h.all h.taken pass s n me.here free.0 j u apart (h.fits j u e))) new;
-      }
+      refit h (given h.holder s n) h.taken h.history
+      (each_snoc F vs (Sender next)
+      (each_set F views pass (Taker w) mine (λ j u apart e. fits_seat h.taker h.senders h.holder h.all h.taken pass s n me.here free.0 j u apart (h.fits j u e))) new)
 
   -- the first seat that was joined is given back
   pub parts : (pass : ℕ) (k : Known T) (v : Got T) → k ≡ Taker v → v.made ≡ v.senders → 0 < length v.joined → length v.joined ≤ v.senders → Forks Shares pass k (parted k) (first_joined k)
@@ -184,16 +169,8 @@ module _ {T : Type 0} where
       let G : ℕ → Known T → Type 0 = λ j u. j ≢ other → F j u in
       let now : Each G vs = each_set G views pass (Taker v') (λ _. mine)
       (λ j u apart e apart'. fits_join h.taker h.senders h.holder h.all h.taken pass other w.sender me.here it.seat j u apart apart' (h.fits j u e)) in
-      record {
-        taker = h.taker;
-        senders = h.senders;
-        holder = holder;
-        all = h.all;
-        taken = h.taken;
-        history = h.history;
-        from = h.from;
-        fits = each_set F vs other Nothing tt (λ j u apart e. now j u e apart);
-      }
+      refit h holder h.taken h.history
+      (each_set F vs other Nothing tt (λ j u apart e. now j u e apart))
     where
       both : (all : List (Tagged T)) (holder : ℕ → ℕ) (v : Got T) (w : Put T) → w.sender + suc (length v.joined) ≡ v.senders → (holder w.sender ≡ 0) × (w.put ≡ values_of w.sender all)
           → ((i : ℕ) → i < length v.joined → (holder (joined_number v i) ≡ 0) × (get_or v.joined i [] ≡ values_of (joined_number v i) all))

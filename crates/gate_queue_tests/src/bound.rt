@@ -41,6 +41,21 @@ fn put<R: Wait + Abort>(rt: &R, queue: &EventQueue<char>, tail: &mut Tail<char>,
     assert!(rt; queue.put(rt, tail, value) == Ok(()), "{value}");
 }
 
+// Puts these values, one after another.
+fn put_each<R: Wait + Abort>(
+    rt: &R,
+    queue: &EventQueue<char>,
+    tail: &mut Tail<char>,
+    values: &[char],
+)
+    requires { IsTailOf queue.now tail.old }
+    ensures { IsTailOf queue.now tail.new × (tail.new.sender ≡ tail.old.sender) }
+{
+    for value in values {
+        put(rt, queue, tail, *value);
+    }
+}
+
 // Puts no value, since the queue is full.
 fn put_none<R: Wait + Abort>(rt: &R, queue: &EventQueue<char>, tail: &mut Tail<char>, value: char)
     requires { IsTailOf queue.now tail.old }
@@ -88,8 +103,7 @@ fn leave<R: Wait + Abort>(
 #[test]
 fn one_sender_fills_two_places(rt: HostRuntime) -> Result<(), Fail> {
     let (queue, mut tails, mut head) = open(rt.alloc(), 2, 1)?;
-    put(&rt, &queue, &mut tails[0], 'a');
-    put(&rt, &queue, &mut tails[0], 'b');
+    put_each(&rt, &queue, &mut tails[0], &['a', 'b']);
     put_none(&rt, &queue, &mut tails[0], 'c');
     take(&rt, &queue, &mut head, 0, 'a');
     leave(&rt, queue, tails, head, &[tagged(0, 'b')])

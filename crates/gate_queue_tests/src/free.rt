@@ -106,8 +106,8 @@ fn take_all<R: Wait + Abort>(
 fn take_few<R: Wait + Abort>(
     rt: &R,
     alloc: Global,
-    queue: &FreeQueue<char>,
-    head: &mut FreeHead<char>,
+    queue: &FreeQueue<u64>,
+    head: &mut FreeHead<u64>,
     most: usize,
 )
     requires { IsHeadOf queue.now head.old }
@@ -174,9 +174,8 @@ fn batches_then_one(rt: HostRuntime) -> Result<(), Fail> {
 #[test]
 fn a_batch_has_at_most_as_many(rt: HostRuntime) -> Result<(), Fail> {
     let (queue, mut tails, mut head) = open_free(rt.alloc(), 1)?;
-    put(&rt, &queue, &mut tails, 0, 'a');
-    put(&rt, &queue, &mut tails, 0, 'b');
-    put(&rt, &queue, &mut tails, 0, 'c');
+    let tail = tails.pop().ok_or("a seat")?;
+    assert!(rt; put_all(&rt, &queue, tail, &[1, 2, 3]));
     take_few(&rt, rt.alloc(), &queue, &mut head, 2);
     take_few(&rt, rt.alloc(), &queue, &mut head, 0);
     Ok(())
@@ -287,26 +286,7 @@ fn many_pass_in_batches(rt: HostRuntime) -> Result<(), Fail> {
     Ok(())
 }
 
-// Puts these values, and takes as many by as many batches of at most `k`: how many came.
-fn taken_in_batches<R: Wait>(
-    rt: &R,
-    alloc: Global,
-    queue: &FreeQueue<u64>,
-    tail: FreeTail<u64>,
-    mut head: FreeHead<u64>,
-    all: &[u64],
-    k: usize,
-) -> Result<usize, Fail>
-    requires { IsTailOf queue.now tail × IsHeadOf queue.now head }
-{
-    if !put_all(rt, queue, tail, all) {
-        return Err(Fail::from("memory"));
-    }
-    let got = gather(rt, alloc, queue, &mut head, k, all.len(), all.len() as u64)?;
-    Ok(got.len())
-}
-
-// Sees that each batch gives one value at the least while any of so many waits.
+// Sees that each batch of at most `k` gives one value at the least while any of so many waits: as many batches give all.
 fn no_batch_is_empty<R: Wait + Abort>(
     rt: &R,
     alloc: Global,
@@ -314,15 +294,14 @@ fn no_batch_is_empty<R: Wait + Abort>(
     k: usize,
 ) -> Result<(), Fail> {
     let all: Vec<u64> = (0..waits).collect(alloc)?;
-    let (queue, mut tails, head) = open_free(alloc, 1)?;
-    match tails.pop() {
-        Some(tail) => {
-            let got = taken_in_batches(rt, alloc, &queue, tail, head, all.as_slice(), k)?;
-            assert!(rt; got == all.len(), "{waits} in batches of {k}");
-            Ok(())
-        }
-        None => Err(Fail::from("a seat")),
+    let (queue, mut tails, mut head) = open_free(alloc, 1)?;
+    let tail = tails.pop().ok_or("a seat")?;
+    if !put_all(rt, &queue, tail, all.as_slice()) {
+        return Err(Fail::from("memory"));
     }
+    let got = gather(rt, alloc, &queue, &mut head, k, all.len(), all.len() as u64)?;
+    assert!(rt; got.len() == all.len(), "{waits} in batches of {k}");
+    Ok(())
 }
 
 #[test]

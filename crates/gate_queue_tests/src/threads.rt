@@ -167,21 +167,26 @@ fn two_put<R: Threads + Wait + Sync>(
     }
 }
 
+// Sees that the values of so many senders, those that were taken and those that wait, are 0, 1 and so on, below `count`.
+fn are_in_order(
+    rt: &impl Abort,
+    taken: &[Tagged<u64>],
+    rest: &[Tagged<u64>],
+    senders: usize,
+    count: u64,
+) {
+    for sender in 0..senders {
+        assert!(rt; is_in_order(taken, rest, sender, count), "{sender}");
+    }
+}
+
 #[test]
 fn two_put_while_one_takes(rt: HostRuntime) -> Result<(), Fail> {
     let numbers: Vec<u64> = (0..1000).collect(rt.alloc())?;
-    both_arrive(&rt, rt.alloc(), numbers.as_slice())
-}
-
-fn both_arrive<R: Threads + Wait + Abort + Sync>(
-    rt: &R,
-    alloc: Global,
-    thousand: &[u64],
-) -> Result<(), Fail> {
-    let (taken, rest) = two_put(rt, alloc, thousand, thousand, 1990)?;
+    let each = numbers.as_slice();
+    let (taken, rest) = two_put(&rt, rt.alloc(), each, each, 1990)?;
     assert!(rt; (taken.len(), rest.len()) == (1990, 10));
-    assert!(rt; is_in_order(taken.as_slice(), rest.as_slice(), 0, 1000));
-    assert!(rt; is_in_order(taken.as_slice(), rest.as_slice(), 1, 1000));
+    are_in_order(&rt, taken.as_slice(), rest.as_slice(), 2, 1000);
     Ok(())
 }
 
@@ -223,28 +228,16 @@ fn settled<R: Wait>(
     requires tails { AreAllTailsOf queue tails.items }
     requires head { IsHeadOf queue head }
 {
-    match queue.settle(rt, tails, head) {
-        Ok(rest) => Ok((taken, rest)),
-        Err(_) => Err(Fail::from("memory")),
-    }
+    let rest = queue.settle(rt, tails, head).ok().ok_or("memory")?;
+    Ok((taken, rest))
 }
 
 #[test]
 fn four_put_to_the_end(rt: HostRuntime) -> Result<(), Fail> {
     let numbers: Vec<u64> = (0..50_000).collect(rt.alloc())?;
-    all_arrive(&rt, rt.alloc(), numbers.as_slice())
-}
-
-fn all_arrive<R: Threads + Wait + Abort + Sync>(
-    rt: &R,
-    alloc: Global,
-    each: &[u64],
-) -> Result<(), Fail> {
-    let (taken, rest) = all_put(rt, alloc, 4, each, 200_000)?;
+    let (taken, rest) = all_put(&rt, rt.alloc(), 4, numbers.as_slice(), 200_000)?;
     assert!(rt; (taken.len(), rest.len()) == (200_000, 0));
-    for sender in 0..4 {
-        assert!(rt; is_in_order(taken.as_slice(), rest.as_slice(), sender, 50_000));
-    }
+    are_in_order(&rt, taken.as_slice(), rest.as_slice(), 4, 50_000);
     Ok(())
 }
 

@@ -54,16 +54,17 @@ path_bytes : (path : List (List ℕ)) (value : Data) → OfBytes value → IfSom
 path_bytes [] value h = h
 path_bytes (key ∷ keys) value h = after OfBytes OfBytes (at_path keys) (λ inner k. path_bytes keys inner k) (get key value) (get_bytes key value h)
 
-str_bytes : (value : Data) → OfBytes value → IfSome (as_str value) AreBytes
-str_bytes null h = tt
-str_bytes (boolean b) h = tt
-str_bytes (number n) h = tt
-str_bytes (string s) h = h
-str_bytes (array values) h = tt
-str_bytes (object inside) h = tt
+-- a text, and the items of a list
+parts_bytes : (value : Data) → OfBytes value → IfSome (as_str value) AreBytes × IfSome (as_array value) AllOfBytes
+parts_bytes null h = (tt, tt)
+parts_bytes (boolean b) h = (tt, tt)
+parts_bytes (number n) h = (tt, tt)
+parts_bytes (string s) h = (h, tt)
+parts_bytes (array values) h = (tt, h)
+parts_bytes (object inside) h = (tt, tt)
 
 text_bytes : (path : List (List ℕ)) (value : Data) → OfBytes value → IfSome (text_at path value) AreBytes
-text_bytes path value h = after OfBytes AreBytes as_str str_bytes (at_path path value) (path_bytes path value h)
+text_bytes path value h = after OfBytes AreBytes as_str (λ inner k. (parts_bytes inner k).0) (at_path path value) (path_bytes path value h)
 
 either_bytes : (a b : Option (List ℕ)) → IfSome a AreBytes → IfSome b AreBytes → IfSome (option_or a b) AreBytes
 either_bytes None b h k = k
@@ -118,14 +119,6 @@ items_each : (values : Items) → AllOfBytes values → Each (items_in values)
 items_each no_items h = tt
 items_each (item value values) h = (h.0, items_each values h.1)
 
-array_bytes : (value : Data) → OfBytes value → IfSome (as_array value) AllOfBytes
-array_bytes null h = tt
-array_bytes (boolean b) h = tt
-array_bytes (number n) h = tt
-array_bytes (string s) h = tt
-array_bytes (array values) h = h
-array_bytes (object inside) h = tt
-
 list_each : (o : Option Items) → IfSome o AllOfBytes → Each (unwrap_or (option_map items_in o) [])
 list_each None h = tt
 list_each (Some values) h = items_each values h
@@ -140,7 +133,7 @@ kept (value ∷ values) h = one_kept (approval_of value) (filter_map approval_of
 
 approvals_bytes : (value : Data) → OfBytes value → All NameOfBytes (approvals_of value)
 approvals_bytes value h =
-    All-take NameOfBytes most_approvals _ (kept _ (list_each _ (after OfBytes AllOfBytes as_array array_bytes (at_path (codes "approvals" ∷ []) value) (path_bytes (codes "approvals" ∷ []) value h))))
+    All-take NameOfBytes most_approvals _ (kept _ (list_each _ (after OfBytes AllOfBytes as_array (λ inner k. (parts_bytes inner k).1) (at_path (codes "approvals" ∷ []) value) (path_bytes (codes "approvals" ∷ []) value h))))
 
 -- ---- events
 

@@ -1,3 +1,4 @@
+pub mod Addressed
 pub mod Bytes
 pub mod Categories
 pub mod EventBytes

@@ -24,17 +24,20 @@ pub record HasSeen (name : List ℕ) (whole : json.Json) (rest : json.Members) (
 seen_none : (name : List ℕ) (whole : json.Json) (ms : json.Members) → whole ≡ json.object ms → HasSeen name whole ms None
 seen_none name whole ms is = record { earlier = None; found_there = refl; says = ap (find.get name) is ∙ or_none _ }
 
-seen_here : {name key : List ℕ} {whole j : json.Json} {rest : json.Members} {found : Option (List Token)} (tokens : List Token) → bytes_eq key name ≡ true → BeginsWith tokens j
-    → HasSeen name whole (json.member key j rest) found → HasSeen name whole rest (Some tokens)
-seen_here {name} {key} {whole} {j} {rest} tokens same begins seen = record {
+-- how what is known of a name behind a member with this key comes of what is known before it
+abbrev Goes : List ℕ → List ℕ → List Token → Option (List Token) → Option (List Token) → Type 0
+Goes name key tokens before behind =
+    (whole j : json.Json) (rest : json.Members) → BeginsWith tokens j → HasSeen name whole (json.member key j rest) before → HasSeen name whole rest behind
+
+seen_here : {name key : List ℕ} {tokens : List Token} {found : Option (List Token)} → bytes_eq key name ≡ true → Goes name key tokens found (Some tokens)
+seen_here {name} {key} {tokens} {found} same whole j rest begins seen = record {
   earlier = Some j;
   found_there = (j, refl, begins);
   says = seen.says ∙ ap (λ (b : Bool). later_or (later_or (find.get_member name rest) (cond b (Some j) None)) seen.earlier) same ∙ newer (find.get_member name rest) j seen.earlier;
 }
 
-seen_other : {name key : List ℕ} {whole j : json.Json} {rest : json.Members} {found : Option (List Token)} → bytes_eq key name ≡ false
-    → HasSeen name whole (json.member key j rest) found → HasSeen name whole rest found
-seen_other {name} {key} {whole} {j} {rest} other seen = record {
+seen_other : {name key : List ℕ} {found : Option (List Token)} (tokens : List Token) → bytes_eq key name ≡ false → Goes name key tokens found found
+seen_other {name} {key} {found} tokens other whole j rest begins seen = record {
   earlier = seen.earlier;
   found_there = seen.found_there;
   says = seen.says ∙ ap (λ (b : Bool). later_or (later_or (find.get_member name rest) (cond b (Some j) None)) seen.earlier) other
@@ -55,57 +58,32 @@ is_other key name other same differ = subst (λ k. bytes_eq k other ≡ false) (
 
 module _ {outer members : List Token} {first second third : List ℕ} {at_first at_second at_third : Option (List Token)} where
   module _ (key : List ℕ) (tokens new : List Token) (next : NextMember members (Some (key, tokens)) new) (seen : HaveSeen outer members first second third at_first at_second at_third) where
-    pub first_seen : bytes_eq key first ≡ true → bytes_eq first second ≡ false → bytes_eq first third ≡ false → HaveSeen outer new first second third (Some tokens) at_second at_third
-    first_seen same not_second not_third = record {
+    -- one more member, by what it is to each of the names
+    with_member : {now_first now_second now_third : Option (List Token)} → Goes first key tokens at_first now_first → Goes second key tokens at_second now_second
+        → Goes third key tokens at_third now_third → HaveSeen outer new first second third now_first now_second now_third
+    with_member to_first to_second to_third = record {
       all = λ whole begins.
           let now = seen.all whole begins in
           let member = next now.0 now.1 in (
             member.1,
             member.4,
-            seen_here tokens same member.3 (subst (λ ms. HasSeen first whole ms at_first) member.2 now.2),
-            seen_other (is_other key first second same not_second) (subst (λ ms. HasSeen second whole ms at_second) member.2 now.3),
-            seen_other (is_other key first third same not_third) (subst (λ ms. HasSeen third whole ms at_third) member.2 now.4),
+            to_first whole member.0 member.1 member.3 (subst (λ ms. HasSeen first whole ms at_first) member.2 now.2),
+            to_second whole member.0 member.1 member.3 (subst (λ ms. HasSeen second whole ms at_second) member.2 now.3),
+            to_third whole member.0 member.1 member.3 (subst (λ ms. HasSeen third whole ms at_third) member.2 now.4),
           );
     }
+
+    pub first_seen : bytes_eq key first ≡ true → bytes_eq first second ≡ false → bytes_eq first third ≡ false → HaveSeen outer new first second third (Some tokens) at_second at_third
+    first_seen same not_second not_third = with_member (seen_here same) (seen_other tokens (is_other key first second same not_second)) (seen_other tokens (is_other key first third same not_third))
 
     pub second_seen : bytes_eq key first ≡ false → bytes_eq key second ≡ true → bytes_eq second third ≡ false → HaveSeen outer new first second third at_first (Some tokens) at_third
-    second_seen not_first same not_third = record {
-      all = λ whole begins.
-          let now = seen.all whole begins in
-          let member = next now.0 now.1 in (
-            member.1,
-            member.4,
-            seen_other not_first (subst (λ ms. HasSeen first whole ms at_first) member.2 now.2),
-            seen_here tokens same member.3 (subst (λ ms. HasSeen second whole ms at_second) member.2 now.3),
-            seen_other (is_other key second third same not_third) (subst (λ ms. HasSeen third whole ms at_third) member.2 now.4),
-          );
-    }
+    second_seen not_first same not_third = with_member (seen_other tokens not_first) (seen_here same) (seen_other tokens (is_other key second third same not_third))
 
     pub third_seen : bytes_eq key first ≡ false → bytes_eq key second ≡ false → bytes_eq key third ≡ true → HaveSeen outer new first second third at_first at_second (Some tokens)
-    third_seen not_first not_second same = record {
-      all = λ whole begins.
-          let now = seen.all whole begins in
-          let member = next now.0 now.1 in (
-            member.1,
-            member.4,
-            seen_other not_first (subst (λ ms. HasSeen first whole ms at_first) member.2 now.2),
-            seen_other not_second (subst (λ ms. HasSeen second whole ms at_second) member.2 now.3),
-            seen_here tokens same member.3 (subst (λ ms. HasSeen third whole ms at_third) member.2 now.4),
-          );
-    }
+    third_seen not_first not_second same = with_member (seen_other tokens not_first) (seen_other tokens not_second) (seen_here same)
 
     pub none_seen : bytes_eq key first ≡ false → bytes_eq key second ≡ false → bytes_eq key third ≡ false → HaveSeen outer new first second third at_first at_second at_third
-    none_seen not_first not_second not_third = record {
-      all = λ whole begins.
-          let now = seen.all whole begins in
-          let member = next now.0 now.1 in (
-            member.1,
-            member.4,
-            seen_other not_first (subst (λ ms. HasSeen first whole ms at_first) member.2 now.2),
-            seen_other not_second (subst (λ ms. HasSeen second whole ms at_second) member.2 now.3),
-            seen_other not_third (subst (λ ms. HasSeen third whole ms at_third) member.2 now.4),
-          );
-    }
+    none_seen not_first not_second not_third = with_member (seen_other tokens not_first) (seen_other tokens not_second) (seen_other tokens not_third)
 
   pub all_seen : (new : List Token) → NextMember members None new → HaveSeen outer members first second third at_first at_second at_third
       → (whole : json.Json) → BeginsWith outer whole → find.Finds at_first (find.get first whole) × find.Finds at_second (find.get second whole) × find.Finds at_third (find.get third whole)

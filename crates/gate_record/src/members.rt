@@ -7,20 +7,21 @@ ghost use Rattle.gate_record.specs.Inner.Tapes.{Begins, Finds};
 
 use json::Element;
 
+// What stands at each of three keys, if anything does.
+pub(crate) type Three<'t, 'a> = (
+    Option<Element<'t, 'a>>,
+    Option<Element<'t, 'a>>,
+    Option<Element<'t, 'a>>,
+);
+
 /// What stands at each of three keys, of which no two are alike.
 pub(crate) fn three_members<'t, 'a>(
     outer: &Element<'t, 'a>,
     first: &str,
     second: &str,
     third: &str,
-) -> (
-    Option<Element<'t, 'a>>,
-    Option<Element<'t, 'a>>,
-    Option<Element<'t, 'a>>,
-)
-    requires first { bytes_eq first.now second.now ≡ false }
-    requires second { bytes_eq second.now third.now ≡ false }
-    requires third { bytes_eq first.now third.now ≡ false }
+) -> Three<'t, 'a>
+    requires { (bytes_eq first.now second.now ≡ false) × (bytes_eq second.now third.now ≡ false) × (bytes_eq first.now third.now ≡ false) }
     ensures first { (value : Data) → Begins outer.now value → Finds result.0 (get first.now value) }
     ensures second { (value : Data) → Begins outer.now value → Finds result.1 (get second.now value) }
     ensures third { (value : Data) → Begins outer.now value → Finds result.2 (get third.now value) }
@@ -49,14 +50,8 @@ pub(crate) fn three_members_in<'t, 'a>(
     first: &str,
     second: &str,
     third: &str,
-) -> (
-    Option<Element<'t, 'a>>,
-    Option<Element<'t, 'a>>,
-    Option<Element<'t, 'a>>,
-)
-    requires first { bytes_eq first.now second.now ≡ false }
-    requires second { bytes_eq second.now third.now ≡ false }
-    requires third { bytes_eq first.now third.now ≡ false }
+) -> Three<'t, 'a>
+    requires { (bytes_eq first.now second.now ≡ false) × (bytes_eq second.now third.now ≡ false) × (bytes_eq first.now third.now ≡ false) }
     ensures first { (found : Option Data) → Finds outer.now found → Finds result.0 (option_and_then (get first.now) found) }
     ensures second { (found : Option Data) → Finds outer.now found → Finds result.1 (option_and_then (get second.now) found) }
     ensures third { (found : Option Data) → Finds outer.now found → Finds result.2 (option_and_then (get third.now) found) }

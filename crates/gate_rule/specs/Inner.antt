@@ -1,2 +1,3 @@
 -- What only private contracts and proofs cite: no public contract rests on it.
 pub mod Built
+pub mod Reaching

@@ -5,6 +5,7 @@ mod entry;
 mod laws;
 mod matcher;
 mod pattern;
+mod reach;
 mod rule;
 
 pub use entry::Entry;

@@ -1,11 +1,15 @@
 ghost use Rattle.std.specs.Prelude.{◌≡◌, IfOk, option_map};
 ghost use Rattle.std.specs.List.{list_any};
 ghost use Rattle.gate_rule.specs.Entry.{entry_front, entry_within};
+ghost use Rattle.gate_rule.specs.Inner.Reaching.{tried};
 ghost use Rattle.gate_rule.specs.Rule.{meets, is_approved, is_given, is_met};
 
 use crate::entry::Entry;
+use crate::reach::{Reach, meets};
 use gate_record::{Event, Memory, Sequence, Text};
 use std::alloc::Global;
+
+type Met = Result<bool, Memory>;
 
 /// A trigger rule (Zuul's documentation, "Gerrit", trigger configuration, in this project's profile). An event meets it
 /// where it meets each attribute that is listed; an empty list isn't listed. A listed attribute isn't met by an event
@@ -56,54 +60,35 @@ fn text(field: &Option<Text>) -> Option<&str>
     }
 }
 
-fn is_met_at_front(
-    alloc: Global,
-    entries: &Sequence<Entry>,
-    field: Option<&str>,
-) -> Result<bool, Memory>
+fn is_met_at_front(alloc: Global, entries: &Sequence<Entry>, field: Option<&str>) -> Met
     ensures { IfOk result (λ met. met ≡ is_met entry_front entries.now (option_map (λ t. t.now) field.entry)) }
 {
-    if entries.len() == 0 {
-        return Ok(true);
-    }
-    match field {
-        None => Ok(false),
-        Some(text) => any_at_front(alloc, entries.as_slice(), text),
-    }
+    is_met(alloc, Reach::Front, entries, field)
 }
 
-fn any_at_front(alloc: Global, entries: &[Entry], text: &str) -> Result<bool, Memory>
-    ensures { IfOk result (λ met. met ≡ list_any (λ entry. entry_front entry text.now) entries.now) }
-{
-    for entry in entries {
-        if entry.front(alloc, text)? {
-            return Ok(true);
-        }
-    }
-    Ok(false)
-}
-
-fn is_met_within(
-    alloc: Global,
-    entries: &Sequence<Entry>,
-    field: Option<&str>,
-) -> Result<bool, Memory>
+fn is_met_within(alloc: Global, entries: &Sequence<Entry>, field: Option<&str>) -> Met
     ensures { IfOk result (λ met. met ≡ is_met entry_within entries.now (option_map (λ t. t.now) field.entry)) }
 {
+    is_met(alloc, Reach::Within, entries, field)
+}
+
+fn is_met(alloc: Global, reach: Reach, entries: &Sequence<Entry>, field: Option<&str>) -> Met
+    ensures { IfOk result (λ met. met ≡ is_met (tried reach) entries.now (option_map (λ t. t.now) field.entry)) }
+{
     if entries.len() == 0 {
         return Ok(true);
     }
     match field {
         None => Ok(false),
-        Some(text) => any_within(alloc, entries.as_slice(), text),
+        Some(text) => any_met(alloc, reach, entries.as_slice(), text),
     }
 }
 
-fn any_within(alloc: Global, entries: &[Entry], text: &str) -> Result<bool, Memory>
-    ensures { IfOk result (λ met. met ≡ list_any (λ entry. entry_within entry text.now) entries.now) }
+fn any_met(alloc: Global, reach: Reach, entries: &[Entry], text: &str) -> Met
+    ensures { IfOk result (λ met. met ≡ list_any (λ entry. tried reach entry text.now) entries.now) }
 {
     for entry in entries {
-        if entry.within(alloc, text)? {
+        if meets(alloc, reach, entry, text)? {
             return Ok(true);
         }
     }

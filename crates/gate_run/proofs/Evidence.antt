@@ -5,51 +5,31 @@ use Rattle.gate_record.specs.declared.transit.PipelineItem.{PipelineItem}
 use Rattle.gate_record.specs.declared.transit.TenantItem.{TenantItem}
 use Rattle.gate_config.specs.declared.generations.Generations.{Generations}
 use Rattle.gate_config.specs.Generations.{count_of}
-use Rattle.gate_config.specs.Lookups.{connections_of, tenants_of}
+use Rattle.gate_config.specs.Lookups.{connections_of}
 use Rattle.gate_queue.specs.Seats.{Shape, TakerSeat}
-use Rattle.gate_dispatcher.specs.declared.dispatcher.Dispatcher.{Dispatcher}
-use Rattle.gate_forwarder.specs.declared.forwarder.Forwarder.{Forwarder}
 use Rattle.gate_threads.specs.declared.putting.PassedOn.{PassedOn}
-use Rattle.gate_reader.specs.declared.reader.Reader.{Reader}
 use Rattle.gate_reader.specs.declared.reader.ReaderEnd.{ReaderEnd}
-use Rattle.gate_worker.specs.declared.worker.Worker.{Worker}
 use Rattle.gate_worker.specs.declared.worker.WorkerEnd.{WorkerEnd}
 use Rattle.gate_source.specs.Feeds.{Told}
-use Rattle.gate_threads.specs.Lists.{Pairwise, EachAt}
 use Rattle.gate_run.specs.Ports.{InboxEnds}
-use Rattle.gate_run.specs.Inner.Seatings.{AreWorkersOf, Cells, IsDispatcherOf, IsForwarderOf, IsReaderOf}
+use Rattle.gate_run.specs.Inner.Seatings.{Cells}
 use Rattle.gate_threads.specs.Stages.{AreLanesSettled, IsStageSettled}
-use Rattle.gate_run.specs.Inner.Works.{Dispatched, Forwarded, Read, Worked}
+use Rattle.gate_run.specs.Inner.Works.{ThreadsHaveRun}
 
 pub record Evidence {F : Type 0} (G : Type 0) (gens : Generations) (to_come : F → Told) (faults : F → ℕ) (feeds : List F) (inbox : List (List InboxEnds)) (cells : Cells) : Type 0 where
   pub records : List Shape
   pub items : List Shape
   pub triggers : List (List Shape)
-  pub readers : List (Reader F)
-  pub forwarders : List Forwarder
-  pub dispatchers : List Dispatcher
-  pub workers : List (List (Worker G))
   pub reader_ends : List (ReaderEnd F)
   pub forwarder_ends : List (PassedOn (TakerSeat ConnEntry) TenantItem)
   pub dispatcher_ends : List (PassedOn (TakerSeat TenantItem) PipelineItem)
   pub worker_ends : List (List WorkerEnd)
+  pub threads : ThreadsHaveRun G gens to_come faults feeds inbox cells records items triggers reader_ends forwarder_ends dispatcher_ends worker_ends
   pub feed_count : length feeds ≡ length (connections_of gens.first)
-  pub reader_count : length readers ≡ length (connections_of gens.first)
-  pub forwarder_count : length forwarders ≡ length (connections_of gens.first)
-  pub dispatcher_count : length dispatchers ≡ length (tenants_of gens.first)
-  pub worker_count : length workers ≡ length (tenants_of gens.first)
   pub record_senders : map (λ (queue : Shape). queue.name.senders) records ≡ map (λ (queue : Shape). 1) records
   pub item_senders : map (λ (queue : Shape). queue.name.senders) items ≡ map (λ (queue : Shape). length (connections_of gens.first)) items
   pub trigger_senders : map (λ (queues : List Shape). map (λ (queue : Shape). queue.name.senders) queues) triggers ≡ map (λ (queues : List Shape). map (λ (queue : Shape). 1) queues) triggers
   pub generation_count : cells.generations ≡ count_of gens
-  pub are_readers : EachAt (IsReaderOf faults feeds records cells) readers
-  pub are_forwarders : EachAt (IsForwarderOf gens records items) forwarders
-  pub are_dispatchers : EachAt (IsDispatcherOf gens items triggers) dispatchers
-  pub are_workers : EachAt (AreWorkersOf gens.first triggers inbox) workers
-  pub have_read : Pairwise (Read to_come faults) readers reader_ends
-  pub have_forwarded : Pairwise Forwarded forwarders forwarder_ends
-  pub have_dispatched : Pairwise Dispatched dispatchers dispatcher_ends
-  pub have_worked : Pairwise (Pairwise Worked) workers worker_ends
   pub records_settled : IsStageSettled records (map (λ (end : PassedOn (TakerSeat ConnEntry) TenantItem). end.head) forwarder_ends) (map (λ (end : ReaderEnd F). end.tail) reader_ends ∷ [])
   pub items_settled : IsStageSettled items (map (λ (end : PassedOn (TakerSeat TenantItem) PipelineItem). end.head) dispatcher_ends) (map (λ (end : PassedOn (TakerSeat ConnEntry) TenantItem). end.tails.items) forwarder_ends)
   pub triggers_settled : AreLanesSettled triggers (map (λ (ends : List WorkerEnd). map (λ (end : WorkerEnd). end.head) ends) worker_ends) (map (λ (end : PassedOn (TakerSeat TenantItem) PipelineItem). end.tails.items) dispatcher_ends)

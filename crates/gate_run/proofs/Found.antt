@@ -127,9 +127,9 @@ module _ {F G : Type 0} {gens : Generations} {to_come : F → Told} {faults : F 
 
   pub forwarder_at : (c : ℕ) (end : PassedOn (TakerSeat ConnEntry) TenantItem) → slice_get E.forwarder_ends c ≡ Some end → ForwarderAt c end
   forwarder_at c end at =
-      let pair = beside_of Forwarded E.forwarders E.forwarder_ends c end E.have_forwarded at in
+      let pair = beside_of Forwarded E.threads.forwarders E.forwarder_ends c end E.threads.have_forwarded at in
       let w = pair.other in
-      let is = at_here (IsForwarderOf gens E.records E.items) E.forwarders c w E.are_forwarders pair.there in
+      let is = at_here (IsForwarderOf gens E.records E.items) E.threads.forwarders c w E.threads.are_forwarders pair.there in
       record {
         queue = w.source.now;
         queue_here = is.source;
@@ -148,9 +148,9 @@ module _ {F G : Type 0} {gens : Generations} {to_come : F → Told} {faults : F 
 
   pub dispatcher_at : (t : ℕ) (end : PassedOn (TakerSeat TenantItem) PipelineItem) → slice_get E.dispatcher_ends t ≡ Some end → DispatcherAt t end
   dispatcher_at t end at =
-      let pair = beside_of Dispatched E.dispatchers E.dispatcher_ends t end E.have_dispatched at in
+      let pair = beside_of Dispatched E.threads.dispatchers E.dispatcher_ends t end E.threads.have_dispatched at in
       let w = pair.other in
-      let is = at_here (IsDispatcherOf gens E.items E.triggers) E.dispatchers t w E.are_dispatchers pair.there in
+      let is = at_here (IsDispatcherOf gens E.items E.triggers) E.threads.dispatchers t w E.threads.are_dispatchers pair.there in
       record {
         queue = w.source.now;
         queue_here = is.source;
@@ -174,8 +174,8 @@ module _ {F G : Type 0} {gens : Generations} {to_come : F → Told} {faults : F 
 
   pub worker_at : (t p : ℕ) (list : List WorkerEnd) (end : WorkerEnd) → slice_get E.worker_ends t ≡ Some list → slice_get list p ≡ Some end → WorkerAt t p end
   worker_at t p list end at here =
-      let rows = beside_of (Pairwise Worked) E.workers E.worker_ends t list E.have_worked at in
-      let of = at_here (AreWorkersOf gens.first E.triggers inbox) E.workers t rows.other E.are_workers rows.there in
+      let rows = beside_of (Pairwise Worked) E.threads.workers E.worker_ends t list E.threads.have_worked at in
+      let of = at_here (AreWorkersOf gens.first E.triggers inbox) E.threads.workers t rows.other E.threads.are_workers rows.there in
       let pair = beside_of Worked rows.other list p end rows.are here in
       let w = pair.other in
       let is = at_here (IsWorkerOf gens.first t of.own_sources of.own_inbox) rows.other p w of.each pair.there in

@@ -103,7 +103,7 @@ module _ {F G : Type 0} {gens : Generations} {to_come : F → Told} {faults : F 
   n = length (connections_of gens.first)
 
   abbrev pub lines : List (List Record)
-  lines = all_lines to_come faults E.readers E.reader_ends E.have_read
+  lines = all_lines to_come faults E.threads.readers E.reader_ends E.threads.have_read
 
   abbrev pub counted : List ConnectionReport
   counted = map report_of_reader E.reader_ends
@@ -124,7 +124,7 @@ module _ {F G : Type 0} {gens : Generations} {to_come : F → Told} {faults : F 
 
   sent : (t s : ℕ) (d : PassedOn (TakerSeat TenantItem) PipelineItem) (queue : Shape) → slice_get E.dispatcher_ends t ≡ Some d → slice_get E.items t ≡ Some queue → s < n → Sent t s d queue
   sent t s d queue at of_queue low =
-      let f = there E.forwarder_ends s (omega (arith, low, E.forwarder_count, as_many _ E.forwarders E.forwarder_ends E.have_forwarded)) in
+      let f = there E.forwarder_ends s (omega (arith, low, E.threads.forwarder_count, as_many _ E.threads.forwarders E.forwarder_ends E.threads.have_forwarded)) in
       let forwarder = forwarder_at E s f.one f.here in
       let seat = seat_at E.items s f.one.tails.items t queue forwarder.did.seats of_queue in
       let settled = E.items_settled.each s t f.one.tails.items seat.tail queue d.head (here_mapped (λ (end : PassedOn (TakerSeat ConnEntry) TenantItem). end.tails.items) E.forwarder_ends s f.one f.here) seat.here of_queue
@@ -202,7 +202,7 @@ module _ {F G : Type 0} {gens : Generations} {to_come : F → Told} {faults : F 
 
   -- what a reader put, and what was taken of it
   record Put (c : ℕ) (r : ReaderEnd F) (f : PassedOn (TakerSeat ConnEntry) TenantItem) : Type 0 where
-    pub found : LinesOf to_come faults E.readers E.reader_ends E.have_read c r
+    pub found : LinesOf to_come faults E.threads.readers E.reader_ends E.threads.have_read c r
     pub waiting : List (Tagged ConnEntry)
     pub from : AreFrom 1 f.head.taken
     pub from_waiting : AreFrom 1 waiting
@@ -210,8 +210,8 @@ module _ {F G : Type 0} {gens : Generations} {to_come : F → Told} {faults : F 
 
   put : (c : ℕ) (r : ReaderEnd F) (f : PassedOn (TakerSeat ConnEntry) TenantItem) → slice_get E.reader_ends c ≡ Some r → slice_get E.forwarder_ends c ≡ Some f → Put c r f
   put c r f at at' =
-      let found = find_lines to_come faults E.readers E.reader_ends E.have_read c r at in
-      let is = at_here (IsReaderOf faults feeds E.records cells) E.readers c found.reader E.are_readers found.reader_here in
+      let found = find_lines to_come faults E.threads.readers E.reader_ends E.threads.have_read c r at in
+      let is = at_here (IsReaderOf faults feeds E.records cells) E.threads.readers c found.reader E.threads.are_readers found.reader_here in
       let queue = found.reader.queue.now in
       let one : queue.name.senders ≡ 1 = alike_here (λ (q : Shape). q.name.senders) 1 E.records c queue E.record_senders is.queue in
       let sender : r.tail.sender ≡ 0 = ap (λ (seat : QueueName × ℕ). seat.1) found.read.seat ∙ ap (λ (tail : SenderSeat ConnEntry). tail.sender) is.can.not_put in
@@ -280,21 +280,21 @@ module _ {F G : Type 0} {gens : Generations} {to_come : F → Told} {faults : F 
   past_end (x ∷ xs) (suc i) e = let high = past_end xs i e in omega (arith, high)
 
   end_count : length E.reader_ends ≡ n
-  end_count = sym (as_many (Read to_come faults) E.readers E.reader_ends E.have_read) ∙ E.reader_count
+  end_count = sym (as_many (Read to_come faults) E.threads.readers E.reader_ends E.threads.have_read) ∙ E.threads.reader_count
 
-  lines_there : (c : ℕ) (r : ReaderEnd F) (at : slice_get E.reader_ends c ≡ Some r) → lines_of c lines ≡ (find_lines to_come faults E.readers E.reader_ends E.have_read c r at).read.lines
-  lines_there c r at = ap (λ (o : Option (List Record)). unwrap_or o []) (find_lines to_come faults E.readers E.reader_ends E.have_read c r at).lines_here
+  lines_there : (c : ℕ) (r : ReaderEnd F) (at : slice_get E.reader_ends c ≡ Some r) → lines_of c lines ≡ (find_lines to_come faults E.threads.readers E.reader_ends E.threads.have_read c r at).read.lines
+  lines_there c r at = ap (λ (o : Option (List Record)). unwrap_or o []) (find_lines to_come faults E.threads.readers E.reader_ends E.threads.have_read c r at).lines_here
 
   lines_beyond : (c : ℕ) → slice_get E.reader_ends c ≡ None → lines_of c lines ≡ []
   lines_beyond c at = ap (λ (o : Option (List Record)). unwrap_or o [])
-      (slice_get_past lines c (let high = past_end E.reader_ends c at in omega (arith, high, lines_count to_come faults E.readers E.reader_ends E.have_read)))
+      (slice_get_past lines c (let high = past_end E.reader_ends c at in omega (arith, high, lines_count to_come faults E.threads.readers E.reader_ends E.threads.have_read)))
 
   marks_there : (c : ℕ) (r : ReaderEnd F) → slice_get E.reader_ends c ≡ Some r → marks c ≡ counts_of r.renewals.items
   marks_there c r at = ap (λ (o : Option ConnectionReport). unwrap_or (option_map (λ (report : ConnectionReport). report.renewals) o) []) (here_mapped report_of_reader E.reader_ends c r at)
 
   -- what its reader put are the entries of the lines
   put_there : (c : ℕ) (r : ReaderEnd F) → slice_get E.reader_ends c ≡ Some r → AreEntriesOf r.tail.put (beside (marks c) (lines_of c lines)) (length r.renewals.items) (is_closed r.cause)
-  put_there c r at = subst (λ (x : List ℕ × List Record). AreEntriesOf r.tail.put (beside x.0 x.1) (length r.renewals.items) (is_closed r.cause)) (sym (λ i. (marks_there c r at i, lines_there c r at i))) (find_lines to_come faults E.readers E.reader_ends E.have_read c r at).read.put
+  put_there c r at = subst (λ (x : List ℕ × List Record). AreEntriesOf r.tail.put (beside x.0 x.1) (length r.renewals.items) (is_closed r.cause)) (sym (λ i. (marks_there c r at i, lines_there c r at i))) (find_lines to_come faults E.threads.readers E.reader_ends E.threads.have_read c r at).read.put
 
   put_beyond : (c : ℕ) → slice_get E.reader_ends c ≡ None → AreEntriesOf [] (beside (marks c) (lines_of c lines)) 0 false
   put_beyond c at = subst (λ ls. AreEntriesOf [] (beside (marks c) ls) 0 false) (sym (lines_beyond c at)) begins
@@ -347,7 +347,7 @@ module _ {F G : Type 0} {gens : Generations} {to_come : F → Told} {faults : F 
   tenant_of_list : (t : ℕ) (list : List WorkerEnd) → slice_get E.worker_ends t ≡ Some list → There E.dispatcher_ends t
   tenant_of_list t list at =
       let low = slice_get_within E.worker_ends t list at in
-      there E.dispatcher_ends t (omega (arith, low, as_many _ E.workers E.worker_ends E.have_worked, E.worker_count, E.dispatcher_count, as_many _ E.dispatchers E.dispatcher_ends E.have_dispatched))
+      there E.dispatcher_ends t (omega (arith, low, as_many _ E.threads.workers E.worker_ends E.threads.have_worked, E.threads.worker_count, E.threads.dispatcher_count, as_many _ E.threads.dispatchers E.dispatcher_ends E.threads.have_dispatched))
 
   abbrev pub reported : List (List PipelineReport)
   reported = map (λ (ends : List WorkerEnd). map (λ (end : WorkerEnd). report_of_pipeline end.state) ends) E.worker_ends
@@ -395,12 +395,12 @@ module _ {F G : Type 0} {gens : Generations} {to_come : F → Told} {faults : F 
   pub have_ended : (after : InboxView) → Each (λ (end : ReaderEnd F). knows_as_much end.note after.note) E.reader_ends → Each (λ (end : ReaderEnd F). length (notes_of end.renewals.items) ≤ length after.asked) E.reader_ends → HaveEnded gens to_come faults feeds back lines counted after
   have_ended after knows enough = record {
     feeds_back = map_length (λ (end : ReaderEnd F). end.feed) E.reader_ends ∙ end_count ∙ sym E.feed_count;
-    all_lines = lines_count to_come faults E.readers E.reader_ends E.have_read ∙ end_count ∙ sym E.feed_count;
+    all_lines = lines_count to_come faults E.threads.readers E.reader_ends E.threads.have_read ∙ end_count ∙ sym E.feed_count;
     all_reports = map_length report_of_reader E.reader_ends ∙ end_count ∙ sym E.feed_count;
     each = λ c feed feed' own report at at' here here'.
         let r = from (λ (end : ReaderEnd F). end.feed) E.reader_ends c feed' at' in
-        let found = find_lines to_come faults E.readers E.reader_ends E.have_read c r.one r.here in
-        let is = at_here (IsReaderOf faults feeds E.records cells) E.readers c found.reader E.are_readers found.reader_here in
+        let found = find_lines to_come faults E.threads.readers E.reader_ends E.threads.have_read c r.one r.here in
+        let is = at_here (IsReaderOf faults feeds E.records cells) E.threads.readers c found.reader E.threads.are_readers found.reader_here in
         let read = found.read in
         let same : found.reader.feed ≡ feed = the_same found.reader.feed feed (sym is.feed ∙ at) in
         let lines_same : read.lines ≡ own = the_same read.lines own (sym found.lines_here ∙ here) in
@@ -497,9 +497,9 @@ module _ {F G : Type 0} {gens : Generations} {to_come : F → Told} {faults : F 
 
   worker_counts : map length E.worker_ends ≡ pipeline_counts gens.first
   worker_counts =
-      sym (as_long Worked E.workers E.worker_ends E.have_worked)
-      ∙ each_counted (λ t. length (pipelines_of gens.first t)) 0 (AreWorkersOf gens.first E.triggers inbox) (λ k ws (are : AreWorkersOf gens.first E.triggers inbox k ws). are.count ∙ ap (λ m. length (pipelines_of gens.first m)) (omega arith)) E.workers E.are_workers
-      ∙ ap (λ m. map (λ t. length (pipelines_of gens.first t)) (range_with_len 0 m)) E.worker_count
+      sym (as_long Worked E.threads.workers E.worker_ends E.threads.have_worked)
+      ∙ each_counted (λ t. length (pipelines_of gens.first t)) 0 (AreWorkersOf gens.first E.triggers inbox) (λ k ws (are : AreWorkersOf gens.first E.triggers inbox k ws). are.count ∙ ap (λ m. length (pipelines_of gens.first m)) (omega arith)) E.threads.workers E.threads.are_workers
+      ∙ ap (λ m. map (λ t. length (pipelines_of gens.first t)) (range_with_len 0 m)) E.threads.worker_count
 
   pub pipelines_counted : map length kept ≡ pipeline_counts gens.first
   pipelines_counted = mapped_lengths (λ (end : WorkerEnd). end.state) E.worker_ends ∙ worker_counts

@@ -8,6 +8,7 @@ use Rattle.std.proofs.Common.{◌≤◌, ◌+◌, take, drop, get_or, length-tak
 use Rattle.std.specs.Prelude.{nat_lt, position}
 use Rattle.std.specs.List.{after_first, before_first, position_or_len}
 use Rattle.std.proofs.lemmas.Bool.{eqb-true, ltb-false, ltb-true}
+use Rattle.std.proofs.lemmas.Option.{cond_some}
 use Rattle.std.proofs.lemmas.List.Sums.{fails_before_first, passes_at_first, split_at_first}
 use Rattle.std.proofs.lemmas.List.{get_or-take}
 use Rattle.std.proofs.lemmas.List.Elements.{All-nil, All-cons, filter_map-append}
@@ -153,17 +154,13 @@ records_are bytes = sym (of_parts (slice_split is_line_feed bytes))
 
 -- ---- where a line ends
 
-found_by : (b : Bool) (n i : ℕ) → cond b (Some n) None ≡ Some i → (b ≡ true) × (n ≡ i)
-found_by true n i e = (refl, (cc))
-found_by false n i e = absurd (cc)
-
 missed_by : (b : Bool) (n : ℕ) → ◌≡◌ {A = Option ℕ} (cond b (Some n) None) None → b ≡ false
 missed_by true n e = absurd (cc)
 missed_by false n e = refl
 
 at_end : (bytes : List ℕ) (i : ℕ) → position is_line_feed bytes ≡ Some i → (position_or_len is_line_feed bytes < length bytes) × (position_or_len is_line_feed bytes ≡ i)
 at_end bytes i e =
-    let found = found_by (nat_lt (position_or_len is_line_feed bytes) (length bytes)) (position_or_len is_line_feed bytes) i e in
+    let found = cond_some (nat_lt (position_or_len is_line_feed bytes) (length bytes)) (position_or_len is_line_feed bytes) i e in
     (ltb-true _ _ found.0, found.1)
 
 pub no_feed_at_all : (bytes : List ℕ) → position is_line_feed bytes ≡ None → HasNoFeed bytes

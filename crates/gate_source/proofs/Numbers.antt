@@ -21,10 +21,7 @@ length_beside : (renewals : List ℕ) (records : List Record) → length (beside
 length_beside renewals records = length-map (enumerate_from 0 records) _ ∙ length-enumerate_from 0 records
 
 all_higher : (n m : ℕ) (xs : List ℕ) → n ≤ m → All (λ x. x ≤ n) xs → All (λ x. x ≤ m) xs
-all_higher n m [] h all = All-nil (λ x. x ≤ m)
-all_higher n m (x ∷ xs) h all =
-    let low : x ≤ n = All-head (λ y. y ≤ n) x xs all in
-    All-cons (λ y. y ≤ m) x xs (omega (arith, h, low)) (all_higher n m xs h (All-tail (λ y. y ≤ n) x xs all))
+all_higher n m xs h all = λ k d below. let low = all k d below in omega (arith, h, low)
 
 -- one more at the end that none before it is above
 rises_on : (n : ℕ) (xs : List ℕ) → All (λ x. x ≤ n) xs → NeverFalls xs → NeverFalls (xs ++ n ∷ [])

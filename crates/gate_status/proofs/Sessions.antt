@@ -1,6 +1,6 @@
 -- How a session goes on, and what it has done once it ends.
 use Rattle.std.proofs.Common.{◌≡◌, ◌∙◌, ◌++◌, ◌+◌, ◌<◌, ◌≤◌, ℕ, List, [], length, map, refl, sym, subst, Option, Some, None, arith, append-nil, inl, inr, ◌≢◌, Ok, Err}
-use Rattle.std.specs.Prelude.{IfOk, Result}
+use Rattle.std.specs.Prelude.{IfOk, Result, ◌⊎◌}
 use Rattle.std.specs.Io.KnownBytes.{Consumes}
 use Rattle.std.specs.Option.{option_to_list}
 use Rattle.std.proofs.lemmas.List.{length-append}
@@ -45,22 +45,24 @@ so_far_none told written posts fed all = record {
   talks = talks_none written;
 }
 
+is_made : (how : SessionEnd) → (Some end.Quit ≡ Some how) ⊎ (Some end.Stop ≡ Some how) → made_by_reply how ≡ Some how
+is_made end.Quit e = refl
+is_made end.Stop e = refl
+is_made end.End (inl e) = absurd (cc)
+is_made end.End (inr e) = absurd (cc)
+is_made end.Limit (inl e) = absurd (cc)
+is_made end.Limit (inr e) = absurd (cc)
+
 -- a reply ends a session by `quit` or by `stop`
 pub by_reply : (how : SessionEnd) (r : Reply) → end_of r ≡ Some how → made_by_reply how ≡ Some how
 by_reply how (reply.Shown text) e = absurd (cc)
 by_reply how reply.Posted e = absurd (cc)
 by_reply how reply.Full e = absurd (cc)
 by_reply how reply.NoPipeline e = absurd (cc)
-by_reply end.End reply.Stopping e = absurd (cc)
-by_reply end.Quit reply.Stopping e = refl
-by_reply end.Stop reply.Stopping e = refl
-by_reply end.Limit reply.Stopping e = absurd (cc)
+by_reply how reply.Stopping e = is_made how (inr e)
 by_reply how reply.Renewed e = absurd (cc)
 by_reply how reply.Last e = absurd (cc)
-by_reply end.End reply.Bye e = absurd (cc)
-by_reply end.Quit reply.Bye e = refl
-by_reply end.Stop reply.Bye e = refl
-by_reply end.Limit reply.Bye e = absurd (cc)
+by_reply how reply.Bye e = is_made how (inl e)
 by_reply how (reply.Refused why) e = absurd (cc)
 
 cc_end : {X : Type 0} {x : X} → None ≡ Some x → ⊥
@@ -106,35 +108,25 @@ finished : {config : Config} {split split' : Option (List ℕ)} {room : ℕ} {to
 finished last s same ends = ends s.bytes (subst (IsFed s.bytes) (sym same) s.fed)
 
 module _ {config : Config} {split split' : Option (List ℕ)} {room : ℕ} (room' : ℕ) {told told' told'' w w' w'' : Option (List ℕ)} {p p' p'' : PostsView} (last : Option Record) where
+  -- the answers, by what was heard
+  closed : (how : SessionEnd) (s : SoFar config split room told told' w w' p p') → Hears (split, room) told' None told'' (split', room') → (t : Talks config (option_to_list last) (made_by_reply how) w' w'' p' p'') → Heard how s.bytes told'' (lines_of (talks_on s.talks t).exchanges) → Answers config how told told'' w w'' p p''
+  closed how s h t heard =
+      let both = talks_on s.talks t in
+      record {
+        bytes = s.bytes;
+        exchanges = both.exchanges;
+        read = read_all told told' told'' s.bytes s.read h.1;
+        heard = heard;
+        talk = both.talk;
+      }
+
   -- what follows the last LF was answered, if anything does, and the session ends
   pub closes : (how : SessionEnd) → how ≢ end.Limit → 0 < room → SoFar config split room told told' w w' p p' → Hears (split, room) told' None told'' (split', room') → Finishes split' last → Talks config (option_to_list last) (made_by_reply how) w' w'' p' p'' → Answers config how told told'' w w'' p p''
-  closes end.End not_limit some s h ends t =
-      let both = talks_on s.talks t in
-      record {
-        bytes = s.bytes;
-        exchanges = both.exchanges;
-        read = read_all told told' told'' s.bytes s.read h.1;
-        heard = (omega (arith, some, s.left), h.2, both.heard ∙ finished last s h.0 ends);
-        talk = both.talk;
-      }
+  closes end.End not_limit some s h ends t = closed end.End s h t (omega (arith, some, s.left), h.2, (talks_on s.talks t).heard ∙ finished last s h.0 ends)
   closes end.Quit not_limit some s h ends t =
-      let both = talks_on s.talks t in
-      record {
-        bytes = s.bytes;
-        exchanges = both.exchanges;
-        read = read_all told told' told'' s.bytes s.read h.1;
-        heard = (omega (arith, s.left), inr (h.2, subst (IsPrefixOf (lines_of both.exchanges)) (finished last s h.0 ends) both.heard));
-        talk = both.talk;
-      }
+      closed end.Quit s h t (omega (arith, s.left), inr (h.2, subst (IsPrefixOf (lines_of (talks_on s.talks t).exchanges)) (finished last s h.0 ends) (talks_on s.talks t).heard))
   closes end.Stop not_limit some s h ends t =
-      let both = talks_on s.talks t in
-      record {
-        bytes = s.bytes;
-        exchanges = both.exchanges;
-        read = read_all told told' told'' s.bytes s.read h.1;
-        heard = (omega (arith, s.left), inr (h.2, subst (IsPrefixOf (lines_of both.exchanges)) (finished last s h.0 ends) both.heard));
-        talk = both.talk;
-      }
+      closed end.Stop s h t (omega (arith, s.left), inr (h.2, subst (IsPrefixOf (lines_of (talks_on s.talks t).exchanges)) (finished last s h.0 ends) (talks_on s.talks t).heard))
   closes end.Limit not_limit some s h ends t = absurd (not_limit refl)
 
 -- ---- the limit

@@ -14,24 +14,21 @@ pub fn status_text(alloc: Global, config: &Config, board: &Board) -> Result<Stri
     ensures { IfOk result (λ text. string_bytes text ≡ status_text config.now board.now) }
 {
     let mut out = String::new(alloc);
-    push_tenants(&mut out, alloc, config.tenants(), board.tenants())?;
+    push_tenants(&mut out, config.tenants(), board.tenants())?;
     Ok(out)
 }
 
 fn push_tenants(
     out: &mut String,
-    alloc: Global,
     tenants: &[TenantSpec],
     rows: &[TenantBoard],
 ) -> Result<(), Memory>
     ensures { OnOk result (string_bytes out.new ≡ string_bytes out.old ++ tenant_lines tenants.now rows.now) }
 {
-    let mut tenants = tenants;
-    let mut rows = rows;
+    let (mut tenants, mut rows) = (tenants, rows);
     while let Some((tenant, more)) = tenants.split_first() {
         push_pipelines(
             out,
-            alloc,
             tenant.name.as_str(),
             tenant.pipelines.as_slice(),
             row_of(rows),
@@ -44,23 +41,15 @@ fn push_tenants(
 
 fn push_pipelines(
     out: &mut String,
-    alloc: Global,
     tenant: &str,
     pipelines: &[PipelineSpec],
     entries: &[Progress],
 ) -> Result<(), Memory>
     ensures { OnOk result (string_bytes out.new ≡ string_bytes out.old ++ pipeline_lines tenant.now pipelines.now entries.now) }
 {
-    let mut pipelines = pipelines;
-    let mut entries = entries;
+    let (mut pipelines, mut entries) = (pipelines, entries);
     while let Some((pipeline, more)) = pipelines.split_first() {
-        push_line(
-            out,
-            alloc,
-            tenant,
-            pipeline.name.as_str(),
-            &first_of(entries),
-        )?;
+        push_line(out, tenant, pipeline.name.as_str(), &first_of(entries))?;
         pipelines = more;
         entries = behind_first(entries);
     }
@@ -99,21 +88,21 @@ fn behind_first<T>(entries: &[T]) -> &[T]
 
 fn push_line(
     out: &mut String,
-    alloc: Global,
     tenant: &str,
     pipeline: &str,
     progress: &Progress,
 ) -> Result<(), Memory>
     ensures { OnOk result (string_bytes out.new ≡ string_bytes out.old ++ status_line tenant.now pipeline.now progress.now) }
 {
-    push_start(out, alloc, tenant, pipeline)?;
-    push_counts(out, alloc, progress)
+    push_start(out, tenant, pipeline)?;
+    push_counts(out, progress)
 }
 
 // What stands in a line before the counts.
-fn push_start(out: &mut String, alloc: Global, tenant: &str, pipeline: &str) -> Result<(), Memory>
+fn push_start(out: &mut String, tenant: &str, pipeline: &str) -> Result<(), Memory>
     ensures { OnOk result (string_bytes out.new ≡ string_bytes out.old ++ pipeline_start tenant.now pipeline.now) }
 {
+    let alloc = *out.allocator();
     let tenant = name_text(alloc, tenant)?;
     let pipeline = name_text(alloc, pipeline)?;
     let start = format!(in alloc; "pipeline {tenant} {pipeline}")?;
@@ -121,9 +110,10 @@ fn push_start(out: &mut String, alloc: Global, tenant: &str, pipeline: &str) -> 
     Ok(())
 }
 
-fn push_counts(out: &mut String, alloc: Global, progress: &Progress) -> Result<(), Memory>
+fn push_counts(out: &mut String, progress: &Progress) -> Result<(), Memory>
     ensures { OnOk result (string_bytes out.new ≡ string_bytes out.old ++ counts_text progress.now) }
 {
+    let alloc = *out.allocator();
     let done = progress.done;
     let items = progress.items;
     let reports = progress.reports;

@@ -1,12 +1,14 @@
 -- What is true after any history of calls.
-use Rattle.std.proofs.Common.{◌≡◌, ◌∙◌, refl, sym, ap, subst, ℕ, suc, ◌<◌, ◌==◌, ◌-◌, List, [], ◌∷◌, ◌++◌, Bool, true, false, not, ◌&&◌, length, flat_map, Some, None, if◌then◌else◌, append-nil, arith}
+use Rattle.std.proofs.Common.{◌≡◌, ◌∙◌, refl, sym, ap, subst, ℕ, suc, ◌<◌, ◌==◌, ◌-◌, List, [], ◌∷◌, ◌++◌, Bool, true, false, not, ◌&&◌, length, flat_map, Option, Some, None, if◌then◌else◌, append-nil, arith}
 use Rattle.std.specs.List.{filter_map}
 use Rattle.std.proofs.lemmas.List.Elements.{filter_map-append}
 use Rattle.std.specs.Option.{option_to_list}
 use Rattle.std.proofs.Math.Dec.{eqb-suc-zero}
 use Rattle.std.proofs.lemmas.List.{append_assoc}
 use Rattle.std.proofs.lemmas.List.Sums.{fold-append}
+use Rattle.gate_record.specs.declared.ids.PipelineId.{PipelineId}
 use Rattle.gate_record.specs.declared.transit.TenantItem.{TenantItem}
+use Rattle.gate_record.specs.declared.transit.PipelineItem.{PipelineItem}
 use Rattle.gate_record.specs.declared.transit.PipelineItem.TheVariants as pipeline
 use Rattle.gate_config.specs.declared.generations.Generations.{Generations}
 use Rattle.gate_config.specs.Lookups.{pipelines_of}
@@ -109,34 +111,29 @@ module _ (gens : Generations) (t : ℕ) where
       taken = append-nil (h.done ++ h.state.gathered) ∙ was.taken;
     }
 
+  -- an item goes from place to place, which it doesn't while something is gathered
+  hands_on : {h : History} {items given : List (PipelineId × PipelineItem)} {place : Option PipelineId} {out : Option (PipelineId × PipelineItem)} (was : Holds gens t h) →
+      ((all_marked gens.first t h.state.marks ≡ false) × (h.state.items ≡ []) × (h.out ≡ None) → ⊥) →
+      ((p : ℕ) → p < length (pipelines_of gens.first t) → items_for p (given ++ (option_to_list out ++ items)) ≡ chosen gens t p h.done) →
+      Holds gens t (record h { state = record h.state { items = items; out = place }; given = given; out = out })
+  hands_on was none share = record { marks = was.marks; turn = λ e. absurd (none (was.turn e)); share = share; taken = was.taken }
+
   pub holds : {h : History} → Happens gens t h → Holds gens t h
   holds begins = starts
   holds (gathers item before no_out room e) = gathered item (holds before) no_out room e
   holds (matches before some) = all_matched (holds before) some
   holds (moves {h} {first} {items} before no_out is) =
       let was = holds before in
-      record {
-        marks = was.marks;
-        turn = λ e. let none : first ∷ items ≡ [] = sym is ∙ (was.turn e).1 in absurd (cc);
-        share = λ p few. ap (λ xs. items_for p (h.given ++ xs)) (sym (ap (λ o. option_to_list o ++ h.state.items) no_out ∙ is)) ∙ was.share p few;
-        taken = was.taken;
-      }
+      hands_on was (λ turn. let none : first ∷ items ≡ [] = sym is ∙ turn.1 in absurd (cc))
+      (λ p few. ap (λ xs. items_for p (h.given ++ xs)) (sym (ap (λ o. option_to_list o ++ h.state.items) no_out ∙ is)) ∙ was.share p few)
   holds (gives {h} {item} before out) =
       let was = holds before in
-      record {
-        marks = was.marks;
-        turn = λ e. let none : Some item ≡ None = sym out ∙ (was.turn e).2 in absurd (cc);
-        share = λ p few. ap (items_for p) (append_assoc h.given (item ∷ []) h.state.items ∙ ap (λ o. h.given ++ (option_to_list o ++ h.state.items)) (sym out)) ∙ was.share p few;
-        taken = was.taken;
-      }
+      hands_on was (λ turn. let none : Some item ≡ None = sym out ∙ turn.2 in absurd (cc))
+      (λ p few. ap (items_for p) (append_assoc h.given (item ∷ []) h.state.items ∙ ap (λ o. h.given ++ (option_to_list o ++ h.state.items)) (sym out)) ∙ was.share p few)
   holds (comes_back {h} {item} before out) =
       let was = holds before in
-      record {
-        marks = was.marks;
-        turn = λ e. let none : Some item ≡ None = sym out ∙ (was.turn e).2 in absurd (cc);
-        share = λ p few. ap (λ o. items_for p (h.given ++ (option_to_list o ++ h.state.items))) (sym out) ∙ was.share p few;
-        taken = was.taken;
-      }
+      hands_on was (λ turn. let none : Some item ≡ None = sym out ∙ turn.2 in absurd (cc))
+      (λ p few. ap (λ o. items_for p (h.given ++ (option_to_list o ++ h.state.items))) (sym out) ∙ was.share p few)
 
 pub each_gets_its_own : EachGetsItsOwn
 each_gets_its_own gens t p h few happens = (holds gens t happens).share p few

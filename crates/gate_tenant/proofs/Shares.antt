@@ -1,13 +1,11 @@
 -- What a pipeline has of what was made for all.
-use Rattle.std.proofs.Common.{◌≡◌, ◌∙◌, refl, sym, ap, ℕ, zero, suc, ◌+◌, ◌<◌, ◌==◌, List, [], ◌∷◌, ◌++◌, Bool, true, false, length, map, flat_map, Option, Some, None, option_map, if◌then◌else◌, append-nil, arith}
-use Rattle.std.proofs.lemmas.Bool.{eq-eqb, eqb-true}
+use Rattle.std.proofs.Common.{◌≡◌, ◌∙◌, refl, sym, ap, ℕ, zero, suc, ◌+◌, ◌<◌, List, [], ◌∷◌, ◌++◌, Bool, true, false, length, map, flat_map, Option, Some, None, option_map, if◌then◌else◌}
 use Rattle.std.specs.List.{cons_option, filter_map, range_with_len}
 use Rattle.std.proofs.lemmas.List.Elements.{filter_map-append}
 use Rattle.std.specs.Option.{option_to_list}
-use Rattle.gate_record.specs.declared.ids.PipelineId.{PipelineId}
 use Rattle.gate_record.specs.declared.transit.TenantItem.{TenantItem}
-use Rattle.gate_record.specs.declared.transit.PipelineItem.{PipelineItem}
 use Rattle.gate_record.specs.declared.transit.PipelineItem.TheVariants as pipeline
+use Rattle.gate_record.proofs.Addressed.{has_its_own}
 use Rattle.gate_config.specs.declared.generations.Generations.{Generations}
 use Rattle.gate_config.specs.Lookups.{pipelines_of}
 use Rattle.gate_tenant.specs.Dispatching.{by_pipeline, chosen_item, end_marks, for_pipeline}
@@ -17,42 +15,9 @@ cons_option_is : {Y : Type 0} (o : Option Y) (ys : List Y) → cons_option o ys 
 cons_option_is None ys = refl
 cons_option_is (Some y) ys = refl
 
-differs : (a p : ℕ) → (a ≡ p → ⊥) → (a == p) ≡ false
-differs a p other = by (a == p) refl
-  where
-    by : (b : Bool) → (a == p) ≡ b → (a == p) ≡ false
-    by true e = absurd (other (eqb-true a p e))
-    by false e = e
-
-module _ (gets : ℕ → Option PipelineItem) where
-  mine : (p q : ℕ) (o : Option PipelineItem) (rest : List (PipelineId × PipelineItem)) → (q == p) ≡ true → items_for p (cons_option (option_map (for_pipeline q) o) rest) ≡ option_to_list o ++ items_for p rest
-  mine p q None rest e = refl
-  mine p q (Some item) rest e = ap (λ b. cons_option (if b then Some item else None) (items_for p rest)) e
-
-  others : (p q : ℕ) (o : Option PipelineItem) (rest : List (PipelineId × PipelineItem)) → (q == p) ≡ false → items_for p (cons_option (option_map (for_pipeline q) o) rest) ≡ items_for p rest
-  others p q None rest e = refl
-  others p q (Some item) rest e = ap (λ b. cons_option (if b then Some item else None) (items_for p rest)) e
-
-  behind : (p a n : ℕ) → p < a → items_for p (filter_map (λ q. option_map (for_pipeline q) (gets q)) (range_with_len a n)) ≡ []
-  behind p a zero h = refl
-  behind p a (suc n) h =
-      others p a (gets a) (filter_map (λ q. option_map (for_pipeline q) (gets q)) (range_with_len (a + 1) n)) (differs a p (λ e. absurd (omega (arith, e, h))))
-      ∙ behind p (a + 1) n (omega (arith, h))
-
-  among : (p a k n : ℕ) → a + k ≡ p → k < n → items_for p (filter_map (λ q. option_map (for_pipeline q) (gets q)) (range_with_len a n)) ≡ option_to_list (gets p)
-  among p a k zero e h = absurd (omega (arith, h))
-  among p a zero (suc n) e h =
-      let at : a ≡ p = omega (arith, e) in
-      mine p a (gets a) (filter_map (λ q. option_map (for_pipeline q) (gets q)) (range_with_len (a + 1) n)) (eq-eqb a p at)
-      ∙ ap (λ xs. option_to_list (gets a) ++ xs) (behind p (a + 1) n (omega (arith, at)))
-      ∙ append-nil (option_to_list (gets a)) ∙ ap (λ q. option_to_list (gets q)) at
-  among p a (suc k) (suc n) e h =
-      others p a (gets a) (filter_map (λ q. option_map (for_pipeline q) (gets q)) (range_with_len (a + 1) n)) (differs a p (λ same. absurd (omega (arith, same, e))))
-      ∙ among p (a + 1) k n (omega (arith, e)) (omega (arith, h))
-
 -- of one item
 of_item : (gens : Generations) (t p : ℕ) (item : TenantItem) → p < length (pipelines_of gens.first t) → items_for p (by_pipeline gens t item) ≡ option_to_list (chosen_item gens t p item)
-of_item gens t p item h = among (λ q. chosen_item gens t q item) p 0 p (length (pipelines_of gens.first t)) (omega arith) h
+of_item gens t p item h = has_its_own for_pipeline item_for (λ n m item. refl) (λ q. chosen_item gens t q item) p (length (pipelines_of gens.first t)) h
 
 -- of a list of items
 pub of_items : (gens : Generations) (t p : ℕ) (items : List TenantItem) → p < length (pipelines_of gens.first t) → items_for p (flat_map (by_pipeline gens t) items) ≡ filter_map (chosen_item gens t p) items
@@ -72,4 +37,4 @@ pub of_marks : (gens : Generations) (t p : ℕ) (there : Bool) → p < length (p
 of_marks gens t p false h = refl
 of_marks gens t p true h =
     ap (items_for p) (each_has 0 (length (pipelines_of gens.first t)))
-    ∙ among (λ q. Some pipeline.End) p 0 p (length (pipelines_of gens.first t)) (omega arith) h
+    ∙ has_its_own for_pipeline item_for (λ n m item. refl) (λ q. Some pipeline.End) p (length (pipelines_of gens.first t)) h

@@ -1,5 +1,5 @@
 ghost use Rattle.std.specs.Prelude.{◌≡◌, ◌≤◌, ◌<◌, ◌==◌, ◌+◌, ◌^◌, ◌++◌, IfOk, OnErr, OnOk, flat_map, length, map, option_map, true};
-ghost use Rattle.std.specs.List.{list_any, zip};
+ghost use Rattle.std.specs.List.{filter_map, list_any, range_with_len, zip};
 ghost use Rattle.std.specs.Option.{option_to_list};
 ghost use Rattle.gate_config.specs.Limits.{most_connections};
 ghost use Rattle.gate_config.specs.Lookups.{pipelines_of};
@@ -7,7 +7,7 @@ ghost use Rattle.gate_intern.specs.Limits.{most_rows};
 ghost use Rattle.gate_lanes.specs.declared.TheConstants.{MARKED};
 ghost use Rattle.gate_match.specs.Selecting.{gens_of, masks_of, tenant_of};
 ghost use Rattle.gate_tenant.specs.Limits.{most_gathered};
-ghost use Rattle.gate_tenant.specs.Inner.Batches.{by_masks, given_by, marked_item, row_in, rows_of, word_of};
+ghost use Rattle.gate_tenant.specs.Inner.Batches.{given_by, marked_item, row_in, rows_of, word_of};
 ghost use Rattle.gate_tenant.specs.Dispatching.{all_marked, by_pipeline, end_marks, is_event};
 
 use crate::batch::Batch;
@@ -114,25 +114,24 @@ fn push_item(
 {
     match item {
         TenantItem::Event(stamped) => {
-            push_event(config, tenant, masks, row, stamped, items)?;
+            push_event(pipelines(config, tenant), masks, row, stamped, items)?;
             Ok(row + 1)
         }
         TenantItem::End(_) => Ok(row),
     }
 }
 
-// Adds an event for each pipeline whose mask marks its row.
+// Adds an event for each of so many pipelines whose mask marks its row.
 fn push_event(
-    config: &Config,
-    tenant: TenantId,
+    count: u32,
     masks: &[Vec<u32>],
     row: usize,
     stamped: &Stamped,
     items: &mut VecDeque<(PipelineId, PipelineItem)>,
 ) -> Result<(), Memory>
-    ensures { OnOk result (items.new.items ≡ items.old.items ++ by_masks config.now tenant.0 (map (λ mask. mask.items) masks.now) row stamped.now) }
+    ensures { OnOk result (items.new.items ≡ items.old.items ++ filter_map (marked_item (map (λ mask. mask.items) masks.now) row stamped.now) (range_with_len 0 count)) }
 {
-    for pipeline in 0..pipelines(config, tenant) {
+    for pipeline in 0..count {
         push_marked(masks, row, PipelineId(pipeline), stamped, items)?;
     }
     Ok(())

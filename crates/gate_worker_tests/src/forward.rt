@@ -1,10 +1,11 @@
 //! Scripts over four tenants, and over sixteen.
 mod steps;
 
+use crate::scripts::play_all;
 use gate_config::{Generations, read_generations};
 use gate_forward::Forward;
 use gate_record::ConnId;
-use gate_test_lines::{comes_to, halves};
+use gate_test_lines::bytes_of;
 use std::alloc::Global;
 use std::test::Fail;
 
@@ -22,70 +23,38 @@ const GERRIT: ConnId = ConnId(1);
 const LATER: &str =
     r#"{"tenants":[{"name":"a","source":{"gerrit":{"untrusted-projects":["other"]}}},{"name":"b","source":{"gerrit":{"untrusted-projects":["demo"]}}},{"name":"c","source":{"eclipse":{"untrusted-projects":["demo","other"]}}},{"name":"d","source":{"eclipse":null,"gerrit":{"config-projects":["demo","other"]}}}],"config":{}}"#;
 
-// Plays a script over the generations of a configuration and one of its connections: takes each step, and compares what it
-// comes to with what stands behind the arrow.
+// Plays a script over the generations of a configuration and one of its connections.
 fn play(alloc: Global, documents: &[&str], conn: ConnId, script: &str) -> Result<(), Fail> {
     let documents = bytes_of(alloc, documents)?;
     let gens = read_generations(alloc, documents.as_slice())?;
     play_with(alloc, &gens, conn, script)
 }
 
-fn bytes_of(alloc: Global, documents: &[&str]) -> Result<Vec<Vec<u8>>, Fail> {
-    let mut bytes = Vec::new(alloc);
-    for document in documents {
-        bytes.push(document.as_bytes().to_vec(alloc)?)?;
-    }
-    Ok(bytes)
-}
-
 fn play_with(alloc: Global, gens: &Generations, conn: ConnId, script: &str) -> Result<(), Fail> {
     let mut forward = Forward::new(gens, conn);
-    play_over(alloc, &mut forward, script)
-}
-
-fn play_over(alloc: Global, forward: &mut Forward<'_>, script: &str) -> Result<(), Fail> {
-    for line in script.trim().lines() {
-        play_line(alloc, forward, line)?;
-    }
-    Ok(())
-}
-
-fn play_line(alloc: Global, forward: &mut Forward<'_>, line: &str) -> Result<(), Fail> {
-    let (step, wanted) = halves(line);
-    let found = steps::take(alloc, forward, step)?;
-    comes_to(line, found.as_str(), wanted)
+    play_all(alloc, &mut forward, script)
 }
 
 #[test]
 fn an_event_goes_to_each_tenant_that_lists_its_project(rt: HostRuntime) -> Result<(), Fail> {
     let script = r#"
         load 0 {"type":"patchset-created","change":{"project":"demo","number":7}}
-        send -> 0: event 0 of 1 on Some(7) by 0
-        send -> 3: event 0 of 1 on Some(7) by 0
-        empty -> true
-        ended -> false
+        send 0 3 -> event 0 of 1 on Some(7) by 0
+        rests -> true false
         load 1 {"type":"ref-updated","change":{"project":"other","number":7}}
-        send -> 1: event 1 of 1 on Some(7) by 0
-        send -> 3: event 1 of 1 on Some(7) by 0
-        empty -> true
-        ended -> false
+        send 1 3 -> event 1 of 1 on Some(7) by 0
+        rests -> true false
         load 2 {"type":"ref-updated","change":{"project":"demo2","number":7}}
-        empty -> true
-        ended -> false
+        rests -> true false
         load 3 {"type":"ref-updated"}
-        empty -> true
-        ended -> false
+        rests -> true false
         load 4 {"change":{"project":"demo"}}
-        empty -> true
-        ended -> false
+        rests -> true false
         load 5 not JSON
-        empty -> true
-        ended -> false
+        rests -> true false
         load 18446744073709551615 {"type":"patchset-created","change":{"project":"demo","number":7}}
-        send -> 0: event 18446744073709551615 of 1 on Some(7) by 0
-        send -> 3: event 18446744073709551615 of 1 on Some(7) by 0
-        empty -> true
-        ended -> false
+        send 0 3 -> event 18446744073709551615 of 1 on Some(7) by 0
+        rests -> true false
     "#;
     play(rt.alloc(), &[FOUR], GERRIT, script)
 }
@@ -95,11 +64,11 @@ fn the_end_mark_goes_to_each_tenant_that_lists_the_connection(rt: HostRuntime) -
     let script = "
         end
         ended -> false
-        send -> 0: end of 1
+        send 0 -> end of 1
         ended -> false
-        send -> 1: end of 1
+        send 1 -> end of 1
         ended -> false
-        send -> 3: end of 1
+        send 3 -> end of 1
         ended -> true
     ";
     play(rt.alloc(), &[FOUR], GERRIT, script)
@@ -109,7 +78,7 @@ fn the_end_mark_goes_to_each_tenant_that_lists_the_connection(rt: HostRuntime) -
 fn a_connection_that_no_tenant_lists_ends_at_once(rt: HostRuntime) -> Result<(), Fail> {
     let script = "
         end
-        ended -> true
+        rests -> true true
     ";
     play(rt.alloc(), &[FOUR], ConnId(2), script)
 }
@@ -118,16 +87,16 @@ fn a_connection_that_no_tenant_lists_ends_at_once(rt: HostRuntime) -> Result<(),
 fn an_item_that_was_not_sent_is_the_first_again(rt: HostRuntime) -> Result<(), Fail> {
     let script = r#"
         load 9 {"type":"patchset-created","change":{"project":"demo","number":7}}
-        back -> 0: event 9 of 1 on Some(7) by 0
+        back 0 -> event 9 of 1 on Some(7) by 0
         empty -> false
-        back -> 0: event 9 of 1 on Some(7) by 0
+        back 0 -> event 9 of 1 on Some(7) by 0
         empty -> false
-        send -> 0: event 9 of 1 on Some(7) by 0
-        back -> 3: event 9 of 1 on Some(7) by 0
+        send 0 -> event 9 of 1 on Some(7) by 0
+        back 3 -> event 9 of 1 on Some(7) by 0
         empty -> false
-        back -> 3: event 9 of 1 on Some(7) by 0
+        back 3 -> event 9 of 1 on Some(7) by 0
         empty -> false
-        send -> 3: event 9 of 1 on Some(7) by 0
+        send 3 -> event 9 of 1 on Some(7) by 0
         empty -> true
     "#;
     play(rt.alloc(), &[FOUR], GERRIT, script)
@@ -136,24 +105,10 @@ fn an_item_that_was_not_sent_is_the_first_again(rt: HostRuntime) -> Result<(), F
 #[test]
 fn sixteen_tenants_get_an_event(rt: HostRuntime) -> Result<(), Fail> {
     let script = r#"
+        rests -> true false
         load 0 {"type":"patchset-created","change":{"project":"demo","number":7}}
-        send -> 0: event 0 of 1 on Some(7) by 0
-        send -> 1: event 0 of 1 on Some(7) by 0
-        send -> 2: event 0 of 1 on Some(7) by 0
-        send -> 3: event 0 of 1 on Some(7) by 0
-        send -> 4: event 0 of 1 on Some(7) by 0
-        send -> 5: event 0 of 1 on Some(7) by 0
-        send -> 6: event 0 of 1 on Some(7) by 0
-        send -> 7: event 0 of 1 on Some(7) by 0
-        send -> 8: event 0 of 1 on Some(7) by 0
-        send -> 9: event 0 of 1 on Some(7) by 0
-        send -> 10: event 0 of 1 on Some(7) by 0
-        send -> 11: event 0 of 1 on Some(7) by 0
-        send -> 12: event 0 of 1 on Some(7) by 0
-        send -> 13: event 0 of 1 on Some(7) by 0
-        send -> 14: event 0 of 1 on Some(7) by 0
-        send -> 15: event 0 of 1 on Some(7) by 0
-        empty -> true
+        send 0 1 2 3 4 5 6 7 8 9 10 11 12 13 14 15 -> event 0 of 1 on Some(7) by 0
+        rests -> true false
     "#;
     play(rt.alloc(), &[SIXTEEN], GERRIT, script)
 }
@@ -162,35 +117,29 @@ fn sixteen_tenants_get_an_event(rt: HostRuntime) -> Result<(), Fail> {
 fn a_record_is_forwarded_by_the_generation_in_force(rt: HostRuntime) -> Result<(), Fail> {
     let script = r#"
         load 0 {"type":"patchset-created","change":{"project":"demo","number":7}}
-        send -> 0: event 0 of 1 on Some(7) by 0
-        send -> 3: event 0 of 1 on Some(7) by 0
+        send 0 3 -> event 0 of 1 on Some(7) by 0
         empty -> true
         renew
         empty -> true
         load 1 {"type":"patchset-created","change":{"project":"demo","number":7}}
-        send -> 1: event 1 of 1 on Some(7) by 1
-        send -> 3: event 1 of 1 on Some(7) by 1
+        send 1 3 -> event 1 of 1 on Some(7) by 1
         empty -> true
         load 2 {"type":"patchset-created","change":{"project":"other","number":7}}
-        send -> 0: event 2 of 1 on Some(7) by 1
-        back -> 3: event 2 of 1 on Some(7) by 1
-        send -> 3: event 2 of 1 on Some(7) by 1
+        send 0 -> event 2 of 1 on Some(7) by 1
+        back 3 -> event 2 of 1 on Some(7) by 1
+        send 3 -> event 2 of 1 on Some(7) by 1
         empty -> true
         renew
         load 3 {"type":"patchset-created","change":{"project":"other","number":7}}
-        send -> 1: event 3 of 1 on Some(7) by 2
-        send -> 3: event 3 of 1 on Some(7) by 2
+        send 1 3 -> event 3 of 1 on Some(7) by 2
         empty -> true
         renew -> last
         load 4 {"type":"patchset-created","change":{"project":"demo","number":7}}
-        send -> 0: event 4 of 1 on Some(7) by 2
-        send -> 3: event 4 of 1 on Some(7) by 2
+        send 0 3 -> event 4 of 1 on Some(7) by 2
         empty -> true
         ended -> false
         end
-        send -> 0: end of 1
-        send -> 1: end of 1
-        send -> 3: end of 1
+        send 0 1 3 -> end of 1
         ended -> true
     "#;
     play(rt.alloc(), &[FOUR, LATER, FOUR], GERRIT, script)

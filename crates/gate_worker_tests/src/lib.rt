@@ -6,4 +6,6 @@ mod forward;
 #[cfg(test)]
 mod pipeline;
 #[cfg(test)]
+mod scripts;
+#[cfg(test)]
 mod tenant;

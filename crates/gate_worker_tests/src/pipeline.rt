@@ -58,7 +58,8 @@ fn play_line(
     line: &str,
 ) -> Result<(), Fail> {
     let (turn, wanted) = halves(line);
-    let found = turns::take(alloc, worker, config, turn)?;
+    let mut found = String::new(alloc);
+    turns::take(&mut found, worker, config, turn)?;
     comes_to(line, found.as_str(), wanted)
 }
 
@@ -87,8 +88,7 @@ fn moves_on_after_a_whole_phase(rt: HostRuntime) -> Result<(), Fail> {
 #[test]
 fn finishes_with_the_end_mark(rt: HostRuntime) -> Result<(), Fail> {
     let script = "
-        empty
-        empty
+        empty 2
         finished -> false
         end
         finished -> true
@@ -101,8 +101,7 @@ fn finishes_with_the_end_mark(rt: HostRuntime) -> Result<(), Fail> {
 #[test]
 fn makes_an_action_of_an_event(rt: HostRuntime) -> Result<(), Fail> {
     let script = r#"
-        empty
-        empty
+        empty 2
         event {"type":"patchset-created","change":{"project":"demo","number":7},"patchSet":{"number":2}} -> change 0 7 2 build lint
         event {"type":"ref-updated","patchSet":{"number":2},"refUpdate":{"project":"demo","refName":"refs/heads/a","newRev":"12ab"}} -> ref 0 12ab refs/heads/a demo 0 build lint
         event {"type":"x","change":{"number":7},"refUpdate":{"refName":"refs/heads/a","newRev":"12ab"}} -> change 0 7 0
@@ -114,8 +113,7 @@ fn makes_an_action_of_an_event(rt: HostRuntime) -> Result<(), Fail> {
 #[test]
 fn makes_an_action_of_an_event_in_a_queue(rt: HostRuntime) -> Result<(), Fail> {
     let script = r#"
-        empty
-        empty
+        empty 2
         event {"type":"change-restored","change":{"project":"demo","number":"-7"}} -> change 0 -7 0 build
         event {"type":"ref-updated","refUpdate":{"project":"demo","refName":"refs/heads/a"}} -> none 0 build
         event {"type":"ref-updated","refUpdate":{"project":"other","newRev":"12ab"}} -> none 0

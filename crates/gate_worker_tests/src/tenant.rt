@@ -1,10 +1,11 @@
 //! Scripts over a tenant with two connections and two pipelines, and over one that lists no connection.
 mod steps;
 
+use crate::scripts::play_all;
 use gate_config::{Generations, read_generations};
 use gate_record::TenantId;
 use gate_tenant::Dispatch;
-use gate_test_lines::{comes_to, halves};
+use gate_test_lines::bytes_of;
 use std::alloc::Global;
 use std::test::Fail;
 
@@ -23,17 +24,9 @@ const LATER: &str =
 
 // Plays a script from the start of a tenant.
 fn play(alloc: Global, tenant: TenantId, script: &str) -> Result<(), Fail> {
-    let documents = documents_of(alloc)?;
+    let documents = bytes_of(alloc, &[CONFIG, LATER])?;
     let gens = read_generations(alloc, documents.as_slice())?;
     play_with(alloc, &gens, tenant, script)
-}
-
-fn documents_of(alloc: Global) -> Result<Vec<Vec<u8>>, Fail> {
-    let mut documents = Vec::new(alloc);
-    for document in [CONFIG, LATER] {
-        documents.push(document.as_bytes().to_vec(alloc)?)?;
-    }
-    Ok(documents)
 }
 
 fn play_with(
@@ -43,21 +36,7 @@ fn play_with(
     script: &str,
 ) -> Result<(), Fail> {
     let mut dispatch = Dispatch::new(alloc, gens, tenant)?;
-    play_over(alloc, &mut dispatch, script)
-}
-
-// Takes each step of a script, and compares what it comes to with what stands behind the arrow.
-fn play_over(alloc: Global, dispatch: &mut Dispatch<'_>, script: &str) -> Result<(), Fail> {
-    for line in script.trim().lines() {
-        play_line(alloc, dispatch, line)?;
-    }
-    Ok(())
-}
-
-fn play_line(alloc: Global, dispatch: &mut Dispatch<'_>, line: &str) -> Result<(), Fail> {
-    let (step, wanted) = halves(line);
-    let found = steps::take(alloc, dispatch, step)?;
-    comes_to(line, found.as_str(), wanted)
+    play_all(alloc, &mut dispatch, script)
 }
 
 #[test]
@@ -76,18 +55,9 @@ fn events_go_to_each_pipeline_that_selects_them(rt: HostRuntime) -> Result<(), F
 #[test]
 fn an_event_is_matched_by_its_generation(rt: HostRuntime) -> Result<(), Fail> {
     let script = "
-        event 0 0 0 patchset-created
-        event 1 0 1 patchset-created
-        event 0 0 2 comment-added
-        event 1 0 3 comment-added
-        event 0 0 4 change-merged
-        event 1 0 5 change-merged
-        event 0 1 0 patchset-created
-        event 1 1 1 patchset-created
-        event 0 1 2 change-merged
-        event 1 1 3 change-merged
-        event 0 1 4 comment-added
-        event 1 1 5 comment-added
+        event 0 0 0 patchset-created, 1 0 1 patchset-created, 0 0 2 comment-added, 1 0 3 comment-added
+        event 0 0 4 change-merged, 1 0 5 change-merged, 0 1 0 patchset-created, 1 1 1 patchset-created
+        event 0 1 2 change-merged, 1 1 3 change-merged, 0 1 4 comment-added, 1 1 5 comment-added
         match
         give -> 0:0/0@0 1:0/0@0 1:0/2@0 0:0/3@1 1:0/5@1 0:1/0@0 1:1/1@1 0:1/3@1
     ";

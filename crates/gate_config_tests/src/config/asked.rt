@@ -14,36 +14,26 @@ use std::test::Fail;
 
 pub(super) fn answer(alloc: Global, config: &Config, question: &str) -> Result<String, Fail> {
     let mut text = String::new(alloc);
-    push_answer_or_nothing(alloc, &mut text, config, question)?;
+    push_answer_or_nothing(&mut text, config, question)?;
     Ok(text)
 }
 
-fn push_answer_or_nothing(
-    alloc: Global,
-    text: &mut String,
-    config: &Config,
-    question: &str,
-) -> Result<(), Fail> {
-    push_answer(alloc, text, config, question)?;
+fn push_answer_or_nothing(text: &mut String, config: &Config, question: &str) -> Result<(), Fail> {
+    push_answer(text, config, question)?;
     if text.is_empty() {
         text.push_str("nothing")?;
     }
     Ok(())
 }
 
-fn push_answer(
-    alloc: Global,
-    text: &mut String,
-    config: &Config,
-    question: &str,
-) -> Result<(), Fail> {
+fn push_answer(text: &mut String, config: &Config, question: &str) -> Result<(), Fail> {
     let (verb, rest) = word_and_rest(question);
     match verb {
         "connections" => Ok(push_names(text, config.connections())?),
         "tenants" => Ok(push_tenants(text, config.tenants())?),
         "pipelines" => push_pipelines_of(text, config, rest),
         "rule" => push_rule(text, first_rule(config)?),
-        "meets" => push_meets(alloc, text, first_rule(config)?, rest),
+        "meets" => push_meets(text, first_rule(config)?, rest),
         _ => push_numbered(text, config, verb, rest),
     }
 }
@@ -59,7 +49,8 @@ fn push_numbered(text: &mut String, config: &Config, verb: &str, words: &str) ->
     }
 }
 
-fn push_meets(alloc: Global, text: &mut String, rule: &Rule, json: &str) -> Result<(), Fail> {
+fn push_meets(text: &mut String, rule: &Rule, json: &str) -> Result<(), Fail> {
+    let alloc = *text.allocator();
     Ok(text.push_str(meets(alloc, rule, json)?)?)
 }
 

@@ -1,5 +1,5 @@
 //! Several documents as the generations of a configuration.
-use super::{BEHIND_CHECK, ITEMS, TENANTS, asked, filled};
+use super::{BEHIND_CHECK, ITEMS, TENANTS, asked, filled, text_and_table};
 use gate_config::{Generations, read_config, read_generations};
 use gate_test_lines::{comes_to, halves, word_and_rest};
 use std::alloc::Global;
@@ -10,17 +10,11 @@ use std::test::Fail;
 // there are, or the fault. A line that begins with `#` says what follows.
 fn beside(alloc: Global, document: &str, script: &str) -> Result<(), Fail> {
     for block in script.split("\n\n") {
-        beside_block(alloc, document, block.trim())?;
+        if let Some((first, table)) = text_and_table(block.trim())? {
+            beside_table(alloc, document, first, table)?;
+        }
     }
     Ok(())
-}
-
-fn beside_block(alloc: Global, document: &str, block: &str) -> Result<(), Fail> {
-    match block.split_once('\n') {
-        Some((first, table)) => beside_table(alloc, document, first, table),
-        None if block.starts_with('#') => Ok(()),
-        None => Err(Fail::from("a second document")),
-    }
 }
 
 fn beside_table(alloc: Global, document: &str, first: &str, table: &str) -> Result<(), Fail> {

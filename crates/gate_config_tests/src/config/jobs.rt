@@ -1,5 +1,5 @@
 //! Items, projects and their jobs.
-use super::{BEHIND_CHECK, ITEMS, says};
+use super::{BEHIND_CHECK, ITEMS, each_says, says};
 use std::test::Fail;
 
 #[test]
@@ -34,7 +34,7 @@ fn items_are_read(rt: HostRuntime) -> Result<(), Fail> {
 #[test]
 fn jobs_are_read(rt: HostRuntime) -> Result<(), Fail> {
     let items = r#"
-        # jobs are read
+        # those of several stanzas are put together, each job once
 
         {"project":{"name":"demo","check":{"jobs":["build","lint"]}}},{"project":{"name":"other","check":{"jobs":["x","x",{"y":5},"x"]}}},{"project":{"name":"demo","check":{"jobs":["lint",{"docs":{}}]}}}
         jobs 0 0 demo -> build lint docs
@@ -54,98 +54,36 @@ fn jobs_are_read(rt: HostRuntime) -> Result<(), Fail> {
         jobs 0 1 demo -> build docs
         jobs 0 2 demo -> nothing
         jobs 0 3 demo -> nothing
-
-        # what has no jobs
-
-        {"project":null}
-        jobs 0 0 demo -> nothing
-        jobs 0 0 ^demo -> nothing
-        jobs 0 0 ^ -> nothing
-        jobs 0 0 empty -> nothing
-
-        {"project":{}}
-        jobs 0 0 demo -> nothing
-        jobs 0 0 ^demo -> nothing
-        jobs 0 0 ^ -> nothing
-        jobs 0 0 empty -> nothing
-
-        {"project":{"check":5}}
-        jobs 0 0 demo -> nothing
-        jobs 0 0 ^demo -> nothing
-        jobs 0 0 ^ -> nothing
-        jobs 0 0 empty -> nothing
-
-        {"project":{"name":null,"check":5}}
-        jobs 0 0 demo -> nothing
-        jobs 0 0 ^demo -> nothing
-        jobs 0 0 ^ -> nothing
-        jobs 0 0 empty -> nothing
-
-        {"project":{"name":5,"check":5}}
-        jobs 0 0 demo -> nothing
-        jobs 0 0 ^demo -> nothing
-        jobs 0 0 ^ -> nothing
-        jobs 0 0 empty -> nothing
-
-        {"project":{"name":"^demo","check":5}}
-        jobs 0 0 demo -> nothing
-        jobs 0 0 ^demo -> nothing
-        jobs 0 0 ^ -> nothing
-        jobs 0 0 empty -> nothing
-
-        {"project":{"name":"^demo","check":{"jobs":["build"]}}}
-        jobs 0 0 demo -> nothing
-        jobs 0 0 ^demo -> nothing
-        jobs 0 0 ^ -> nothing
-        jobs 0 0 empty -> nothing
-
-        {"project":{"name":"^","check":5}}
-        jobs 0 0 demo -> nothing
-        jobs 0 0 ^demo -> nothing
-        jobs 0 0 ^ -> nothing
-        jobs 0 0 empty -> nothing
-
-        {"project":{"name":"demo"}}
-        jobs 0 0 demo -> nothing
-        jobs 0 0 ^demo -> nothing
-        jobs 0 0 ^ -> nothing
-        jobs 0 0 empty -> nothing
-
-        {"project":{"name":"demo","check":null}}
-        jobs 0 0 demo -> nothing
-        jobs 0 0 ^demo -> nothing
-        jobs 0 0 ^ -> nothing
-        jobs 0 0 empty -> nothing
-
-        {"project":{"name":"demo","check":{}}}
-        jobs 0 0 demo -> nothing
-        jobs 0 0 ^demo -> nothing
-        jobs 0 0 ^ -> nothing
-        jobs 0 0 empty -> nothing
-
-        {"project":{"name":"demo","check":{"jobs":null}}}
-        jobs 0 0 demo -> nothing
-        jobs 0 0 ^demo -> nothing
-        jobs 0 0 ^ -> nothing
-        jobs 0 0 empty -> nothing
-
-        {"project":{"name":"demo","check":{"jobs":[]}}}
-        jobs 0 0 demo -> nothing
-        jobs 0 0 ^demo -> nothing
-        jobs 0 0 ^ -> nothing
-        jobs 0 0 empty -> nothing
-
-        {"project":{"name":"demo","gate":5,"jobs":5}}
-        jobs 0 0 demo -> nothing
-        jobs 0 0 ^demo -> nothing
-        jobs 0 0 ^ -> nothing
-        jobs 0 0 empty -> nothing
-
-        {"Project":5}
-        jobs 0 0 demo -> nothing
-        jobs 0 0 ^demo -> nothing
-        jobs 0 0 ^ -> nothing
-        jobs 0 0 empty -> nothing
     "#;
     says(rt.alloc(), BEHIND_CHECK, items)
+}
+
+// What says nothing of the jobs of any project.
+const WITHOUT_JOBS: &str = r#"
+    {"project":null}
+    {"project":{}}
+    {"project":{"check":5}}
+    {"project":{"name":null,"check":5}}
+    {"project":{"name":5,"check":5}}
+    {"project":{"name":"^demo","check":5}}
+    {"project":{"name":"^demo","check":{"jobs":["build"]}}}
+    {"project":{"name":"^","check":5}}
+    {"project":{"name":"demo"}}
+    {"project":{"name":"demo","check":null}}
+    {"project":{"name":"demo","check":{}}}
+    {"project":{"name":"demo","check":{"jobs":null}}}
+    {"project":{"name":"demo","check":{"jobs":[]}}}
+    {"project":{"name":"demo","gate":5,"jobs":5}}
+    {"Project":5}
+"#;
+
+#[test]
+fn what_has_no_jobs(rt: HostRuntime) -> Result<(), Fail> {
+    let table = "
+        jobs 0 0 demo -> nothing
+        jobs 0 0 ^demo -> nothing
+        jobs 0 0 ^ -> nothing
+        jobs 0 0 empty -> nothing
+    ";
+    each_says(rt.alloc(), BEHIND_CHECK, WITHOUT_JOBS, table)
 }

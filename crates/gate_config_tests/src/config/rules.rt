@@ -80,8 +80,7 @@ fn fault_of(alloc: Global, rules: &str) -> Result<String, Fail> {
 
 fn is_faulty(alloc: Global, line: &str) -> Result<(), Fail> {
     let (rules, wanted) = halves(line);
-    let found = fault_of(alloc, rules)?;
-    comes_to(rules, found.as_str(), wanted)
+    comes_to(rules, fault_of(alloc, rules)?.as_str(), wanted)
 }
 
 #[test]

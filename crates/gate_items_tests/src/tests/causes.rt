@@ -76,6 +76,13 @@ fn at_the_end(alloc: Global, manager: ManagerKind, acts: &str, back: &str) -> Re
     each(alloc, manager, LAST - 1, front, acts, back)
 }
 
+fn with_both_at_the_end(alloc: Global, acts: &str, back: &str) -> Result<(), Fail> {
+    for manager in BOTH {
+        at_the_end(alloc, manager, acts, back)?;
+    }
+    Ok(())
+}
+
 // What is left at the end where nothing changes.
 const UNCHANGED: &str = "
         left
@@ -94,10 +101,7 @@ fn other_causes_come_before_numbers(rt: HostRuntime) -> Result<(), Fail> {
         dequeue 9: Discarded(NoItem)
         reset 9: Discarded(NoItem)
         ";
-    for manager in BOTH {
-        at_the_end(rt.alloc(), manager, acts, UNCHANGED)?;
-    }
-    Ok(())
+    with_both_at_the_end(rt.alloc(), acts, UNCHANGED)
 }
 
 #[test]
@@ -107,10 +111,7 @@ fn too_few_numbers(rt: HostRuntime) -> Result<(), Fail> {
         trigger 3 1: Discarded(Numbers)
         reset 2: Discarded(Numbers)
         ";
-    for manager in BOTH {
-        at_the_end(rt.alloc(), manager, acts, UNCHANGED)?;
-    }
-    Ok(())
+    with_both_at_the_end(rt.alloc(), acts, UNCHANGED)
 }
 
 #[test]
@@ -134,8 +135,5 @@ fn the_last_item_needs_no_number(rt: HostRuntime) -> Result<(), Fail> {
         ended 18446744073709551613 build success: Applied
         dequeue 2: Applied
         ";
-    for manager in BOTH {
-        at_the_end(rt.alloc(), manager, acts, "")?;
-    }
-    Ok(())
+    with_both_at_the_end(rt.alloc(), acts, "")
 }

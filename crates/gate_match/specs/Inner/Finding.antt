@@ -8,21 +8,18 @@ use Rattle.gate_rule.specs.declared.pattern.Pattern.{Pattern}
 use Rattle.gate_rule.specs.Entry.{turned}
 use Rattle.gate_rule.specs.Pattern.{front, text_of, within}
 use Rattle.gate_intern.specs.declared.field.Field.{Field}
-use Rattle.gate_intern.specs.declared.field.Field.TheVariants.{Kind, Project, Branch, Refname, Username, Email, Comment}
+use Rattle.gate_intern.specs.declared.field.Field.TheVariants.{Username, Email, Comment}
 use Rattle.gate_intern.specs.Columns.{field_of}
 use Rattle.gate_intern.specs.Marks.{passes}
 use Rattle.gate_match.specs.declared.reach.Reach.{Reach}
 use Rattle.gate_match.specs.declared.reach.Reach.TheVariants.{Front, Anywhere}
 
--- how far patterns may reach in a field
+-- how far patterns may reach in a field: anywhere in what an account is called and in a comment
 abbrev pub reach_of : Field → Reach
-reach_of Kind = Front
-reach_of Project = Front
-reach_of Branch = Front
-reach_of Refname = Front
 reach_of Username = Anywhere
 reach_of Email = Anywhere
 reach_of Comment = Anywhere
+reach_of other = Front
 
 -- the pattern is found in the text
 abbrev pub finds : Reach → Pattern → List ℕ → Bool

@@ -13,6 +13,15 @@ fn has_account(alloc: Global, kind: &str, account: &str) -> Result<(), Fail> {
     check(alloc, line.as_bytes(), wanted.as_str())
 }
 
+// The same of each line of a table: the type, and behind the arrow the account.
+fn have_accounts(alloc: Global, table: &str) -> Result<(), Fail> {
+    for line in table.trim().lines() {
+        let (kind, account) = halves(line);
+        has_account(alloc, kind, account)?;
+    }
+    Ok(())
+}
+
 fn account_text(alloc: Global, kind: &str, account: &str) -> Result<String, AllocError> {
     match account {
         "nobody" => format!(in alloc; "kind {kind}\n"),
@@ -34,11 +43,7 @@ fn the_type_says_whose_event_it_is(rt: HostRuntime) -> Result<(), Fail> {
         "change-merged " -> nobody
         "" -> nobody
     "#;
-    for line in table.trim().lines() {
-        let (kind, account) = halves(line);
-        has_account(rt.alloc(), kind, account)?;
-    }
-    Ok(())
+    have_accounts(rt.alloc(), table)
 }
 
 #[test]

@@ -86,7 +86,6 @@ fn first_64(alloc: Global) -> Result<String, AllocError> {
 
 #[test]
 fn keeps_the_first_64(rt: HostRuntime) -> Result<(), Fail> {
-    let line = many(rt.alloc())?;
-    let wanted = first_64(rt.alloc())?;
-    check(rt.alloc(), line.as_bytes(), wanted.as_str())
+    let alloc = rt.alloc();
+    check(alloc, many(alloc)?.as_bytes(), first_64(alloc)?.as_str())
 }

@@ -5,7 +5,7 @@ use Rattle.gate_record.specs.declared.transit.PipelineItem.{PipelineItem}
 use Rattle.gate_record.specs.declared.transit.TenantItem.{TenantItem}
 use Rattle.gate_config.specs.declared.generations.Generations.{Generations}
 use Rattle.gate_config.specs.Lookups.{connections_of, tenants_of}
-use Rattle.gate_queue.specs.Seats.{TakerSeat}
+use Rattle.gate_queue.specs.Seats.{Shape, TakerSeat}
 use Rattle.gate_dispatcher.specs.declared.dispatcher.Dispatcher.{Dispatcher}
 use Rattle.gate_forwarder.specs.declared.forwarder.Forwarder.{Forwarder}
 use Rattle.gate_run.specs.declared.gathering.Ends.{Ends}
@@ -48,8 +48,10 @@ Dispatched w end = HasDispatched w.gens.now w.tenant.0 w.source.now w.targets.no
 abbrev pub Worked : {G : Type 0} → Worker G → WorkerEnd → Type 0
 Worked w end = HasWorked w.config.now w.tenant.0 w.pipeline.0 w.head end.head w.management end.management w.results end.results end.state
 
--- What the threads of a run handed back, each of them seated between its queues.
-pub record HaveRun {F : Type 0} (G : Type 0) (gens : Generations) (to_come : F → Told) (faults : F → ℕ) (feeds : List F) (inbox : List (List InboxEnds)) (cells : Cells) (queues : Queues) (ends : Ends F) : Type 0 where
+-- What the threads of a run handed back, each of them seated between these queues.
+pub record ThreadsHaveRun {F : Type 0} (G : Type 0) (gens : Generations) (to_come : F → Told) (faults : F → ℕ) (feeds : List F) (inbox : List (List InboxEnds)) (cells : Cells)
+    (records items : List Shape) (triggers : List (List Shape)) (reader_ends : List (ReaderEnd F)) (forwarder_ends : List (PassedOn (TakerSeat ConnEntry) TenantItem))
+    (dispatcher_ends : List (PassedOn (TakerSeat TenantItem) PipelineItem)) (worker_ends : List (List WorkerEnd)) : Type 0 where
   pub readers : List (Reader F)
   pub forwarders : List Forwarder
   pub dispatchers : List Dispatcher
@@ -58,11 +60,17 @@ pub record HaveRun {F : Type 0} (G : Type 0) (gens : Generations) (to_come : F �
   pub forwarder_count : length forwarders ≡ length (connections_of gens.first)
   pub dispatcher_count : length dispatchers ≡ length (tenants_of gens.first)
   pub worker_count : length workers ≡ length (tenants_of gens.first)
-  pub are_readers : EachAt (IsReaderOf faults feeds queues.records.items cells) readers
-  pub are_forwarders : EachAt (IsForwarderOf gens queues.records.items queues.items.items) forwarders
-  pub are_dispatchers : EachAt (IsDispatcherOf gens queues.items.items (map (λ lane. lane.items) queues.triggers.items)) dispatchers
-  pub are_workers : EachAt (AreWorkersOf gens.first (map (λ lane. lane.items) queues.triggers.items) inbox) workers
-  pub have_read : Pairwise (Read to_come faults) readers ends.readers.items
-  pub have_forwarded : Pairwise Forwarded forwarders ends.forwarders.items
-  pub have_dispatched : Pairwise Dispatched dispatchers ends.dispatchers.items
-  pub have_worked : Pairwise (Pairwise Worked) workers (map (λ list. list.items) ends.workers.items)
+  pub are_readers : EachAt (IsReaderOf faults feeds records cells) readers
+  pub are_forwarders : EachAt (IsForwarderOf gens records items) forwarders
+  pub are_dispatchers : EachAt (IsDispatcherOf gens items triggers) dispatchers
+  pub are_workers : EachAt (AreWorkersOf gens.first triggers inbox) workers
+  pub have_read : Pairwise (Read to_come faults) readers reader_ends
+  pub have_forwarded : Pairwise Forwarded forwarders forwarder_ends
+  pub have_dispatched : Pairwise Dispatched dispatchers dispatcher_ends
+  pub have_worked : Pairwise (Pairwise Worked) workers worker_ends
+
+-- the threads between these queues, by what they handed back
+abbrev pub HaveRun : {F : Type 0} → Type 0 → Generations → (F → Told) → (F → ℕ) → List F → List (List InboxEnds) → Cells → Queues → Ends F → Type 0
+HaveRun G gens to_come faults feeds inbox cells queues ends =
+    ThreadsHaveRun G gens to_come faults feeds inbox cells queues.records.items queues.items.items (map (λ lane. lane.items) queues.triggers.items)
+    ends.readers.items ends.forwarders.items ends.dispatchers.items (map (λ list. list.items) ends.workers.items)

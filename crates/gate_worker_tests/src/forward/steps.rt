@@ -1,37 +1,30 @@
-//! The steps of a script, and what each comes to; where that isn't said, it is the empty text:
+//! The steps of a script:
 //!
 //! - `load NUMBER LINE` loads the record of this line, and `end` the end mark
 //! - `renew` loads the mark of a renewal, and comes to `last` where there is no later generation
-//! - `send` sends the next item, and comes to it: `0: event 9 of 1 on Some(7) by 0` for the event of record 9 of connection 1,
-//!   on change 7, by generation 0, to tenant 0, and `0: end of 1` for the end mark
-//! - `back` takes the next item, and comes to it too, but puts it back
-//! - `empty` and `ended` come to what they ask
+//! - `send TENANT..` sends one item to each of these tenants, and comes to the item, which is the same for all of them:
+//!   `event 9 of 1 on Some(7) by 0` for the event of record 9 of connection 1, on change 7, by generation 0, and `end of 1` for the
+//!   end mark
+//! - `back TENANT` takes the next item, which is for this tenant, and comes to it too, but puts it back
+//! - `empty` and `ended` come to what they ask, and `rests` to both
+use crate::scripts::Player;
 use gate_forward::{Forward, Last};
 use gate_record::{Record, TenantId, TenantItem};
-use gate_test_lines::{record_of, word_and_rest};
+use gate_test_lines::{comes_to, record_of, word_and_rest};
 use std::alloc::{AllocError, Global};
 use std::test::Fail;
 
-pub(super) fn take(alloc: Global, forward: &mut Forward<'_>, step: &str) -> Result<String, Fail> {
-    let mut text = String::new(alloc);
-    push_step(alloc, &mut text, forward, step)?;
-    Ok(text)
-}
-
-fn push_step(
-    alloc: Global,
-    text: &mut String,
-    forward: &mut Forward<'_>,
-    step: &str,
-) -> Result<(), Fail> {
-    let (verb, rest) = word_and_rest(step);
-    match verb {
-        "load" => load(alloc, forward, rest),
-        "end" => load_end(forward),
-        "renew" => load_renew(text, forward),
-        "send" => send(text, forward),
-        "back" => put_back(text, forward),
-        _ => push_asked(text, forward, verb),
+impl Player for Forward<'_> {
+    fn take(&mut self, text: &mut String, step: &str) -> Result<(), Fail> {
+        let (verb, rest) = word_and_rest(step);
+        match verb {
+            "load" => load(*text.allocator(), self, rest),
+            "end" => load_end(self),
+            "renew" => load_renew(text, self),
+            "send" => send_each(text, self, rest),
+            "back" => put_back(text, self, rest),
+            _ => push_asked(text, self, verb),
+        }
     }
 }
 
@@ -39,6 +32,10 @@ fn push_asked(text: &mut String, forward: &Forward<'_>, word: &str) -> Result<()
     match word {
         "empty" => Ok(write!(text, "{}", forward.is_empty())?),
         "ended" => push_ended(text, forward),
+        "rests" => {
+            write!(text, "{} ", forward.is_empty())?;
+            push_ended(text, forward)
+        }
         _ => Err(Fail::from("a step")),
     }
 }
@@ -87,29 +84,37 @@ fn load_renew(text: &mut String, forward: &mut Forward<'_>) -> Result<(), Fail> 
     }
 }
 
-// The next item, which is out then.
-fn next(forward: &mut Forward<'_>) -> Result<(TenantId, TenantItem), Fail> {
+// The next item, which is for this tenant, and is out then.
+fn next(forward: &mut Forward<'_>, tenant: &str) -> Result<TenantItem, Fail> {
     if forward.is_out() {
         return Err(Fail::from("an item is out"));
     }
+    let wanted = TenantId(tenant.parse::<u32>()?);
     match forward.next() {
-        Some(item) => Ok(item),
-        None => Err(Fail::from("an item")),
+        Some((tenant, item)) if tenant == wanted => Ok(item),
+        _ => Err(Fail::from("an item for this tenant")),
     }
 }
 
-fn send(text: &mut String, forward: &mut Forward<'_>) -> Result<(), Fail> {
-    let (tenant, item) = next(forward)?;
+fn send_each(text: &mut String, forward: &mut Forward<'_>, tenants: &str) -> Result<(), Fail> {
+    for tenant in tenants.split(' ') {
+        send(text, forward, tenant)?;
+    }
+    Ok(())
+}
+
+fn send(text: &mut String, forward: &mut Forward<'_>, tenant: &str) -> Result<(), Fail> {
+    let item = next(forward, tenant)?;
     if !forward.is_out() {
         return Err(Fail::from("no item is out"));
     }
     forward.sent();
-    Ok(push_item(text, tenant, &item)?)
+    tell(text, &item)
 }
 
-fn put_back(text: &mut String, forward: &mut Forward<'_>) -> Result<(), Fail> {
-    let (tenant, item) = next(forward)?;
-    push_item(text, tenant, &item)?;
+fn put_back(text: &mut String, forward: &mut Forward<'_>, tenant: &str) -> Result<(), Fail> {
+    let item = next(forward, tenant)?;
+    tell(text, &item)?;
     unsend(forward, item)
 }
 
@@ -121,8 +126,17 @@ fn unsend(forward: &mut Forward<'_>, item: TenantItem) -> Result<(), Fail> {
     Ok(())
 }
 
-fn push_item(text: &mut String, tenant: TenantId, item: &TenantItem) -> Result<(), AllocError> {
-    write!(text, "{}: ", tenant.0)?;
+// Adds an item to an empty text. Where there was one before, this has to be the same.
+fn tell(text: &mut String, item: &TenantItem) -> Result<(), Fail> {
+    let mut told = String::new(*text.allocator());
+    push_item(&mut told, item)?;
+    if text.is_empty() {
+        return Ok(text.push_str(told.as_str())?);
+    }
+    comes_to("an item", told.as_str(), text.as_str())
+}
+
+fn push_item(text: &mut String, item: &TenantItem) -> Result<(), AllocError> {
     match item {
         TenantItem::End(conn) => write!(text, "end of {}", conn.0),
         TenantItem::Event(stamped) => {

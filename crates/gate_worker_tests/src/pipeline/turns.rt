@@ -1,6 +1,6 @@
 //! The turns of a script, and what each comes to; where that isn't said, it is the empty text:
 //!
-//! - `empty`: the queue is empty; `end`: the end mark is taken
+//! - `empty`: the queue is empty, and `empty TIMES`: so many are, one after another; `end`: the end mark is taken
 //! - `event JSON`, of a record, comes to what its trigger asks for: its key, its patch set and its jobs
 //! - `dequeue NUMBER`, of a change of connection 0, and `ended SET JOB`, for a job that succeeded, come to the outcomes of
 //!   their actions
@@ -8,6 +8,7 @@
 ghost use Rattle.std.specs.Prelude.{◌≡◌};
 ghost use Rattle.gate_pipeline.specs.States.{asked, next_of};
 
+use crate::scripts::times_of;
 use gate_config::Config;
 use gate_items::{Action, JobResult, Key, Manage, Outcome};
 use gate_pipeline::{Pipeline, Processed, Taken, Which};
@@ -16,57 +17,23 @@ use gate_test_lines::{event_of, word_and_rest};
 use std::alloc::{AllocError, Global};
 use std::test::Fail;
 
-// What the pipeline makes of a taking, and its outcome; nothing for the end mark.
-
+// Takes a turn, and adds what it comes to to an empty text.
 pub(super) fn take(
-    alloc: Global,
-    worker: &mut Pipeline,
-    config: &Config,
-    turn: &str,
-) -> Result<String, Fail> {
-    let mut text = String::new(alloc);
-    push_turn(alloc, &mut text, worker, config, turn)?;
-    Ok(text)
-}
-
-fn push_turn(
-    alloc: Global,
     text: &mut String,
     worker: &mut Pipeline,
     config: &Config,
     turn: &str,
 ) -> Result<(), Fail> {
+    let alloc = *text.allocator();
     let (verb, rest) = word_and_rest(turn);
     match verb {
-        "empty" => found_empty(worker),
-        "end" => trigger(text, worker, config, PipelineItem::End),
-        "event" => take_event(alloc, text, worker, config, rest),
-        "dequeue" => manage(text, worker, config, dequeue(rest)?),
-        "ended" => take_ended(alloc, text, worker, config, rest),
+        "empty" => found_empty(worker, times_of(rest)?),
+        "end" => give(text, worker, config, Taken::Trigger(PipelineItem::End)),
+        "event" => give(text, worker, config, Taken::Trigger(item_of(alloc, rest)?)),
+        "dequeue" => give(text, worker, config, Taken::Manage(dequeue(rest)?)),
+        "ended" => give(text, worker, config, Taken::Result(succeeded(alloc, rest)?)),
         _ => push_asked(text, worker, verb),
     }
-}
-
-fn take_event(
-    alloc: Global,
-    text: &mut String,
-    worker: &mut Pipeline,
-    config: &Config,
-    line: &str,
-) -> Result<(), Fail> {
-    let item = item_of(alloc, line)?;
-    trigger(text, worker, config, item)
-}
-
-fn take_ended(
-    alloc: Global,
-    text: &mut String,
-    worker: &mut Pipeline,
-    config: &Config,
-    words: &str,
-) -> Result<(), Fail> {
-    let result = succeeded(alloc, words)?;
-    ended(text, worker, config, result)
 }
 
 fn push_asked(text: &mut String, worker: &Pipeline, word: &str) -> Result<(), Fail> {
@@ -78,7 +45,14 @@ fn push_asked(text: &mut String, worker: &Pipeline, word: &str) -> Result<(), Fa
     }
 }
 
-fn found_empty(worker: &mut Pipeline) -> Result<(), Fail> {
+fn found_empty(worker: &mut Pipeline, times: u32) -> Result<(), Fail> {
+    for _ in 0..times {
+        found_one_empty(worker)?;
+    }
+    Ok(())
+}
+
+fn found_one_empty(worker: &mut Pipeline) -> Result<(), Fail> {
     match worker.wants() {
         Which::Management => worker.found_empty(),
         Which::Result => worker.found_empty(),
@@ -96,39 +70,19 @@ fn took(text: &mut String, worker: &mut Pipeline, config: &Config, given: Taken)
     push_processed(text, &processed)
 }
 
-// Takes an operator's wish, if the pipeline wants one.
-fn manage(
+// Takes what comes of a queue, if the pipeline wants that queue.
+fn give(
     text: &mut String,
     worker: &mut Pipeline,
     config: &Config,
-    manage: Manage,
+    given: Taken,
 ) -> Result<(), Fail> {
-    match worker.wants() {
-        Which::Management => took(text, worker, config, Taken::Manage(manage)),
-        _ => Err(Fail::from("the pipeline wants another queue")),
-    }
-}
-
-fn ended(
-    text: &mut String,
-    worker: &mut Pipeline,
-    config: &Config,
-    ended: JobResult,
-) -> Result<(), Fail> {
-    match worker.wants() {
-        Which::Result => took(text, worker, config, Taken::Result(ended)),
-        _ => Err(Fail::from("the pipeline wants another queue")),
-    }
-}
-
-fn trigger(
-    text: &mut String,
-    worker: &mut Pipeline,
-    config: &Config,
-    item: PipelineItem,
-) -> Result<(), Fail> {
-    match worker.wants() {
-        Which::Trigger => took(text, worker, config, Taken::Trigger(item)),
+    match (worker.wants(), given) {
+        (Which::Management, Taken::Manage(manage)) => {
+            took(text, worker, config, Taken::Manage(manage))
+        }
+        (Which::Result, Taken::Result(ended)) => took(text, worker, config, Taken::Result(ended)),
+        (Which::Trigger, Taken::Trigger(item)) => took(text, worker, config, Taken::Trigger(item)),
         _ => Err(Fail::from("the pipeline wants another queue")),
     }
 }

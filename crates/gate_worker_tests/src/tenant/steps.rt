@@ -1,38 +1,31 @@
-//! The steps of a script, and what each comes to; where that isn't said, it is the empty text:
+//! The steps of a script:
 //!
-//! - `event GENERATION CONN NUMBER TYPE` gathers the event of such a record of the project `demo`, forwarded by this generation
+//! - `event GENERATION CONN NUMBER TYPE` gathers the event of such a record of the project `demo`, forwarded by this generation;
+//!   several have commas between them
 //! - `end CONN` gathers an end mark, `end CONN TIMES` that many
 //! - `match` matches what is gathered
 //! - `give` gives all that is in the hand: `0:1/7@0` for record 7 of connection 1, forwarded by generation 0, to pipeline 0, and
 //!   `0:end` for its end mark
 //! - `back` takes the next item and puts it back
 //! - `room`, `ended` and `empty` come to what they ask
+use crate::scripts::{Player, times_of};
 use gate_record::{ConnId, PipelineId, PipelineItem, Shared, Stamp, Stamped, TenantItem};
 use gate_tenant::Dispatch;
 use gate_test_lines::{event_of, word_and_rest};
 use std::alloc::{AllocError, Global};
 use std::test::Fail;
 
-pub(super) fn take(alloc: Global, dispatch: &mut Dispatch<'_>, step: &str) -> Result<String, Fail> {
-    let mut text = String::new(alloc);
-    push_step(alloc, &mut text, dispatch, step)?;
-    Ok(text)
-}
-
-fn push_step(
-    alloc: Global,
-    text: &mut String,
-    dispatch: &mut Dispatch<'_>,
-    step: &str,
-) -> Result<(), Fail> {
-    let (verb, rest) = word_and_rest(step);
-    match verb {
-        "event" => gather_event(alloc, dispatch, rest),
-        "end" => gather_ends(dispatch, rest),
-        "match" => match_batch(alloc, dispatch),
-        "back" => take_back(dispatch),
-        "give" => give_all(text, dispatch),
-        _ => push_asked(text, dispatch, verb),
+impl Player for Dispatch<'_> {
+    fn take(&mut self, text: &mut String, step: &str) -> Result<(), Fail> {
+        let (verb, rest) = word_and_rest(step);
+        match verb {
+            "event" => gather_events(*text.allocator(), self, rest),
+            "end" => gather_ends(self, rest),
+            "match" => match_batch(*text.allocator(), self),
+            "back" => take_back(self),
+            "give" => give_all(text, self),
+            _ => push_asked(text, self, verb),
+        }
     }
 }
 
@@ -56,11 +49,11 @@ fn gather_so_many(dispatch: &mut Dispatch<'_>, conn: u32, times: u32) -> Result<
     Ok(())
 }
 
-fn times_of(word: &str) -> Result<u32, Fail> {
-    match word {
-        "" => Ok(1),
-        _ => Ok(word.parse::<u32>()?),
+fn gather_events(alloc: Global, dispatch: &mut Dispatch<'_>, events: &str) -> Result<(), Fail> {
+    for words in events.split(", ") {
+        gather_event(alloc, dispatch, words)?;
     }
+    Ok(())
 }
 
 fn gather_event(alloc: Global, dispatch: &mut Dispatch<'_>, words: &str) -> Result<(), Fail> {

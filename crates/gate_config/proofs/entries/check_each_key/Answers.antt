@@ -1,11 +1,8 @@
-use Rattle.gate_config.proofs.Each.{flat_fault, tested_more, flat_all}
-use Rattle.gate_config.proofs.Faults.{exit}
+use Rattle.gate_config.proofs.Each.{flat_exit, tested_more, flat_all}
 use Rattle.gate_config.proofs.entries.check_each_key.Goals as goal
 
 pub returns-in_err-check_key : goal.returns-in_err-check_key
-returns-in_err-check_key c =
-    exit _ c.from_residual.result c.from_residual.ensures.1
-    (flat_fault c.key-item.result c.loop-key-test.true c.key-item.is c.loop-key.invariant (rw c.as_str.ensures.value at c.in_err-check_key.ensures))
+returns-in_err-check_key c = flat_exit _ c.key-item.result c.from_residual.result c.from_residual.ensures.1 c.loop-key-test.true c.key-item.is c.loop-key.invariant (rw c.as_str.ensures.value at c.in_err-check_key.ensures)
 
 pub loop-key-preserved : goal.loop-key-preserved
 loop-key-preserved c =

@@ -1,6 +1,7 @@
 use Rattle.std.proofs.Common.{inr, refl, inl}
 use Rattle.serde_json.specs.View.{view}
-use Rattle.gate_config.proofs.Outcome.{json_of_read, json_of_none, config_read, config_passed, config_fault}
+use Rattle.gate_record.proofs.JsonOf.{json_of_read, json_of_none}
+use Rattle.gate_config.proofs.Outcome.{config_read, config_passed, config_fault}
 use Rattle.gate_config.proofs.read.read_sharing.Goals as goal
 
 pub returns-in-Ok-clause-read : goal.returns-in-Ok-clause-read

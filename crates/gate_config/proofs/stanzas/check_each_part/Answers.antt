@@ -1,11 +1,8 @@
-use Rattle.gate_config.proofs.Each.{flat_fault, tested_more, flat_all}
-use Rattle.gate_config.proofs.Faults.{exit}
+use Rattle.gate_config.proofs.Each.{flat_exit, tested_more, flat_all}
 use Rattle.gate_config.proofs.stanzas.check_each_part.Goals as goal
 
 pub returns-in_err-check_part : goal.returns-in_err-check_part
-returns-in_err-check_part c =
-    exit _ c.from_residual.result c.from_residual.ensures.1
-    (flat_fault c.pipeline-item.result c.loop-pipeline-test.true c.pipeline-item.is c.loop-pipeline.invariant (rw c.as_str.ensures at c.in_err-check_part.ensures))
+returns-in_err-check_part c = flat_exit _ c.pipeline-item.result c.from_residual.result c.from_residual.ensures.1 c.loop-pipeline-test.true c.pipeline-item.is c.loop-pipeline.invariant (rw c.as_str.ensures at c.in_err-check_part.ensures)
 
 pub loop-pipeline-preserved : goal.loop-pipeline-preserved
 loop-pipeline-preserved c =

@@ -26,7 +26,7 @@ loop-one-preserved c =
     let field = c.args.field in
     let i = c.loop-one.one-index in
     record {
-      right = c.join.ensures.right;
+      right = c.join.ensures.fits.0;
       met =
           c.in_ok-join.ensures.joins
           ∙ ap (λ rows. either rows (met_in field c.one-item.result.entry.now events)) c.loop-one.invariant.met

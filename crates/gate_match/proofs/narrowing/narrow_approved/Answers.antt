@@ -22,8 +22,8 @@ loop-wanted-preserved c =
     let events = c.args.columns.now in
     let i = c.loop-wanted.wanted-index in
     record {
-      right = (c.loop-wanted.invariant.right.0, c.leave.ensures.right);
-      len = c.leave.ensures.len;
+      right = (c.loop-wanted.invariant.right.0, c.leave.ensures.fits.0);
+      len = c.leave.ensures.fits.1;
       leaves =
           c.in_ok-leave.ensures.leaves
           ∙ ap (λ rows. both rows (given_to c.wanted-item.result events)) c.loop-wanted.invariant.leaves

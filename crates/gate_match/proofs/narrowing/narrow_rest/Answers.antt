@@ -28,13 +28,12 @@ stays rule event = not (rule.ignore_deletes && is_delete event)
 
 pub returns-clause-leaves : goal.returns-clause-leaves
 returns-clause-leaves c =
-    let out = c.args.out.now in
     let events = c.args.columns.now in
     let rule = rule_of c.args.rule.now in
-    let one = c.in_ok-narrow_in.ensures.leaves ∙ ap (λ asked. both out (meeting_in Username (entries_of asked) events)) c.as_slice.ensures.value in
+    let one = c.in_ok-narrow_in.ensures.leaves ∙ ap (λ asked. both c.args.out.now (meeting_in Username (entries_of asked) events)) c.as_slice.ensures.value in
     let two = c.in_ok-narrow_left_in.ensures.leaves ∙ ap (λ asked. both c.narrow_in.new.out (meeting_in Email (entries_of asked) events)) c.as_slice-2.ensures.value in
     let three = c.in_ok-narrow_left_in-2.ensures.leaves ∙ ap (λ asked. both c.narrow_left_in.new.out (meeting_in Comment (entries_of asked) events)) c.as_slice-3.ensures.value in
-    go out events (λ event. username rule event && email rule event && comment rule event && approval rule event) (stays rule) _ _
-    (go out events (λ event. username rule event && email rule event && comment rule event) (approval rule) _ _
-    (go out events (λ event. username rule event && email rule event) (comment rule) _ _
-    (go out events (username rule) (email rule) _ _ one two) three) c.in_ok-narrow_approved.ensures.leaves) c.narrow_deletes.ensures.leaves
+    go c.args.out.now events (λ event. username rule event && email rule event && comment rule event && approval rule event) (stays rule) _ _
+    (go c.args.out.now events (λ event. username rule event && email rule event && comment rule event) (approval rule) _ _
+    (go c.args.out.now events (λ event. username rule event && email rule event) (comment rule) _ _
+    (go c.args.out.now events (username rule) (email rule) _ _ one two) three) c.in_ok-narrow_approved.ensures.leaves) c.narrow_deletes.ensures.leaves

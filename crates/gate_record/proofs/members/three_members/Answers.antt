@@ -19,13 +19,13 @@ loop-key-init c = start_seen c.in-Some.ensures
 pub loop-key-preserved-then-eq : goal.loop-key-preserved-then-eq
 loop-key-preserved-then-eq c =
     let same : bytes_eq c.in-Some-next.key.now c.args.first.now ≡ true = grind arith in
-    first_seen _ _ _ c.in-Some-next.ensures.value c.loop-key.invariant same c.requires.first c.requires.third
+    first_seen _ _ _ c.in-Some-next.ensures.value c.loop-key.invariant same c.requires.0 c.requires.2
 
 pub loop-key-preserved-then-eq-2 : goal.loop-key-preserved-then-eq-2
 loop-key-preserved-then-eq-2 c =
     let not_first : bytes_eq c.in-Some-next.key.now c.args.first.now ≡ false = grind arith in
     let same : bytes_eq c.in-Some-next.key.now c.args.second.now ≡ true = grind arith in
-    second_seen _ _ _ c.in-Some-next.ensures.value c.loop-key.invariant not_first same c.requires.second
+    second_seen _ _ _ c.in-Some-next.ensures.value c.loop-key.invariant not_first same c.requires.1
 
 pub loop-key-preserved-then-eq-3 : goal.loop-key-preserved-then-eq-3
 loop-key-preserved-then-eq-3 c =

@@ -15,51 +15,39 @@ use Rattle.gate_core.proofs.world.World.pipeline_step.Goals as goal
 pub invariant_of-self-clause-tenants_by_number : goal.invariant_of-self-clause-tenants_by_number
 invariant_of-self-clause-tenants_by_number c =
     let tenants = c.args.self.now.tenants.items in
-    let old = c.in-Some.tenant.now in
-    let item = c.in-Some.ensures.item in
-    let at = lent tenants c.args.tenant.0 old item.3.0 item.1 in
-    still_tenants c.args.self.now.gens.now tenants c.args.tenant.0 old _ at c.args.self.now.tenants_by_number refl refl
+    let at = lent tenants c.args.tenant.0 _ c.in-Some.ensures.item.3.0 c.in-Some.ensures.item.1 in
+    still_tenants c.args.self.now.gens.now tenants c.args.tenant.0 c.in-Some.tenant.now _ at c.args.self.now.tenants_by_number refl refl
 
 pub invariant_of-self-in-None-get_mut-clause-tenants_by_number : goal.invariant_of-self-in-None-get_mut-clause-tenants_by_number
 invariant_of-self-in-None-get_mut-clause-tenants_by_number c =
     let tenants = c.args.self.now.tenants.items in
-    let old = c.in-Some.tenant.now in
-    let item = c.in-Some.ensures.item in
-    let at = lent tenants c.args.tenant.0 old item.3.0 item.1 in
-    still_tenants c.args.self.now.gens.now tenants c.args.tenant.0 old _ at c.args.self.now.tenants_by_number refl refl
+    let at = lent tenants c.args.tenant.0 _ c.in-Some.ensures.item.3.0 c.in-Some.ensures.item.1 in
+    still_tenants c.args.self.now.gens.now tenants c.args.tenant.0 c.in-Some.tenant.now _ at c.args.self.now.tenants_by_number refl refl
 
 pub returns-in-Some-get_mut-clause-moves : goal.returns-in-Some-get_mut-clause-moves
 returns-in-Some-get_mut-clause-moves c =
     let tenants = c.args.self.now.tenants.items in
-    let old = c.in-Some.tenant.now in
-    let item = c.in-Some.ensures.item in
-    let at = lent tenants c.args.tenant.0 old item.3.0 item.1 in
-    let found = c.in-Some-get_mut.ensures.item in
-    let whose = lent old.pipelines.items c.args.pipeline.0 c.in-Some-get_mut.pipeline.now found.3.0 found.1 in
-    pipeline_does c.args.self.now.gens.now c.args.tenant.0 c.args.pipeline.0 (map connection_view c.args.self.now.connections.items) tenants c.args.step old _ c.in-Some-get_mut.pipeline.now c.step.new.self c.step.result
+    let at = lent tenants c.args.tenant.0 _ c.in-Some.ensures.item.3.0 c.in-Some.ensures.item.1 in
+    let whose = lent c.in-Some.tenant.now.pipelines.items c.args.pipeline.0 _ c.in-Some-get_mut.ensures.item.3.0 c.in-Some-get_mut.ensures.item.1 in
+    pipeline_does c.args.self.now.gens.now c.args.tenant.0 c.args.pipeline.0 (map connection_view c.args.self.now.connections.items) tenants c.args.step c.in-Some.tenant.now _ c.in-Some-get_mut.pipeline.now c.step.new.self c.step.result
     at whose refl (rw c.first.ensures at c.step.ensures.does)
 
 pub returns-in-Some-get_mut-clause-needs : goal.returns-in-Some-get_mut-clause-needs
 returns-in-Some-get_mut-clause-needs c =
     let tenants = c.args.self.now.tenants.items in
-    let old = c.in-Some.tenant.now in
-    let item = c.in-Some.ensures.item in
-    let at = lent tenants c.args.tenant.0 old item.3.0 item.1 in
-    let found = c.in-Some-get_mut.ensures.item in
-    let whose = lent old.pipelines.items c.args.pipeline.0 c.in-Some-get_mut.pipeline.now found.3.0 found.1 in
+    let at = lent tenants c.args.tenant.0 _ c.in-Some.ensures.item.3.0 c.in-Some.ensures.item.1 in
+    let whose = lent c.in-Some.tenant.now.pipelines.items c.args.pipeline.0 _ c.in-Some-get_mut.ensures.item.3.0 c.in-Some-get_mut.ensures.item.1 in
     subst (λ (o : Option Pipeline). OnErr c.step.result (IsThere (PipelineNeeds c.args.step) o))
-    (sym (pipeline_is c.args.self.now.gens.now c.args.tenant.0 c.args.pipeline.0 (map connection_view c.args.self.now.connections.items) tenants old at ∙ whose)) c.step.ensures.needs
+    (sym (pipeline_is c.args.self.now.gens.now c.args.tenant.0 c.args.pipeline.0 (map connection_view c.args.self.now.connections.items) tenants c.in-Some.tenant.now at ∙ whose)) c.step.ensures.needs
 
 pub returns-in-None-get_mut-clause-moves : goal.returns-in-None-get_mut-clause-moves
 returns-in-None-get_mut-clause-moves c =
     let tenants = c.args.self.now.tenants.items in
-    let old = c.in-Some.tenant.now in
-    let item = c.in-Some.ensures.item in
-    let at = lent tenants c.args.tenant.0 old item.3.0 item.1 in
+    let at = lent tenants c.args.tenant.0 _ c.in-Some.ensures.item.3.0 c.in-Some.ensures.item.1 in
     let move = pipeline_step c.args.self.now.gens.now.first c.args.step in
-    let none = slice_get_past old.pipelines.items c.args.pipeline.0 c.in-None-get_mut.ensures.item.3 in
-    tenant_does (on_pipeline move c.args.pipeline.0) c.args.tenant.0 (map connection_view c.args.self.now.connections.items) tenants old _ (Ok Idle) at
-    (sym (ap (λ (o : Option Pipeline). with_pipeline move c.args.pipeline.0 o (tenant_view old)) none))
+    let none = slice_get_past c.in-Some.tenant.now.pipelines.items c.args.pipeline.0 c.in-None-get_mut.ensures.item.3 in
+    tenant_does (on_pipeline move c.args.pipeline.0) c.args.tenant.0 (map connection_view c.args.self.now.connections.items) tenants c.in-Some.tenant.now _ (Ok Idle) at
+    (sym (ap (λ (o : Option Pipeline). with_pipeline move c.args.pipeline.0 o (tenant_view c.in-Some.tenant.now)) none))
 
 pub returns-in-None-clause-moves : goal.returns-in-None-clause-moves
 returns-in-None-clause-moves c =

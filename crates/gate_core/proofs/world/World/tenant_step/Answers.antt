@@ -14,28 +14,22 @@ use Rattle.gate_core.proofs.world.World.tenant_step.Goals as goal
 pub invariant_of-self-clause-tenants_by_number : goal.invariant_of-self-clause-tenants_by_number
 invariant_of-self-clause-tenants_by_number c =
     let tenants = c.args.self.now.tenants.items in
-    let old = c.in-Some.tenant.now in
-    let item = c.in-Some.ensures.item in
-    let at = lent tenants c.args.tenant.0 old item.3.0 item.1 in
-    still_tenants c.args.self.now.gens.now tenants c.args.tenant.0 old c.step.new.self at c.args.self.now.tenants_by_number c.step.ensures.gens c.step.ensures.number
+    let at = lent tenants c.args.tenant.0 _ c.in-Some.ensures.item.3.0 c.in-Some.ensures.item.1 in
+    still_tenants c.args.self.now.gens.now tenants c.args.tenant.0 c.in-Some.tenant.now c.step.new.self at c.args.self.now.tenants_by_number c.step.ensures.gens c.step.ensures.number
 
 pub returns-in-Some-clause-moves : goal.returns-in-Some-clause-moves
 returns-in-Some-clause-moves c =
     let tenants = c.args.self.now.tenants.items in
-    let old = c.in-Some.tenant.now in
-    let item = c.in-Some.ensures.item in
-    let at = lent tenants c.args.tenant.0 old item.3.0 item.1 in
-    tenant_does (tenant_step c.args.self.now.gens.now c.args.tenant.0 c.args.step) c.args.tenant.0 (map connection_view c.args.self.now.connections.items) tenants old c.step.new.self c.step.result at
-    (known (λ (gens : Generations) (n : ℕ). Does (tenant_view old) (tenant_step gens n c.args.step (tenant_view old)) (tenant_view c.step.new.self) c.step.result) _ _ _ _ (c.args.self.now.tenants_by_number c.args.tenant.0 old at) c.step.ensures.does)
+    let at = lent tenants c.args.tenant.0 _ c.in-Some.ensures.item.3.0 c.in-Some.ensures.item.1 in
+    tenant_does (tenant_step c.args.self.now.gens.now c.args.tenant.0 c.args.step) c.args.tenant.0 (map connection_view c.args.self.now.connections.items) tenants c.in-Some.tenant.now c.step.new.self c.step.result at
+    (known (λ (gens : Generations) (n : ℕ). Does (tenant_view c.in-Some.tenant.now) (tenant_step gens n c.args.step (tenant_view c.in-Some.tenant.now)) (tenant_view c.step.new.self) c.step.result) _ _ _ _ (c.args.self.now.tenants_by_number c.args.tenant.0 c.in-Some.tenant.now at) c.step.ensures.does)
 
 pub returns-in-Some-clause-needs : goal.returns-in-Some-clause-needs
 returns-in-Some-clause-needs c =
     let tenants = c.args.self.now.tenants.items in
-    let old = c.in-Some.tenant.now in
-    let item = c.in-Some.ensures.item in
-    let at = lent tenants c.args.tenant.0 old item.3.0 item.1 in
-    subst (λ (o : Option TenantState). OnErr c.step.result (IsThere (TenantNeeds c.args.self.now.gens.now.first c.args.tenant.0 c.args.step) o)) (sym (seen tenant_view tenants c.args.tenant.0 old at))
-    (known (λ (gens : Generations) (n : ℕ). OnErr c.step.result (TenantNeeds gens.first n c.args.step (tenant_view old))) _ _ _ _ (c.args.self.now.tenants_by_number c.args.tenant.0 old at) c.step.ensures.needs)
+    let at = lent tenants c.args.tenant.0 _ c.in-Some.ensures.item.3.0 c.in-Some.ensures.item.1 in
+    subst (λ (o : Option TenantState). OnErr c.step.result (IsThere (TenantNeeds c.args.self.now.gens.now.first c.args.tenant.0 c.args.step) o)) (sym (seen tenant_view tenants c.args.tenant.0 c.in-Some.tenant.now at))
+    (known (λ (gens : Generations) (n : ℕ). OnErr c.step.result (TenantNeeds gens.first n c.args.step (tenant_view c.in-Some.tenant.now))) _ _ _ _ (c.args.self.now.tenants_by_number c.args.tenant.0 c.in-Some.tenant.now at) c.step.ensures.needs)
 
 pub returns-in-None-clause-moves : goal.returns-in-None-clause-moves
 returns-in-None-clause-moves c =

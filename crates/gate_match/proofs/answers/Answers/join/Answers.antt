@@ -8,12 +8,12 @@ use Rattle.gate_match.proofs.answers.Answers.join.Goals as goal
 pub join-requires-2 : goal.join-requires-2
 join-requires-2 c =
     ap length (c.in_ok-rows.ensures c.args.asked.now.entry.now refl)
-    ∙ length-map c.args.columns.now (λ event. passes (entry_meets (reach_of c.args.field) c.args.asked.now.entry.now) (field_of c.args.field event)) ∙ sym c.requires.len
+    ∙ length-map c.args.columns.now (λ event. passes (entry_meets (reach_of c.args.field) c.args.asked.now.entry.now) (field_of c.args.field event)) ∙ sym c.requires.1
 
 pub join-requires : goal.join-requires
 join-requires c =
-    ap length (c.in-Some.ensures c.args.columns.now c.requires.right)
-    ∙ length-map c.args.columns.now (λ event. passes (entry_meets (reach_of c.args.field) c.args.asked.now.entry.now) (field_of c.args.field event)) ∙ sym c.requires.len
+    ap length (c.in-Some.ensures c.args.columns.now c.requires.0)
+    ∙ length-map c.args.columns.now (λ event. passes (entry_meets (reach_of c.args.field) c.args.asked.now.entry.now) (field_of c.args.field event)) ∙ sym c.requires.1
 
-pub returns-clause-right : goal.returns-clause-right
-returns-clause-right c = c.keep.ensures c.args.columns.now c.requires.right c.in_ok-rows.ensures
+pub returns-clause-fits : goal.returns-clause-fits
+returns-clause-fits c = (c.keep.ensures c.args.columns.now c.requires.0 c.in_ok-rows.ensures, c.join-2.ensures.len ∙ c.requires.1)

@@ -17,25 +17,25 @@ with events number = map (is_in_row (approval_cells_of events) (length events) n
 
 pub returns-then-is_none-clause-leaves : goal.returns-then-is_none-clause-leaves
 returns-then-is_none-clause-leaves c =
-    none_left_in c.args.out.now (λ (event : Event). is_given c.args.wanted.now event.approvals) c.args.columns.now (sym c.is_none.ensures ∙ c.if-is_none.true) c.requires.len
+    none_left_in c.args.out.now (λ (event : Event). is_given c.args.wanted.now event.approvals) c.args.columns.now (sym c.is_none.ensures ∙ c.if-is_none.true) c.requires.1
 
 pub and-requires : goal.and-requires
 and-requires c =
     let events = c.args.columns.now in
-    ap length (c.in-Some.ensures events c.requires.right)
-    ∙ length-map-range_with_len (is_in_row (approval_cells_of events) (length events) c.in_ok-number.number) 0 (length events) ∙ sym c.requires.len
+    ap length (c.in-Some.ensures events c.requires.0)
+    ∙ length-map-range_with_len (is_in_row (approval_cells_of events) (length events) c.in_ok-number.number) 0 (length events) ∙ sym c.requires.1
 
 pub returns-in-Some-clause-leaves : goal.returns-in-Some-clause-leaves
 returns-in-Some-clause-leaves c =
     let events = c.args.columns.now in
     c.and.ensures.value
-    ∙ ap (both c.args.out.now) (c.in-Some.ensures events c.requires.right ∙ ap (with events) c.in_ok-number.ensures ∙ given_is c.approvals_mark_their_events.ensures events c.args.wanted.now)
+    ∙ ap (both c.args.out.now) (c.in-Some.ensures events c.requires.0 ∙ ap (with events) c.in_ok-number.ensures ∙ given_is c.approvals_mark_their_events.ensures events c.args.wanted.now)
 
 pub and-requires-2 : goal.and-requires-2
 and-requires-2 c =
     let events = c.args.columns.now in
     ap length c.in_ok-rows.ensures
-    ∙ length-map-range_with_len (is_in_row (approval_cells_of events) (length events) c.in_ok-number.number) 0 (length events) ∙ sym c.requires.len
+    ∙ length-map-range_with_len (is_in_row (approval_cells_of events) (length events) c.in_ok-number.number) 0 (length events) ∙ sym c.requires.1
 
 pub returns-clause-leaves : goal.returns-clause-leaves
 returns-clause-leaves c =

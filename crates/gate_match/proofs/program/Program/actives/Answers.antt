@@ -23,9 +23,7 @@ loop-row-preserved c =
 
 pub returns-clause-all : goal.returns-clause-all
 returns-clause-all c =
-    let gens = c.args.gens.now in
-    let conns = c.args.conns.now in
-    let row = c.loop-row.row in
-    let all = keys_length gens conns (length c.args.columns.now) c.requires.gens c.requires.conns in
-    let past : length (zip gens conns) ≤ row = omega (arith, c.loop-row-test.false, all, c.requires.conns) in
-    subst (λ keys. has_all c.loop-row.actives.items keys ≡ true) (take_all row (zip gens conns) past) c.loop-row.invariant.all
+    let keys = zip c.args.gens.now c.args.conns.now in
+    let all = keys_length c.args.gens.now c.args.conns.now (length c.args.columns.now) c.requires.gens c.requires.conns in
+    let past : length keys ≤ c.loop-row.row = omega (arith, c.loop-row-test.false, all, c.requires.conns) in
+    subst (λ some. has_all c.loop-row.actives.items some ≡ true) (take_all c.loop-row.row keys past) c.loop-row.invariant.all

@@ -10,11 +10,10 @@ another-own-requires-clause-rule g c = free_seats _ _ _ c.loop-sender.invariant.
 
 pub loop-sender-preserved : goal.loop-sender-preserved
 loop-sender-preserved g c =
-    let was = c.loop-sender.invariant in
     let own = c.another-own.ensures in (
       own.queue.0,
-      own.rule.0 ∙ ap seated was.1,
+      own.rule.0 ∙ ap seated c.loop-sender.invariant.1,
       omega arith,
       omega arith,
-      new_one_more _ _ _ _ _ _ was.4 (omega arith) (new_seat_is _ _ _ _ _ _ (ap in_blocks own.queue.2.0.0) own.rule.1 was.1) c.push_reserved.ensures.items,
+      new_one_more _ _ _ _ _ _ c.loop-sender.invariant.4 (omega arith) (new_seat_is _ _ _ _ _ _ (ap in_blocks own.queue.2.0.0) own.rule.1 c.loop-sender.invariant.1) c.push_reserved.ensures.items,
     )

@@ -1,8 +1,0 @@
-use Rattle.serde_json.specs.View.{view}
-use Rattle.gate_config.proofs.Each.{TestedSoFar}
-use Rattle.gate_config.specs.Checks.{item_checks}
-use Rattle.gate_config.specs.Inner.Steps.{steps_of}
-use Rattle.gate_config.proofs.pipelines.check_each_item.Given as goal
-
-abbrev pub invariant-loop-position : goal.invariant-loop-position
-invariant-loop-position l = TestedSoFar (item_checks (steps_of l.place)) view l.items l.position

@@ -1,5 +1,0 @@
-use Rattle.gate_match.specs.Inner.Tables.{AreOfGenerations}
-use Rattle.gate_match.proofs.table.push_pipeline.Given as goal
-
-abbrev pub invariant-loop-conn : goal.invariant-loop-conn
-invariant-loop-conn l = AreOfGenerations l.gens l.tenant.0 l.table.items
