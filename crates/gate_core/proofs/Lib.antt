@@ -30,6 +30,7 @@ pub mod Spots
 pub mod Streams
 pub mod Takes
 pub mod Tenants
+pub mod TurnLines
 pub mod Turning
 pub mod Wholes
 pub mod Working

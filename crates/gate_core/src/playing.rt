@@ -60,9 +60,6 @@ fn play_line(
     ensures counts { AcceptedAtMost (before + 1) (state_of world.new) }
     ensures plays { PlaysLine (gens_of world.old) (state_of world.old) (string_bytes out.old) (line_adds line.now) (state_of world.new) (string_bytes out.new) (before + 1) result }
 {
-    if is_skipped(line) {
-        return Ok(());
-    }
     match turn_in(line) {
         Some((tenant, pipeline)) => match play_turn(world, tenant, pipeline, out) {
             Ok(()) => Ok(()),
@@ -76,7 +73,6 @@ ghost use Rattle.std.specs.Prelude.{◌++◌, ◌∷◌, [], ℕ, OnOk, false};
 ghost use Rattle.gate_core.specs.Replays.{script_lines, steps_in};
 ghost use Rattle.gate_core.specs.Steps.{left_by};
 ghost use Rattle.gate_core.specs.declared.step.Step.TheVariants.{Turn};
-ghost use Rattle.gate_line.specs.Words.{is_skipped};
 
 // Takes the turn of a pipeline, whose answer goes to the end of a text.
 fn play_turn(
@@ -96,7 +92,7 @@ fn play_turn(
     play_step(world, Step::Turn(tenant, pipeline), out)
 }
 
-// Plays a line that isn't skipped, and stands behind so many.
+// Plays a line that stands behind so many.
 #[inline(never)]
 fn play_other(
     alloc: Global,
@@ -105,13 +101,15 @@ fn play_other(
     before: usize,
     out: &mut String,
 ) -> Result<(), ScriptFault>
-    requires speaks { is_skipped line.now ≡ false }
     requires counts { AcceptedAtMost before (state_of world.old) }
     requires room { before + 1 < 2 ^ 64 }
     ensures gens { gens_of world.new ≡ gens_of world.old }
     ensures counts { AcceptedAtMost (before + 1) (state_of world.new) }
     ensures plays { PlaysLine (gens_of world.old) (state_of world.old) (string_bytes out.old) (line_adds line.now) (state_of world.new) (string_bytes out.new) (before + 1) result }
 {
+    if is_skipped(line) {
+        return Ok(());
+    }
     match read_script_line(alloc, line) {
         Ok(scripted) => match play(alloc, world, scripted, before, out) {
             Ok(()) => Ok(()),

@@ -1,7 +1,7 @@
 //! The lines of a script.
-ghost use Rattle.std.specs.Prelude.{◌≡◌, IfErr, IfSome, Ok, option_copied};
+ghost use Rattle.std.specs.Prelude.{◌≡◌, ◌++◌, ◌∷◌, [], IfErr, IfSome, Some, codes, option_copied};
 ghost use Rattle.gate_line.specs.Fields.{Answers, IsOwn};
-ghost use Rattle.gate_core.specs.Script.{has_bytes, scripted_of, show_of, step_has_bytes, step_named};
+ghost use Rattle.gate_core.specs.Script.{has_bytes, line_adds, scripted_of, show_of, step_has_bytes, step_named};
 ghost use Rattle.gate_core.specs.declared.step.Step.TheVariants.{Turn};
 
 use crate::script::Scripted;
@@ -29,16 +29,19 @@ pub fn read_script_line(alloc: Global, line: &[u8]) -> Result<Scripted, LineFaul
 /// The turn that a line stands for, if it is one: its tenant and pipeline. Most lines of a long script are turns, and no step is made
 /// for them.
 pub(crate) fn turn_in(line: &[u8]) -> Option<(TenantId, PipelineId)>
-    ensures { IfSome result (λ turn. scripted_of line.now ≡ Ok (Scripted.Step (Turn turn.0 turn.1))) }
+    ensures { IfSome result (λ turn. line_adds line.now ≡ Some (Scripted.Step (Turn turn.0 turn.1) ∷ [])) }
 {
-    let (word, rest) = split_word(line);
-    if !is_word(word, "turn") {
-        return None;
-    }
-    match two_of(Field::Tenant, Field::Pipeline, rest) {
+    match two_of(Field::Tenant, Field::Pipeline, Some(behind_turn(line)?)) {
         Ok((tenant, pipeline)) => Some((TenantId(tenant), PipelineId(pipeline))),
         Err(_) => None,
     }
+}
+
+// What stands behind the word of a turn, if a line begins with it.
+fn behind_turn(line: &[u8]) -> Option<&[u8]>
+    ensures { IfSome result (λ rest. line.now ≡ codes "turn " ++ rest.now) }
+{
+    line.strip_prefix(b"turn ")
 }
 
 fn show_of(rest: Option<&[u8]>) -> Result<Scripted, LineFault>
@@ -133,7 +136,6 @@ fn bringing_step(alloc: Global, word: &[u8], rest: Option<&[u8]>) -> Result<Step
     }
 }
 
-ghost use Rattle.std.specs.Prelude.{Some};
 ghost use Rattle.gate_core.specs.Script.{posted_of};
 
 fn posted_of(alloc: Global, kind: PostKind, rest: Option<&[u8]>) -> Result<Step, LineFault>

@@ -1,12 +1,14 @@
 -- Lemmas on words, numbers and texts.
 use Rattle.std.proofs.Common.{◌≡◌, ◌∙◌, sym, ap, refl, subst, ℕ, ◌+◌, ◌*◌, ◌-◌, ◌<◌, ◌≤◌, List, [], ◌∷◌, length, take, drop, Bool, true, false, cond, Option, Some, None, arith, get_or}
 use Rattle.std.specs.Prelude.{nat_lt, ◌==◌, ◌&&◌, fold}
+use Rattle.std.specs.List.{list_all}
 use Rattle.std.specs.Str.{IsUtf8, is_utf8}
 use Rattle.std.proofs.lemmas.Str.{IsUtf8-from_is_utf8, is_utf8-from_IsUtf8}
 use Rattle.std.proofs.lemmas.Bool.{ltb-true, ltb-false}
 use Rattle.std.proofs.lemmas.List.{take-append-drop}
+use Rattle.std.proofs.lemmas.List.Folds.{list_all_at}
 use Rattle.std.proofs.lemmas.List.Sums.{fold_more, fold-append}
-use Rattle.gate_line.specs.Words.{value_of, text_of}
+use Rattle.gate_line.specs.Words.{is_digit, value_of, text_of}
 
 missed_by : (b : Bool) (n : ℕ) → ◌≡◌ {A = Option ℕ} (cond b (Some n) None) None → b ≡ false
 missed_by true n e = absurd (cc)
@@ -52,11 +54,30 @@ too_large text i m inside e =
     sym (ap (λ b. cond b (Some (value_of text)) None) (above_by (value_of text) m (nat_lt (value_of text) m) refl large))
 
 -- a digit that is too much
-pub digit_refused : (text : List ℕ) (i m value digit : ℕ) → i < length text → value ≡ value_of (take i text) → digit ≡ get_or text i 0 →
+digit_refused : (text : List ℕ) (i m value digit : ℕ) → i < length text → value ≡ value_of (take i text) → digit ≡ get_or text i 0 →
     ◌≡◌ {A = Option ℕ} None (cond (nat_lt (10 * value + (digit - 48)) m) (Some (10 * value + (digit - 48))) None) → None ≡ cond (nat_lt (value_of text) m) (Some (value_of text)) None
 digit_refused text i m value digit inside ev ed e =
     let refused : nat_lt (10 * value + (digit - 48)) m ≡ false = missed_by (nat_lt (10 * value + (digit - 48)) m) (10 * value + (digit - 48)) (sym e) in
     too_large text i m inside (subst (λ d. nat_lt (10 * value_of (take i text) + (d - 48)) m ≡ false) ed (subst (λ v. nat_lt (10 * v + (digit - 48)) m ≡ false) ev refused))
+
+also_where : (a b : Bool) (n : ℕ) → ◌≡◌ {A = Option ℕ} None (cond b (Some n) None) → ◌≡◌ {A = Option ℕ} None (cond (a && b) (Some n) None)
+also_where true b n h = h
+also_where false b n h = refl
+
+-- a byte that is no digit, or a digit that is too much
+pub byte_refused : (text : List ℕ) (i m value byte : ℕ) → i < length text → value ≡ value_of (take i text) → byte ≡ get_or text i 0 →
+    ◌≡◌ {A = Option ℕ} None (cond (is_digit byte && nat_lt (10 * value + (byte - 48)) m) (Some (10 * value + (byte - 48))) None) →
+    None ≡ cond (list_all is_digit text && nat_lt (value_of text) m) (Some (value_of text)) None
+byte_refused text i m value byte inside ev eb e = go (is_digit byte) refl
+  where
+    go : (t : Bool) → is_digit byte ≡ t → None ≡ cond (list_all is_digit text && nat_lt (value_of text) m) (Some (value_of text)) None
+    go false et =
+        let letter : list_all is_digit text ≡ false = list_all_at is_digit text i 0 inside (sym (ap is_digit eb) ∙ et) in
+        sym (ap (λ (a : Bool). cond (a && nat_lt (value_of text) m) (Some (value_of text)) None) letter)
+    go true et =
+        also_where (list_all is_digit text) (nat_lt (value_of text) m) (value_of text)
+        (digit_refused text i m value byte inside ev eb
+        (subst (λ (a : Bool). ◌≡◌ {A = Option ℕ} None (cond (a && nat_lt (10 * value + (byte - 48)) m) (Some (10 * value + (byte - 48))) None)) et e))
 
 -- ---- texts
 

@@ -32,7 +32,6 @@ fn find_byte(text: &[u8], wanted: u8) -> Option<usize>
     text.iter().position(|byte| *byte == wanted)
 }
 
-ghost use Rattle.std.specs.List.{list_all};
 ghost use Rattle.gate_line.specs.Words.{is_digit, is_space, value_of};
 
 /// Whether a line has nothing but spaces.
@@ -80,27 +79,22 @@ pub(crate) fn number_of(text: &[u8]) -> Option<u32>
 pub(crate) fn set_of(text: &[u8]) -> Option<u64>
     ensures { result ≡ number_below (2 ^ 64) text.now }
 {
-    if text.is_empty() || !are_digits(text) {
+    if text.is_empty() {
         return None;
     }
     value_of(text)
 }
 
-fn are_digits(text: &[u8]) -> bool
-    ensures { result ≡ list_all is_digit text.now }
-{
-    text.iter().all(|byte| *byte >= b'0' && *byte <= b'9')
-}
+ghost use Rattle.std.specs.Prelude.{◌&&◌, if◌then◌else◌, nat_lt};
+ghost use Rattle.std.specs.List.{list_all};
 
-ghost use Rattle.std.specs.Prelude.{if◌then◌else◌, nat_lt};
-
-// The value of digits, where it is a `u64`.
-fn value_of(digits: &[u8]) -> Option<u64>
-    ensures { result ≡ (if nat_lt (value_of digits.now) (2 ^ 64) then Some (value_of digits.now) else None) }
+// The value of a text of nothing but digits, where it is a `u64`.
+fn value_of(text: &[u8]) -> Option<u64>
+    ensures { result ≡ (if list_all is_digit text.now && nat_lt (value_of text.now) (2 ^ 64) then Some (value_of text.now) else None) }
 {
     let mut value: u64 = 0;
-    for digit in digits {
-        match with_digit(value, *digit) {
+    for byte in text {
+        match with_digit(value, *byte) {
             Some(more) => value = more,
             None => return None,
         }
@@ -110,11 +104,14 @@ fn value_of(digits: &[u8]) -> Option<u64>
 
 ghost use Rattle.std.specs.Prelude.{◌*◌, ◌-◌};
 
-// A digit more, where the value stays a `u64`.
-fn with_digit(value: u64, digit: u8) -> Option<u64>
-    ensures { result ≡ (if nat_lt (10 * value + (digit - 48)) (2 ^ 64) then Some (10 * value + (digit - 48)) else None) }
+// A digit more, where the byte is one and the value stays a `u64`.
+fn with_digit(value: u64, byte: u8) -> Option<u64>
+    ensures { result ≡ (if is_digit byte && nat_lt (10 * value + (byte - 48)) (2 ^ 64) then Some (10 * value + (byte - 48)) else None) }
 {
-    let more = 10 * u128::from(value) + u128::from(digit.saturating_sub(b'0'));
+    if byte < b'0' || byte > b'9' {
+        return None;
+    }
+    let more = 10 * u128::from(value) + u128::from(byte - b'0');
     if more <= u128::from(u64::MAX) {
         Some(more as u64)
     } else {

@@ -17,8 +17,9 @@ use crate::compiling::compile;
 use crate::joining::add_meeting;
 use crate::listed::listed_rows;
 use crate::mask::Mask;
+use crate::matcher_cache::MatcherCache;
 use crate::program::Program;
-use crate::table::{matchers, pipelines, place_of, table};
+use crate::table::{pipelines, place_of, table};
 use gate_config::Generations;
 use gate_intern::Columns;
 use gate_record::{ConnId, Memory, PipelineId, TenantId};
@@ -35,8 +36,8 @@ impl<'c> Program<'c> {
         ensures gens { IfOk result (λ program. gens_of program ≡ gens.entry.now) }
         ensures tenant { IfOk result (λ program. tenant_of program ≡ tenant.0) }
     {
-        let cache = matchers(alloc, gens, tenant)?;
-        let table = table(alloc, gens, tenant, &cache)?;
+        let mut cache = MatcherCache::new(alloc);
+        let table = table(alloc, gens, tenant, &mut cache)?;
         Ok(Program {
             gens,
             tenant,
@@ -155,10 +156,11 @@ impl<'c> Program<'c> {
                 let config = self.gens.generation(active.generation);
                 let conn = ConnId(active.conn);
                 let rules = config.rules(self.tenant, PipelineId(pipeline), conn);
-                let rules = compile(alloc, &self.cache, rules)?;
+                let mut cache = MatcherCache::new(alloc);
+                let rules = compile(alloc, &mut cache, rules)?;
                 add_meeting(
                     alloc,
-                    &self.cache,
+                    &cache,
                     columns,
                     rules.as_slice(),
                     answers,

@@ -10,10 +10,10 @@ use gate_record::Memory;
 use gate_rule::{Entry, Rule};
 use std::alloc::Global;
 
-// The rules of a connection, in order.
+// The rules of a connection, in order, each entry with its places in the cache, which are made where it has none.
 pub(crate) fn compile<'c>(
     alloc: Global,
-    cache: &MatcherCache<'c>,
+    cache: &mut MatcherCache<'c>,
     rules: &'c [Rule],
 ) -> Result<Vec<Compiled<'c>>, Memory>
     ensures { IfOk result (λ compiled. rules_in compiled.items ≡ rules.entry.now) }
@@ -27,7 +27,7 @@ pub(crate) fn compile<'c>(
 
 fn compile_rule<'c>(
     alloc: Global,
-    cache: &MatcherCache<'c>,
+    cache: &mut MatcherCache<'c>,
     rule: &'c Rule,
 ) -> Result<Compiled<'c>, Memory>
     ensures { IfOk result (λ compiled. rule_of compiled ≡ rule.entry.now) }
@@ -52,7 +52,7 @@ fn compile_rule<'c>(
 
 fn all_asked<'c>(
     alloc: Global,
-    cache: &MatcherCache<'c>,
+    cache: &mut MatcherCache<'c>,
     field: Field,
     entries: &'c [Entry],
 ) -> Result<Vec<Asked<'c>>, Memory>
@@ -60,28 +60,7 @@ fn all_asked<'c>(
 {
     let mut asked = Vec::with_capacity(alloc, entries.len())?;
     for entry in entries {
-        asked.push(cache.asked(field, entry))?;
+        asked.push(cache.asked(field, entry)?)?;
     }
     Ok(asked)
-}
-
-// Makes places for the matchers of the patterns in a rule's entries, and for their answers.
-pub(crate) fn keep_rule<'c>(cache: &mut MatcherCache<'c>, rule: &'c Rule) -> Result<(), Memory> {
-    keep_all(cache, Field::Kind, rule.event.as_slice())?;
-    keep_all(cache, Field::Branch, rule.branch.as_slice())?;
-    keep_all(cache, Field::Refname, rule.refname.as_slice())?;
-    keep_all(cache, Field::Username, rule.username.as_slice())?;
-    keep_all(cache, Field::Email, rule.email.as_slice())?;
-    keep_all(cache, Field::Comment, rule.comment.as_slice())
-}
-
-fn keep_all<'c>(
-    cache: &mut MatcherCache<'c>,
-    field: Field,
-    entries: &'c [Entry],
-) -> Result<(), Memory> {
-    for entry in entries {
-        cache.keep(field, entry)?;
-    }
-    Ok(())
 }

@@ -45,37 +45,22 @@ impl<'c> MatcherCache<'c> {
         self.questions.len()
     }
 
-    // Makes a place for a matcher of the text of an entry's pattern, if there is none, and one for its answer in the field.
-    pub(crate) fn keep(&mut self, field: Field, entry: &'c Entry) -> Result<(), Memory> {
+    // The entry with the places of its pattern's text and of its answer in the field, which are made where it has none.
+    pub(crate) fn asked(&mut self, field: Field, entry: &'c Entry) -> Result<Asked<'c>, Memory>
+        ensures { IfOk result (λ asked. asked.entry.now ≡ entry.entry.now) }
+    {
         let (number, is_new) = self.texts.insert_full(entry.pattern.text())?;
         if is_new {
             self.places.push(Cell::new(None))?;
         }
-        self.questions
-            .insert(question(field, number, entry.negate))?;
-        Ok(())
-    }
-
-    // The entry with its number and place in the field, or with one more than all of these where it has none.
-    pub(crate) fn asked(&self, field: Field, entry: &'c Entry) -> Asked<'c>
-        ensures { result.entry.now ≡ entry.entry.now }
-    {
-        let number = match self.texts.get_index_of(entry.pattern.text()) {
-            Some(number) => number,
-            None => self.places.len(),
-        };
-        let place = match self
+        let (place, _) = self
             .questions
-            .get_index_of(&question(field, number, entry.negate))
-        {
-            Some(place) => place,
-            None => self.questions.len(),
-        };
-        Asked {
+            .insert_full(question(field, number, entry.negate))?;
+        Ok(Asked {
             entry,
             number,
             place,
-        }
+        })
     }
 
     // The rows of a column whose text meets the entry.

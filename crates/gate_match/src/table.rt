@@ -1,54 +1,20 @@
 ghost use Rattle.std.specs.Prelude.{IfOk, OnOk};
 ghost use Rattle.gate_match.specs.Inner.Tables.{AreOfGenerations};
 
-use crate::compiling::{compile, keep_rule};
+use crate::compiling::compile;
 use crate::matcher_cache::MatcherCache;
 use crate::rules_of_conn::RulesOfConn;
 use gate_config::{Config, Generations};
 use gate_record::{ConnId, Memory, PipelineId, TenantId};
-use gate_rule::Rule;
 use std::alloc::Global;
 
-// Places for a matcher of each distinct text of the patterns of a tenant's rules, over all generations.
-pub(crate) fn matchers<'c>(
-    alloc: Global,
-    gens: &'c Generations,
-    tenant: TenantId,
-) -> Result<MatcherCache<'c>, Memory> {
-    let mut cache = MatcherCache::new(alloc);
-    for generation in 0..gens.count() {
-        keep_generation(&mut cache, gens.generation(generation), tenant)?;
-    }
-    Ok(cache)
-}
-
-fn keep_generation<'c>(
-    cache: &mut MatcherCache<'c>,
-    config: &'c Config,
-    tenant: TenantId,
-) -> Result<(), Memory> {
-    for pipeline in 0..pipelines(config, tenant) {
-        for conn in 0..connections(config) {
-            let rules = config.rules(tenant, PipelineId(pipeline), ConnId(conn));
-            keep_rules(cache, rules)?;
-        }
-    }
-    Ok(())
-}
-
-fn keep_rules<'c>(cache: &mut MatcherCache<'c>, rules: &'c [Rule]) -> Result<(), Memory> {
-    for rule in rules {
-        keep_rule(cache, rule)?;
-    }
-    Ok(())
-}
-
-// The rules of all pipelines: by generation, in each by pipeline, and in each of these by connection.
+// The rules of all pipelines: by generation, in each by pipeline, and in each of these by connection. The cache gets a place for each
+// distinct text of their patterns.
 pub(crate) fn table<'c>(
     alloc: Global,
     gens: &'c Generations,
     tenant: TenantId,
-    cache: &MatcherCache<'c>,
+    cache: &mut MatcherCache<'c>,
 ) -> Result<Vec<RulesOfConn<'c>>, Memory>
     ensures { IfOk result (λ table. AreOfGenerations gens.entry.now tenant.0 table.items) }
 {
@@ -64,7 +30,7 @@ fn push_generation<'c>(
     gens: &'c Generations,
     tenant: TenantId,
     generation: u32,
-    cache: &MatcherCache<'c>,
+    cache: &mut MatcherCache<'c>,
     table: &mut Vec<RulesOfConn<'c>>,
 ) -> Result<(), Memory>
     requires { AreOfGenerations gens.now tenant.0 table.old.items }
@@ -88,7 +54,7 @@ fn rules_of_conn<'c>(
     generation: u32,
     pipeline: u32,
     conn: u32,
-    cache: &MatcherCache<'c>,
+    cache: &mut MatcherCache<'c>,
 ) -> Result<RulesOfConn<'c>, Memory>
     ensures { IfOk result (λ entry. IsOfGenerations gens.entry.now tenant.0 entry) }
 {

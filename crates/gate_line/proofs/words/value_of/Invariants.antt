@@ -1,10 +1,12 @@
-use Rattle.std.proofs.Common.{◌≡◌, ◌<◌, ◌^◌, take}
-use Rattle.gate_line.specs.Words.{value_of}
+use Rattle.std.proofs.Common.{◌≡◌, ◌<◌, ◌^◌, take, true}
+use Rattle.std.specs.List.{list_all}
+use Rattle.gate_line.specs.Words.{is_digit, value_of}
 use Rattle.gate_line.proofs.words.value_of.Given as goal
 
--- the value of the digits so far
-abbrev pub invariant-loop-digit : goal.invariant-loop-digit
-invariant-loop-digit l = record {
-  so_far : l.value ≡ value_of (take l.digit-index l.digits);
+-- the bytes so far are digits of this value
+abbrev pub invariant-loop-byte : goal.invariant-loop-byte
+invariant-loop-byte l = record {
+  digits : list_all is_digit (take l.byte-index l.text) ≡ true;
+  so_far : l.value ≡ value_of (take l.byte-index l.text);
   small : l.value < 2 ^ 64;
 }
