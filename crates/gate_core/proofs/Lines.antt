@@ -4,7 +4,7 @@ use Rattle.std.specs.Prelude.{◌==◌}
 use Rattle.std.specs.Str.Lines.{lines}
 use Rattle.std.proofs.lemmas.Bool.{eqb-true}
 use Rattle.gate_config.specs.declared.generations.Generations.{Generations}
-use Rattle.gate_ways.specs.declared.report.RunReport.{RunReport}
+use Rattle.gate_report.specs.declared.report.RunReport.{RunReport}
 use Rattle.gate_core.specs.declared.script.ScriptFault.{ScriptFault}
 use Rattle.gate_core.specs.declared.script.ScriptFault.TheVariants as fault
 use Rattle.gate_core.specs.declared.script.Scripted.{Scripted}

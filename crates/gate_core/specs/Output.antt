@@ -15,11 +15,11 @@ use Rattle.gate_items.specs.Words.{discard_word}
 use Rattle.gate_line.specs.Words.{state_word}
 use Rattle.gate_core.specs.declared.answer.Answer.{Answer}
 use Rattle.gate_core.specs.declared.answer.Answer.TheVariants as answer
-use Rattle.gate_ways.specs.declared.report.ConnectionReport.{ConnectionReport}
-use Rattle.gate_ways.specs.declared.report.EndCause.{EndCause}
-use Rattle.gate_ways.specs.declared.report.EndCause.TheVariants as cause
-use Rattle.gate_ways.specs.declared.report.PipelineReport.{PipelineReport}
-use Rattle.gate_ways.specs.declared.report.RunReport.{RunReport}
+use Rattle.gate_report.specs.declared.report.ConnectionReport.{ConnectionReport}
+use Rattle.gate_report.specs.declared.report.EndCause.{EndCause}
+use Rattle.gate_report.specs.declared.report.EndCause.TheVariants as cause
+use Rattle.gate_report.specs.declared.report.PipelineReport.{PipelineReport}
+use Rattle.gate_report.specs.declared.report.RunReport.{RunReport}
 use Rattle.gate_ways.specs.Wanted.{numbers_from}
 
 -- ---- answers, each on a line

@@ -13,7 +13,7 @@ use Rattle.gate_pipeline.specs.States.{Processed, first_state, found_empty, held
 use Rattle.gate_core.specs.declared.answer.Answer.{Answer}
 use Rattle.gate_core.specs.declared.answer.Answer.TheVariants.{Full, Idle, Moved, Passed, Turned}
 use Rattle.gate_core.specs.declared.pipeline.Pipeline.{Pipeline}
-use Rattle.gate_ways.specs.Limits.{has_place}
+use Rattle.gate_report.specs.Limits.{has_place}
 
 -- pipeline p of tenant t before anything came
 abbrev pub fresh_pipeline : Config → ℕ → ℕ → Pipeline

@@ -6,11 +6,11 @@ use Rattle.gate_config.specs.declared.config.TenantSpec.{TenantSpec}
 use Rattle.gate_config.specs.declared.config.PipelineSpec.{PipelineSpec}
 use Rattle.gate_config.specs.Lookups.{connections_of, tenants_of, pipelines_of}
 use Rattle.gate_core.specs.declared.pipeline.Pipeline.{Pipeline}
-use Rattle.gate_ways.specs.declared.report.ConnectionReport.{ConnectionReport}
-use Rattle.gate_ways.specs.declared.report.EndCause.{EndCause}
-use Rattle.gate_ways.specs.declared.report.EndCause.TheVariants.{Unclosed, Ended}
-use Rattle.gate_ways.specs.declared.report.PipelineReport.{PipelineReport}
-use Rattle.gate_ways.specs.declared.report.RunReport.{RunReport}
+use Rattle.gate_report.specs.declared.report.ConnectionReport.{ConnectionReport}
+use Rattle.gate_report.specs.declared.report.EndCause.{EndCause}
+use Rattle.gate_report.specs.declared.report.EndCause.TheVariants.{Unclosed, Ended}
+use Rattle.gate_report.specs.declared.report.PipelineReport.{PipelineReport}
+use Rattle.gate_report.specs.declared.report.RunReport.{RunReport}
 use Rattle.gate_core.specs.History.{History, accepted_records, done, finished, closed, renewals}
 use Rattle.gate_core.specs.States.{ConnectionState, TenantState, State}
 

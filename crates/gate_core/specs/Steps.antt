@@ -22,7 +22,7 @@ use Rattle.gate_core.specs.declared.pipeline.Pipeline.{Pipeline}
 use Rattle.gate_core.specs.declared.step.Step.{Step}
 use Rattle.gate_core.specs.declared.step.Step.TheVariants as step
 use Rattle.gate_core.specs.History.{turn_of}
-use Rattle.gate_ways.specs.Limits.{has_place}
+use Rattle.gate_report.specs.Limits.{has_place}
 use Rattle.gate_core.specs.Pipelines.{fresh_pipeline, post_manage, post_result, refused, turned}
 use Rattle.gate_core.specs.States.{ConnectionState, TenantState, State, with_gathered}
 

@@ -1,12 +1,12 @@
 ghost use Rattle.std.specs.Prelude.{◌≡◌, ◌<◌, ◌+◌, ◌^◌, None};
-ghost use Rattle.gate_ways.specs.Limits.{places};
+ghost use Rattle.gate_report.specs.Limits.{places};
 ghost use Rattle.gate_forward.specs.Hands.{hand_of};
 
 use crate::answer::Answer;
 use gate_config::Generations;
 use gate_forward::{Forward, Last};
 use gate_record::{ConnEntry, ConnId, Memory, Record};
-use gate_ways::PLACES;
+use gate_report::PLACES;
 use std::alloc::Global;
 use std::collections::VecDeque;
 

@@ -7,7 +7,7 @@ use gate_config::{Config, PipelineSpec, TenantSpec};
 use gate_items::{Action, Manage, Outcome};
 use gate_line::{push_name, push_number, state_word};
 use gate_record::{ConnId, Memory, Sequence, Stamp, TenantId, Text, name_text};
-use gate_ways::{ConnectionReport, EndCause, PipelineReport, RunReport};
+use gate_report::{ConnectionReport, EndCause, PipelineReport, RunReport};
 use std::alloc::Global;
 
 /// Adds an answer to a text, as a line.

@@ -1,5 +1,5 @@
 ghost use Rattle.std.specs.Prelude.{◌≡◌};
-ghost use Rattle.gate_ways.specs.Limits.{places};
+ghost use Rattle.gate_report.specs.Limits.{places};
 ghost use Rattle.gate_pipeline.specs.States.{asked, next_of};
 
 use crate::answer::Answer;
@@ -7,7 +7,7 @@ use gate_config::Config;
 use gate_items::{JobResult, Manage};
 use gate_pipeline::{Pipeline as Worker, Taken, Which};
 use gate_record::{Memory, PipelineId, PipelineItem, Queue, TenantId};
-use gate_ways::PLACES;
+use gate_report::PLACES;
 use std::alloc::Global;
 
 /// A post to a pipeline, or a turn of its worker.

@@ -6,7 +6,7 @@ use crate::connection::Connection;
 use crate::pipeline::Pipeline;
 use crate::tenant::Tenant;
 use gate_record::{Memory, Sequence};
-use gate_ways::{ConnectionReport, EndCause, PipelineReport};
+use gate_report::{ConnectionReport, EndCause, PipelineReport};
 use std::alloc::Global;
 
 /// What each connection accepted, when it was renewed, and whether it was closed.

@@ -12,7 +12,7 @@ use crate::tenant::{Tenant, TenantStep};
 use gate_config::Generations;
 use gate_items::Items;
 use gate_record::{ConnId, Memory, PipelineId, TenantId};
-use gate_ways::RunReport;
+use gate_report::RunReport;
 use std::alloc::Global;
 
 /// The core at one moment: the generations of a configuration, and its connections and tenants at work.

@@ -1,11 +1,1 @@
-pub mod Attributes
 pub mod Chosen
-pub mod Finding
-pub mod Masks
-pub mod Narrowed
-pub mod Results
-pub mod Rows
-pub mod RuledOut
-pub mod Texts
-pub mod Truncated
-pub mod Votes

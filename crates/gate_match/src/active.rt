@@ -1,4 +1,4 @@
-use crate::mask::Mask;
+use gate_batch::Mask;
 
 // A connection of a batch in a generation, with the rows that are events of it in that generation whose project is listed
 // under it.

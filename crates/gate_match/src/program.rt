@@ -1,7 +1,7 @@
 ghost use Rattle.gate_match.specs.Inner.Tables.{AreOfGenerations};
 
-use crate::matcher_cache::MatcherCache;
 use crate::rules_of_conn::RulesOfConn;
+use gate_batch::MatcherCache;
 use gate_config::Generations;
 use gate_record::TenantId;
 

@@ -1,4 +1,4 @@
-use crate::compiled::Compiled;
+use gate_batch::Compiled;
 
 // The rules of a pipeline for the events of a connection, in a generation.
 #[derive(Drop)]

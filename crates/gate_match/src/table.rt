@@ -1,9 +1,8 @@
 ghost use Rattle.std.specs.Prelude.{IfOk, OnOk};
 ghost use Rattle.gate_match.specs.Inner.Tables.{AreOfGenerations};
 
-use crate::compiling::compile;
-use crate::matcher_cache::MatcherCache;
 use crate::rules_of_conn::RulesOfConn;
+use gate_batch::{MatcherCache, compile};
 use gate_config::{Config, Generations};
 use gate_record::{ConnId, Memory, PipelineId, TenantId};
 use std::alloc::Global;

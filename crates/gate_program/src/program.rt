@@ -1,12 +1,10 @@
 ghost use Rattle.std.specs.Prelude.{◌≡◌, ◌≢◌, ◌≤◌};
 ghost use Rattle.std.specs.IoError.{error_kind};
-ghost use Rattle.gate_program.specs.Inner.Faults.{status_of};
+ghost use Rattle.gate_command.specs.Faults.{status_of};
 
-use crate::fault::Fault;
-use crate::replayed::write_replayed;
 use crate::serving::{Ran, journal_fault, journal_file, serve_words};
-use crate::words::{Task, task_of, unread};
-use gate_config::{check_text, read_generations};
+use gate_command::{Fault, Task, task_of, unread, write_replayed};
+use gate_config::{Generations, check_text, read_generations};
 use gate_core::replay;
 use std::alloc::Global;
 use std::env::VarError;
@@ -164,16 +162,25 @@ fn replay_told<X: Files<File = File> + Env + AllocGlobal>(
     documents: &[Vec<u8>],
     script: &[u8],
 ) -> Result<Said, Fault> {
-    let alloc = rt.alloc();
-    let text = replay(alloc, documents, script)?;
-    let journal = journal_path(rt)?;
-    let path = journal.as_deref();
-    if let (Some(file), Some(path)) = (journal_file(rt, path)?, path) {
-        if let Err(fault) = write_replayed(alloc, documents, script, file) {
-            return Err(journal_fault(alloc, path, fault));
-        }
-    }
+    let text = replay(rt.alloc(), documents, script)?;
+    write_journal(rt, documents, script)?;
     Ok(Said::of(text))
+}
+
+// Writes the journal of a script that was replayed, where there is to be one.
+fn write_journal<X: Files<File = File> + Env + AllocGlobal>(
+    rt: &X,
+    documents: &[Vec<u8>],
+    script: &[u8],
+) -> Result<(), Fault> {
+    let Some(path) = journal_path(rt)? else {
+        return Ok(());
+    };
+    let file = journal_file(rt, path.as_str())?;
+    match write_replayed(rt.alloc(), documents, script, file) {
+        Ok(()) => Ok(()),
+        Err(fault) => Err(journal_fault(rt.alloc(), path.as_str(), fault)),
+    }
 }
 
 // The path of the journal: the variable GATE_JOURNAL, if it is there and not empty.
@@ -189,6 +196,10 @@ fn journal_path<X: Env + AllocGlobal>(rt: &X) -> Result<Option<String>, Fault> {
 // What each generation of a configuration says, one after another.
 fn check(alloc: Global, documents: &[Vec<u8>]) -> Result<String, Fault> {
     let gens = read_generations(alloc, documents)?;
+    text_of(alloc, &gens)
+}
+
+fn text_of(alloc: Global, gens: &Generations) -> Result<String, Fault> {
     let mut text = String::new(alloc);
     for g in 0..gens.count() {
         let said = check_text(alloc, gens.generation(g))?;

@@ -1,15 +1,12 @@
 //! `gate serve`: the streams are opened, the port is listened on, and a report is made of what has run.
 ghost use Rattle.std.specs.Prelude.{◌≡◌, ◌-◌, ◌<◌, ◌^◌, All, IfOk, length};
 ghost use Rattle.gate_config.specs.Lookups.{connections_of};
-ghost use Rattle.gate_run.specs.Ports.{IsInboxFor};
+ghost use Rattle.gate_posts.specs.Ports.{IsInboxFor};
 
-use crate::crossing::journaling_crosses;
-use crate::fault::Fault;
-use crate::journal::{Journal, JournalFault, open_journal};
-use crate::journal_gate::{JournalGate, Journaling};
-use crate::port::{Listening, Port, port_address};
-use crate::sessions::Sessions;
-use crate::sources::{Source, open_feeds, sources_of};
+use gate_command::{
+    Fault, Journal, JournalFault, JournalGate, Journaling, Listening, Port, Sessions, Source,
+    journaling_crosses, open_feeds, open_journal, port_address, sources_of,
+};
 use gate_config::{Config, Generations, read_generations};
 use gate_core::report_text;
 use gate_record::Shared;
@@ -60,14 +57,13 @@ where
         + 'static,
 {
     let alloc = rt.alloc();
-    let gens = read_generations(alloc, documents.as_slice())?;
-    // A run may take days, and what was read isn't asked again.
-    drop(documents);
+    let gens = shared_generations(alloc, documents)?;
+    let board = shared_board(alloc, gens.get().first())?;
     let address = port_address(status)?;
-    let sources = sources_of(alloc, gens.first(), words)?;
+    let sources = sources_of(alloc, gens.get().first(), words)?;
     let (port, socket) = listen(rt, status, address)?;
-    let ran = match open_all(rt, gens.first(), sources.as_slice(), journal) {
-        Ok((file, feeds)) => run(rt, gens, feeds, port, file),
+    let ran = match open_all(rt, gens.get().first(), sources.as_slice(), journal) {
+        Ok((file, feeds)) => run(rt, &gens, &board, feeds, port, file),
         Err(fault) => Err(fault),
     };
     // While it is listened on, nobody else takes the socket for an abandoned one.
@@ -75,7 +71,21 @@ where
         let _ = socket.remove(rt);
     }
     let (ran, _port) = ran?;
+    // The program ends behind this, and the system takes it back at once.
+    mem::forget(gens);
     Ok(ran)
+}
+
+// A run may take days, and what was read isn't asked again: so the documents end here.
+fn shared_generations(
+    alloc: Global,
+    documents: Vec<Vec<u8>>,
+) -> Result<Shared<Generations>, Fault> {
+    Ok(Shared::new(alloc, read_generations(alloc, documents.as_slice())?)?)
+}
+
+fn shared_board(alloc: Global, config: &Config) -> Result<Shared<Mutex<Board>>, Fault> {
+    Ok(Shared::new(alloc, Mutex::new(Board::new(alloc, config)?))?)
 }
 
 // The journal and the streams of a run, and its feeds by connection number.
@@ -88,7 +98,10 @@ fn open_all<X: Files<File = File> + Net<Stream = TcpStream> + AllocGlobal>(
     ensures count { IfOk result (λ opened. length opened.1.items ≡ length (connections_of config.now)) }
     ensures few { IfOk result (λ opened. All (λ feed. ⟦<ReaderFeed<Stream> as RecordFeed>⟧.fault_count feed < 2 ^ 64 - 1) opened.1.items) }
 {
-    let file = journal_file(rt, journal)?;
+    let file = match journal {
+        Some(path) => Some(journal_file(rt, path)?),
+        None => None,
+    };
     let feeds = open_feeds(rt, config, sources)?;
     Ok((file, feeds))
 }
@@ -96,13 +109,10 @@ fn open_all<X: Files<File = File> + Net<Stream = TcpStream> + AllocGlobal>(
 /// Opens a journal, if there is to be one, and writes the line of a start. `Journal` where that can't be done.
 pub(crate) fn journal_file<X: Files<File = File> + AllocGlobal>(
     rt: &X,
-    path: Option<&str>,
-) -> Result<Option<File>, Fault> {
-    let Some(path) = path else {
-        return Ok(None);
-    };
+    path: &str,
+) -> Result<File, Fault> {
     match open_journal(rt, path) {
-        Ok(file) => Ok(Some(file)),
+        Ok(file) => Ok(file),
         Err(fault) => Err(journal_fault(rt.alloc(), path, fault)),
     }
 }
@@ -137,28 +147,8 @@ where
 // the port.
 fn run<X>(
     rt: &X,
-    gens: Generations,
-    feeds: Vec<ReaderFeed<Stream>>,
-    port: Option<Port>,
-    file: Option<File>,
-) -> Result<(Ran, Option<Port>), Fault>
-where
-    X: Threads + Wait + Clock + AllocGlobal + Copy + Send + Sync + 'static,
-    requires feeds { length feeds.items ≡ length (connections_of gens.first) }
-    requires few { All (λ feed. ⟦<ReaderFeed<Stream> as RecordFeed>⟧.fault_count feed < 2 ^ 64 - 1) feeds.items }
-{
-    let gens = Shared::new(rt.alloc(), gens)?;
-    let ran = run_shared(rt, &gens, feeds, port, file);
-    if ran.is_ok() {
-        // The program ends behind this, and the system takes it back at once.
-        mem::forget(gens);
-    }
-    ran
-}
-
-fn run_shared<X>(
-    rt: &X,
     gens: &Shared<Generations>,
+    board: &Shared<Mutex<Board>>,
     feeds: Vec<ReaderFeed<Stream>>,
     port: Option<Port>,
     file: Option<File>,
@@ -168,11 +158,9 @@ where
     requires feeds { length feeds.items ≡ length (connections_of gens.now.first) }
     requires few { All (λ feed. ⟦<ReaderFeed<Stream> as RecordFeed>⟧.fault_count feed < 2 ^ 64 - 1) feeds.items }
 {
-    let alloc = rt.alloc();
-    let board = Shared::new(alloc, Mutex::new(Board::new(alloc, gens.get().first())?))?;
     match port {
-        Some(port) => run_with_port(rt, gens, &board, feeds, port, file),
-        None => run_alone(rt, gens, &board, feeds, file),
+        Some(port) => run_with_port(rt, gens, board, feeds, port, file),
+        None => run_alone(rt, gens, board, feeds, file),
     }
 }
 

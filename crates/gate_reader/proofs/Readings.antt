@@ -10,8 +10,8 @@ use Rattle.gate_record.specs.Entries.{AreEntriesOf, beside}
 use Rattle.gate_queue.specs.Seats.{SenderSeat, with_put}
 use Rattle.gate_source.specs.Sources.{AcceptedAreNumbered, AreNumbered, HasAccepted, State, accepted, accepts, begins, renewed, renews}
 use Rattle.gate_source.specs.Stops.{Note}
-use Rattle.gate_ways.specs.declared.report.EndCause.{EndCause}
-use Rattle.gate_ways.specs.declared.report.EndCause.TheVariants.{Unclosed, Ended, Stopped, Failed, Memory}
+use Rattle.gate_report.specs.declared.report.EndCause.{EndCause}
+use Rattle.gate_report.specs.declared.report.EndCause.TheVariants.{Unclosed, Ended, Stopped, Failed, Memory}
 use Rattle.gate_source.specs.declared.feed.FeedStep.TheVariants as step
 use Rattle.gate_source.specs.Feeds.{AreAll, AreFirst, Steps, Told}
 use Rattle.gate_source.specs.Inner.Feeds.{Leaves}

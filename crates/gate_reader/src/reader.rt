@@ -1,7 +1,7 @@
 //! The thread that reads a connection's records into its queue.
 ghost use Rattle.std.specs.Prelude.{◌≡◌};
 ghost use Rattle.gate_queue.specs.Seats.{IsTailOf};
-ghost use Rattle.gate_ways.specs.declared.report.EndCause.TheVariants as cause;
+ghost use Rattle.gate_report.specs.declared.report.EndCause.TheVariants as cause;
 ghost use Rattle.gate_reader.specs.Readers.{CanRead, HasRead};
 ghost use Rattle.gate_reader.specs.Inner.Readers.{Closes};
 
@@ -10,11 +10,11 @@ use crate::reading::{Reading, Renewal};
 use crossbeam_utils::sync::Parker;
 use gate_queue::{EventQueue, Tail};
 use gate_record::{ConnEntry, ConnId};
+use gate_report::EndCause;
 use gate_source::{
     ClosedSource, FeedStep, RecordFeed, Source, StopCell, StopNote, accepted_records_are_numbered,
 };
 use gate_threads::{Signals, Work};
-use gate_ways::EndCause;
 use std::alloc::Global;
 use std::sync::Wait;
 use std::thread::Threads;

@@ -10,9 +10,9 @@ ghost use Rattle.gate_reader.specs.Readers.{notes_of};
 use crossbeam_utils::sync::Parker;
 use gate_queue::EventQueue;
 use gate_record::{ConnEntry, ConnId, Record};
+use gate_report::EndCause;
 use gate_source::{OfferFault, RenewFault, Source, StopCell, StopNote};
 use gate_threads::Signals;
-use gate_ways::EndCause;
 use std::sync::Wait;
 
 /// A generation that was put in force.

@@ -11,7 +11,7 @@ use Rattle.gate_threads.specs.declared.putting.PassedOn.{PassedOn}
 use Rattle.gate_reader.specs.declared.reader.ReaderEnd.{ReaderEnd}
 use Rattle.gate_worker.specs.declared.worker.WorkerEnd.{WorkerEnd}
 use Rattle.gate_source.specs.Feeds.{Told}
-use Rattle.gate_run.specs.Ports.{InboxEnds}
+use Rattle.gate_posts.specs.Ports.{InboxEnds}
 use Rattle.gate_run.specs.Inner.Seatings.{Cells}
 use Rattle.gate_threads.specs.Stages.{AreLanesSettled, IsStageSettled}
 use Rattle.gate_run.specs.Inner.Works.{ThreadsHaveRun}

@@ -15,7 +15,7 @@ use Rattle.gate_dispatcher.specs.Dispatchers.{HasDispatched}
 use Rattle.gate_source.specs.Feeds.{Told}
 use Rattle.gate_forwarder.specs.Forwarders.{HasForwarded}
 use Rattle.gate_threads.specs.Lists.{Pairwise, Threes}
-use Rattle.gate_run.specs.Ports.{InboxEnds, at_pipeline}
+use Rattle.gate_posts.specs.Ports.{InboxEnds, at_pipeline}
 use Rattle.gate_run.specs.Inner.Seatings.{AreWorkersOf, Cells, IsDispatcherOf, IsForwarderOf, IsWorkerOf}
 use Rattle.gate_threads.specs.Seats.{seat_in, seat_of}
 use Rattle.gate_worker.specs.Workers.{HasWorked}

@@ -1,8 +1,6 @@
 pub mod Asking
 pub mod Seatings
-pub mod Posting
 pub mod Composed
-pub mod Crosses
 pub mod Evidence
 pub mod Found
 pub mod Promised

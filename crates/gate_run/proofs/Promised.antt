@@ -30,11 +30,11 @@ use Rattle.gate_queue.specs.declared.tagged.Tagged.{Tagged}
 use Rattle.gate_queue.specs.Seats.{QueueName, SenderSeat, Shape, TakerSeat}
 use Rattle.gate_queue.specs.States.{AreFrom, IsDelivered}
 use Rattle.gate_queue.specs.Tagged.{values_of}
-use Rattle.gate_ways.specs.declared.report.ConnectionReport.{ConnectionReport}
-use Rattle.gate_ways.specs.declared.report.EndCause.{EndCause}
-use Rattle.gate_ways.specs.declared.report.EndCause.TheVariants as cause
-use Rattle.gate_ways.specs.declared.report.PipelineReport.{PipelineReport}
-use Rattle.gate_ways.specs.declared.report.RunReport.{RunReport}
+use Rattle.gate_report.specs.declared.report.ConnectionReport.{ConnectionReport}
+use Rattle.gate_report.specs.declared.report.EndCause.{EndCause}
+use Rattle.gate_report.specs.declared.report.EndCause.TheVariants as cause
+use Rattle.gate_report.specs.declared.report.PipelineReport.{PipelineReport}
+use Rattle.gate_report.specs.declared.report.RunReport.{RunReport}
 use Rattle.gate_ways.specs.Wanted.{asked_among, asked_of, number_from, numbers_from, wanted}
 use Rattle.gate_ways.specs.Ways.{EachWayDelivers, IsEventOf, Way, number_of_item}
 use Rattle.gate_threads.specs.declared.putting.PassedOn.{PassedOn}
@@ -44,12 +44,12 @@ use Rattle.gate_worker.specs.declared.worker.Worker.{Worker}
 use Rattle.gate_worker.specs.declared.worker.WorkerEnd.{WorkerEnd}
 use Rattle.gate_source.specs.Feeds.{Told}
 use Rattle.gate_threads.specs.Lists.{Each, EachAt}
-use Rattle.gate_run.specs.Ports.{InboxEnds, InboxView, at_pipeline, pipeline_counts}
+use Rattle.gate_posts.specs.Ports.{InboxEnds, InboxView, at_pipeline, pipeline_counts}
 use Rattle.gate_reader.specs.Readers.{Means, is_closed, counts_of, notes_of}
 use Rattle.gate_threads.specs.Seats.{values, seat_in, seat_of}
 use Rattle.gate_reader.specs.Asked.{AreKnown}
-use Rattle.gate_run.specs.Asked.{KnowsStill}
-use Rattle.gate_run.specs.Inner.Asked.{knows_as_much}
+use Rattle.gate_posts.specs.Asked.{KnowsStill}
+use Rattle.gate_posts.specs.Asked.{knows_as_much}
 use Rattle.gate_run.specs.Inner.Seatings.{AreWorkersOf, Cells, IsReaderOf}
 use Rattle.gate_run.specs.Gatherings.{report_of_pipeline}
 use Rattle.gate_run.specs.Inner.Gatherings.{inbox_back, most_asked, report_of_reader}

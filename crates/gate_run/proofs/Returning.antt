@@ -22,7 +22,7 @@ use Rattle.gate_source.specs.Feeds.{Told}
 use Rattle.gate_threads.specs.Lists.{Pairwise, Each, EachAt}
 use Rattle.gate_reader.specs.Asked.{AreKnown}
 use Rattle.gate_reader.specs.Readers.{notes_of}
-use Rattle.gate_run.specs.Ports.{InboxEnds}
+use Rattle.gate_posts.specs.Ports.{InboxEnds}
 use Rattle.gate_run.specs.Inner.Seatings.{AreWorkersOf, Cells, IsDispatcherOf, IsForwarderOf, IsReaderOf, IsWorkerOf}
 use Rattle.gate_threads.specs.Seats.{seat_in, seat_of}
 use Rattle.gate_run.specs.Inner.Works.{Dispatched, Forwarded, Read, Worked}

@@ -17,7 +17,7 @@ use Rattle.gate_forwarder.specs.declared.forwarder.Forwarder.{Forwarder}
 use Rattle.gate_reader.specs.declared.reader.Reader.{Reader}
 use Rattle.gate_worker.specs.declared.worker.Worker.{Worker}
 use Rattle.gate_threads.specs.Lists.{EachAt}
-use Rattle.gate_run.specs.Ports.{InboxEnds}
+use Rattle.gate_posts.specs.Ports.{InboxEnds}
 use Rattle.gate_run.specs.Inner.Seatings.{Cells, IsDispatcherOf, IsForwarderOf, IsReaderOf, IsWorkerOf}
 use Rattle.gate_threads.specs.Seats.{fresh_head, fresh_tail}
 use Rattle.gate_threads.proofs.Paired.{map_length}

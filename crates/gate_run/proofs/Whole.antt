@@ -16,8 +16,8 @@ use Rattle.gate_reader.specs.declared.reader.Reader.{Reader}
 use Rattle.gate_source.specs.Feeds.{Told}
 use Rattle.gate_threads.specs.Lists.{Each}
 use Rattle.gate_reader.specs.Asked.{AreKnown}
-use Rattle.gate_run.specs.Asked.{AskedView}
-use Rattle.gate_run.specs.Ports.{InboxEnds}
+use Rattle.gate_posts.specs.Asked.{AskedView}
+use Rattle.gate_posts.specs.Ports.{InboxEnds}
 use Rattle.gate_run.specs.Inner.Queues.{AreOpen}
 use Rattle.gate_reader.specs.Readers.{notes_of}
 use Rattle.gate_run.specs.Inner.Seatings.{IsReaderOf, cells_of}

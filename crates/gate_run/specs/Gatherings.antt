@@ -1,5 +1,5 @@
 -- What threads hand back.
-use Rattle.gate_ways.specs.declared.report.PipelineReport.{PipelineReport}
+use Rattle.gate_report.specs.declared.report.PipelineReport.{PipelineReport}
 use Rattle.gate_pipeline.specs.States.{State}
 
 -- what was processed, and whether the end mark was met

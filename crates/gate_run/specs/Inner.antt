@@ -1,5 +1,4 @@
 -- What only private contracts and proofs cite: no public contract rests on it.
-pub mod Asked
 pub mod Gatherings
 pub mod Queues
 pub mod Seatings

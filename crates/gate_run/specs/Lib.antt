@@ -1,6 +1,3 @@
-pub mod Asked
 pub mod Gatherings
 pub mod Inner
-pub mod PipelineEnds
-pub mod Ports
 pub mod Serving

@@ -12,16 +12,16 @@ use Rattle.gate_config.specs.Lookups.{lists}
 use Rattle.gate_items.specs.declared.action.Action.{Action}
 use Rattle.gate_pipeline.specs.Histories.{AreProcessed, History, triggering}
 use Rattle.gate_pipeline.specs.States.{State}
-use Rattle.gate_ways.specs.declared.report.ConnectionReport.{ConnectionReport}
-use Rattle.gate_ways.specs.declared.report.PipelineReport.{PipelineReport}
-use Rattle.gate_ways.specs.declared.report.RunReport.{RunReport}
+use Rattle.gate_report.specs.declared.report.ConnectionReport.{ConnectionReport}
+use Rattle.gate_report.specs.declared.report.PipelineReport.{PipelineReport}
+use Rattle.gate_report.specs.declared.report.RunReport.{RunReport}
 use Rattle.gate_ways.specs.Wanted.{asked_among, numbers_from, wanted}
 use Rattle.gate_source.specs.Feeds.{AreFirst, Told}
 use Rattle.gate_source.specs.Sources.{NeverFalls}
 use Rattle.gate_reader.specs.Asked.{AreKnown}
-use Rattle.gate_run.specs.Asked.{KnowsStill}
+use Rattle.gate_posts.specs.Asked.{KnowsStill}
 use Rattle.gate_run.specs.Gatherings.{report_of_pipeline}
-use Rattle.gate_run.specs.Ports.{InboxEnds, InboxView, IsInboxFor, at_pipeline, pipeline_counts}
+use Rattle.gate_posts.specs.Ports.{InboxEnds, InboxView, IsInboxFor, at_pipeline, pipeline_counts}
 use Rattle.gate_reader.specs.Readers.{Means, is_closed}
 use Rattle.gate_worker.specs.Workers.{TookMore}
 

@@ -3,22 +3,20 @@ ghost use Rattle.std.specs.Prelude.{◌≡◌, ◌++◌, ◌∷◌, [], IfOk, On
 ghost use Rattle.gate_source.specs.Stops.{IsNoteOf};
 ghost use Rattle.gate_run.specs.Gatherings.{report_of_pipeline};
 ghost use Rattle.gate_reader.specs.Asked.{AreKnown};
-ghost use Rattle.gate_run.specs.Asked.{KnowsStill};
-ghost use Rattle.gate_run.specs.Inner.Asked.{knows_as_much};
+ghost use Rattle.gate_posts.specs.Asked.{KnowsStill, knows_as_much, longer};
 ghost use Rattle.gate_run.specs.Inner.Gatherings.{inbox_back, most_asked, report_of_reader};
 ghost use Rattle.gate_threads.specs.Lists.{Each};
 ghost use Rattle.gate_reader.specs.Readers.{counts_of, notes_of};
-ghost use Rattle.gate_run.specs.PipelineEnds.{inbox_of};
+ghost use Rattle.gate_posts.specs.PipelineEnds.{inbox_of};
 
-use crate::asked::Asked;
-use crate::posts::PipelineInbox;
 use gate_pipeline::Pipeline;
+use gate_posts::{Asked, PipelineInbox};
 use gate_queue::{FreeHead, FreeTail, Head, Tail};
 use gate_reader::{ReaderEnd, Renewal};
 use gate_record::{ConnEntry, Memory, PipelineItem, Sequence, TenantItem};
+use gate_report::{ConnectionReport, PipelineReport};
 use gate_source::StopNote;
 use gate_threads::{PassedOn, push};
-use gate_ways::{ConnectionReport, PipelineReport};
 use gate_worker::WorkerEnd;
 use std::alloc::Global;
 
@@ -62,11 +60,34 @@ pub(crate) fn gather_readers<F: Drop>(
     ensures asked { IfOk result (λ back. back.asked.asked ≡ most_asked asked.asked ends.items) }
     ensures known { IfOk result (λ back. AreKnown back.asked.cells back.asked.asked) }
 {
-    let mut feeds = Vec::new(alloc);
-    let mut tails = Vec::new(alloc);
-    let mut connections = Sequence::empty(alloc);
-    let mut asked = asked;
+    let mut back = Readings {
+        feeds: Vec::new(alloc),
+        tails: Vec::new(alloc),
+        connections: Sequence::empty(alloc),
+        asked,
+    };
     for end in ends {
+        back.add(alloc, end)?;
+    }
+    back.asked.notes_know();
+    Ok(back)
+}
+
+impl<F: Drop> Readings<F> {
+    // Adds what the next connection's reader handed back.
+    fn add(&mut self, alloc: Global, end: ReaderEnd<F>) -> Result<(), Memory>
+        requires note { IsNoteOf self.old.asked.note.cell end.note }
+        requires known { AreKnown self.old.asked.cells (notes_of end.renewals.items) }
+        ensures feeds { OnOk result (self.new.feeds.items ≡ self.old.feeds.items ++ end.feed ∷ []) }
+        ensures tails { OnOk result (self.new.tails.items ≡ self.old.tails.items ++ end.tail ∷ []) }
+        ensures connections { OnOk result (self.new.connections ≡ self.old.connections ++ report_of_reader end ∷ []) }
+        ensures of_cell { self.new.asked.note.cell ≡ self.old.asked.note.cell }
+        ensures knows { knows_as_much end.note self.new.asked.note }
+        ensures knew { knows_as_much self.old.asked.note self.new.asked.note }
+        ensures still { KnowsStill self.old.asked.note self.new.asked.note }
+        ensures cells { self.new.asked.cells ≡ self.old.asked.cells }
+        ensures asked { OnOk result (self.new.asked.asked ≡ longer self.old.asked.asked (notes_of end.renewals.items)) }
+    {
         let ReaderEnd {
             feed,
             tail,
@@ -75,24 +96,17 @@ pub(crate) fn gather_readers<F: Drop>(
             renewals,
             cause,
         } = end;
-        feeds.push(feed)?;
-        tails.push(tail)?;
+        self.asked.take_stop(note);
         let (known, renewals) = parted(alloc, renewals)?;
-        connections.push(ConnectionReport {
+        self.asked.take_asked(known);
+        self.connections.push(ConnectionReport {
             accepted: count,
             renewals,
             cause,
         })?;
-        asked.take_stop(note);
-        asked.take_asked(known);
+        push(&mut self.tails, tail)?;
+        push(&mut self.feeds, feed)
     }
-    asked.notes_know();
-    Ok(Readings {
-        feeds,
-        tails,
-        connections,
-        asked,
-    })
 }
 
 // The notes of renewals, and how many records were accepted before each of them.

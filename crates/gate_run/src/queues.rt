@@ -1,7 +1,7 @@
 //! The queues of a run, from connections to pipelines.
 ghost use Rattle.std.specs.Prelude.{◌≡◌, ◌<◌, ◌∷◌, [], IfOk, length, map};
 ghost use Rattle.gate_config.specs.Lookups.{connections_of, tenants_of};
-ghost use Rattle.gate_run.specs.Ports.{pipeline_counts};
+ghost use Rattle.gate_posts.specs.Ports.{pipeline_counts};
 ghost use Rattle.gate_run.specs.Inner.Queues.{AreOpen};
 ghost use Rattle.gate_threads.specs.Seats.{fresh_head, fresh_tail};
 ghost use Rattle.gate_threads.specs.Stages.{HavePlaces, IsOpenStage};

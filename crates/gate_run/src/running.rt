@@ -1,26 +1,30 @@
 //! All threads of a run at once.
+ghost use denote.Param.Send.{IsSync};
 ghost use Rattle.std.specs.Prelude.{◌≡◌, ◌-◌, ◌<◌, ◌^◌, All, IfOk, length, map};
 ghost use Rattle.gate_config.specs.Lookups.{connections_of};
 ghost use Rattle.gate_threads.specs.Lists.{Pairwise};
-ghost use Rattle.gate_run.specs.PipelineEnds.{inbox_of};
-ghost use Rattle.gate_run.specs.Ports.{pipeline_counts};
+ghost use Rattle.gate_posts.specs.PipelineEnds.{inbox_of};
+ghost use Rattle.gate_posts.specs.Ports.{pipeline_counts};
 ghost use Rattle.gate_run.specs.Inner.Queues.{AreOpen};
 ghost use Rattle.gate_run.specs.Inner.Seatings.{cells_of};
 ghost use Rattle.gate_run.specs.Inner.Works.{Dispatched, Forwarded, HaveRun, Read, ReadyToDispatch, ReadyToForward, ReadyToRead, ReadyToWork, Worked};
 
-use crate::asked::Asked;
-use crate::crossing::{config_crosses, generations_cross, is_shared};
 use crate::gathering::Ends;
-use crate::posts::PipelineInbox;
 use crate::queues::{QueueSeats, Queues};
 use crate::seating::{seat_dispatchers, seat_forwarders, seat_readers, seat_workers};
 use gate_config::Generations;
+use gate_crossing::{config_crosses, generations_cross};
 use gate_dispatcher::Dispatcher;
 use gate_forwarder::Forwarder;
-use gate_reader::Reader;
+use gate_posts::{Asked, PipelineInbox};
+use gate_queue::{FreeHead, Head};
+use gate_reader::{Reader, ReaderEnd};
+use gate_record::{ConnEntry, PipelineItem, TenantItem};
 use gate_source::RecordFeed;
-use gate_threads::{RunFault, Signals, join_all, join_lists, start_all, start_lists};
-use gate_worker::{Gate, Worker};
+use gate_threads::{
+    PassedOn, RunFault, Signals, Thread, Work, join_all, join_lists, start_all, start_lists,
+};
+use gate_worker::{Gate, Worker, WorkerEnd};
 use std::alloc::Global;
 use std::sync::Wait;
 use std::sync::atomic::AtomicBool;
@@ -61,7 +65,15 @@ pub(crate) fn run_between<
         trigger_tails,
     } = seats;
     let config = gens.first();
-    let (readers, reader_wakers) = seat_readers(
+    let mut signals = Signals {
+        begun: AtomicBool::new(false),
+        halted: AtomicBool::new(false),
+        readers: Vec::new(alloc),
+        forwarders: Vec::new(alloc),
+        dispatchers: Vec::new(alloc),
+        workers: Vec::new(alloc),
+    };
+    let readers = seat_readers(
         alloc,
         config,
         feeds,
@@ -70,39 +82,35 @@ pub(crate) fn run_between<
         asked.stop_cell(),
         gens.count(),
         asked.cells(),
+        &mut signals.readers,
     )?;
-    let (forwarders, forwarder_wakers) = seat_forwarders(
+    let forwarders = seat_forwarders(
         alloc,
         gens,
         &queues.records,
         record_heads,
         &queues.items,
         item_tails,
+        &mut signals.forwarders,
     )?;
-    let (dispatchers, dispatcher_wakers) = seat_dispatchers(
+    let dispatchers = seat_dispatchers(
         alloc,
         gens,
         &queues.items,
         item_heads,
         &queues.triggers,
         trigger_tails,
+        &mut signals.dispatchers,
     )?;
-    let (workers, worker_wakers) = seat_workers(
+    let workers = seat_workers(
         alloc,
         config,
         &queues.triggers,
         trigger_heads,
         inbox,
         gate,
+        &mut signals.workers,
     )?;
-    let signals = Signals {
-        begun: AtomicBool::new(false),
-        halted: AtomicBool::new(false),
-        readers: reader_wakers,
-        forwarders: forwarder_wakers,
-        dispatchers: dispatcher_wakers,
-        workers: worker_wakers,
-    };
     run_works(
         rt,
         alloc,
@@ -156,12 +164,50 @@ fn run_works<'a, F: RecordFeed + Drop + Send, G: Gate + Sync, R: Threads + Wait 
             let forwarders = start_all(scope, rt, alloc, signals, forwarders)?;
             let readers = start_all(scope, rt, alloc, signals, readers)?;
             signals.begin();
-            Ok(Ends {
-                readers: join_all(rt, signals, readers)?,
-                forwarders: join_all(rt, signals, forwarders)?,
-                dispatchers: join_all(rt, signals, dispatchers)?,
-                workers: join_lists(rt, alloc, signals, workers)?,
-            })
+            join_works(
+                rt,
+                alloc,
+                signals,
+                readers,
+                forwarders,
+                dispatchers,
+                workers,
+            )
         },
     )
 }
+
+// Waits for all of these threads: what they handed back. It stands apart so that no thread is started among its exits.
+fn join_works<
+    F: Drop,
+    Reading: Work<ReaderEnd<F>>,
+    Forwarding: Work<PassedOn<Head<ConnEntry>, TenantItem>>,
+    Dispatching: Work<PassedOn<FreeHead<TenantItem>, PipelineItem>>,
+    Working: Work<WorkerEnd>,
+    R: Threads,
+>(
+    rt: &R,
+    alloc: Global,
+    signals: &Signals,
+    readers: Vec<Thread<ReaderEnd<F>, Reading>>,
+    forwarders: Vec<Thread<PassedOn<Head<ConnEntry>, TenantItem>, Forwarding>>,
+    dispatchers: Vec<Thread<PassedOn<FreeHead<TenantItem>, PipelineItem>, Dispatching>>,
+    workers: Vec<Vec<Thread<WorkerEnd, Working>>>,
+) -> Result<Ends<F>, RunFault>
+    ensures readers { IfOk result (λ ends. Pairwise Reading.comes_to (map (λ thread. thread.promise.work.value) readers.items) ends.readers.items) }
+    ensures forwarders { IfOk result (λ ends. Pairwise Forwarding.comes_to (map (λ thread. thread.promise.work.value) forwarders.items) ends.forwarders.items) }
+    ensures dispatchers { IfOk result (λ ends. Pairwise Dispatching.comes_to (map (λ thread. thread.promise.work.value) dispatchers.items) ends.dispatchers.items) }
+    ensures workers { IfOk result (λ ends. Pairwise (Pairwise Working.comes_to) (map (λ list. map (λ thread. thread.promise.work.value) list.items) workers.items) (map (λ list. list.items) ends.workers.items)) }
+{
+    Ok(Ends {
+        readers: join_all(rt, signals, readers)?,
+        forwarders: join_all(rt, signals, forwarders)?,
+        dispatchers: join_all(rt, signals, dispatchers)?,
+        workers: join_lists(rt, alloc, signals, workers)?,
+    })
+}
+
+// Of a type that threads may share, that they may.
+fn is_shared<T: Sync>()
+    ensures { IsSync T.row }
+{}

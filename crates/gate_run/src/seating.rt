@@ -3,17 +3,17 @@ ghost use Rattle.std.specs.Prelude.{◌≡◌, ◌-◌, ◌<◌, ◌^◌, All, I
 ghost use Rattle.std.specs.List.{range_with_len};
 ghost use Rattle.gate_config.specs.Lookups.{connections_of, pipelines_of, tenants_of};
 ghost use Rattle.gate_threads.specs.Lists.{EachAt};
-ghost use Rattle.gate_run.specs.PipelineEnds.{inbox_of};
-ghost use Rattle.gate_run.specs.Ports.{pipeline_counts};
+ghost use Rattle.gate_posts.specs.PipelineEnds.{inbox_of};
+ghost use Rattle.gate_posts.specs.Ports.{pipeline_counts};
 ghost use Rattle.gate_run.specs.Inner.Seatings.{AreWorkersOf, IsDispatcherOf, IsForwarderOf, IsReaderOf, IsWorkerOf};
 ghost use Rattle.gate_threads.specs.Seats.{fresh_head, fresh_tail};
 
-use crate::posts::PipelineInbox;
 use crossbeam_utils::sync::{Parker, Unparker};
 use gate_config::{Config, Generations};
 use gate_dispatcher::Dispatcher;
 use gate_forwarder::Forwarder;
 use gate_pipeline::Pipeline;
+use gate_posts::PipelineInbox;
 use gate_queue::{EventQueue, FreeHead, FreeQueue, FreeTail, Head, Tail};
 use gate_reader::Reader;
 use gate_record::{ConnEntry, ConnId, Memory, PipelineId, PipelineItem, TenantId, TenantItem};
@@ -22,7 +22,14 @@ use gate_threads::next_of;
 use gate_worker::Worker;
 use std::alloc::Global;
 
-/// A reader for each connection.
+// What a thread parks on. What wakes it is added to these.
+fn new_parker(alloc: Global, wakers: &mut Vec<Unparker>) -> Result<Parker, Memory> {
+    let parker = Parker::new(alloc)?;
+    wakers.push(parker.unparker().clone()?)?;
+    Ok(parker)
+}
+
+/// A reader for each connection, and what wakes each.
 pub(crate) fn seat_readers<'a, F: RecordFeed + Drop>(
     alloc: Global,
     config: &Config,
@@ -32,22 +39,21 @@ pub(crate) fn seat_readers<'a, F: RecordFeed + Drop>(
     cell: &'a StopCell,
     generations: u32,
     cells: &'a [StopCell],
-) -> Result<(Vec<Reader<'a, F>>, Vec<Unparker>), Memory>
+    wakers: &mut Vec<Unparker>,
+) -> Result<Vec<Reader<'a, F>>, Memory>
     requires feeds { length feeds.items ≡ length (connections_of config.now) }
     requires few { All (λ feed. F.fault_count feed < 2 ^ 64 - 1) feeds.items }
     requires queues { length queues.now ≡ length (connections_of config.now) }
     requires tails { tails.items ≡ map (fresh_tail 0) queues.now }
     requires some { 0 < generations }
-    ensures count { IfOk result (λ made. length made.0.items ≡ length (connections_of config.now)) }
-    ensures readers { IfOk result (λ made. EachAt (IsReaderOf F.fault_count feeds.items queues.entry.now (record { stop = cell.entry.now; generations = generations; later = cells.entry.now })) made.0.items) }
+    ensures count { IfOk result (λ made. length made.items ≡ length (connections_of config.now)) }
+    ensures readers { IfOk result (λ made. EachAt (IsReaderOf F.fault_count feeds.items queues.entry.now (record { stop = cell.entry.now; generations = generations; later = cells.entry.now })) made.items) }
 {
     let mut feeds = feeds.into_iter();
     let mut tails = tails.into_iter();
     let mut readers = Vec::new(alloc);
-    let mut wakers = Vec::new(alloc);
     for number in 0..config.connections().len() {
-        let parker = Parker::new(alloc)?;
-        wakers.push(parker.unparker().clone()?)?;
+        let parker = new_parker(alloc, wakers)?;
         readers.push(Reader {
             conn: ConnId(number as u32),
             feed: next_of(&mut feeds),
@@ -61,10 +67,10 @@ pub(crate) fn seat_readers<'a, F: RecordFeed + Drop>(
             parker,
         })?;
     }
-    Ok((readers, wakers))
+    Ok(readers)
 }
 
-/// A forwarder for each connection.
+/// A forwarder for each connection, and what wakes each.
 pub(crate) fn seat_forwarders<'a>(
     alloc: Global,
     gens: &'a Generations,
@@ -72,21 +78,20 @@ pub(crate) fn seat_forwarders<'a>(
     heads: Vec<Head<ConnEntry>>,
     targets: &'a [FreeQueue<TenantItem>],
     tails: Vec<Vec<FreeTail<TenantItem>>>,
-) -> Result<(Vec<Forwarder<'a>>, Vec<Unparker>), Memory>
+    wakers: &mut Vec<Unparker>,
+) -> Result<Vec<Forwarder<'a>>, Memory>
     requires sources { length sources.now ≡ length (connections_of gens.now.first) }
     requires heads { heads.items ≡ map fresh_head sources.now }
     requires targets { length targets.now ≡ length (tenants_of gens.now.first) }
     requires tails { map (λ row. row.items) tails.items ≡ map (λ c. map (fresh_tail c) targets.now) (range_with_len 0 (length (connections_of gens.now.first))) }
-    ensures count { IfOk result (λ made. length made.0.items ≡ length (connections_of gens.entry.now.first)) }
-    ensures forwarders { IfOk result (λ made. EachAt (IsForwarderOf gens.entry.now sources.entry.now targets.entry.now) made.0.items) }
+    ensures count { IfOk result (λ made. length made.items ≡ length (connections_of gens.entry.now.first)) }
+    ensures forwarders { IfOk result (λ made. EachAt (IsForwarderOf gens.entry.now sources.entry.now targets.entry.now) made.items) }
 {
     let mut heads = heads.into_iter();
     let mut tails = tails.into_iter();
     let mut forwarders = Vec::new(alloc);
-    let mut wakers = Vec::new(alloc);
     for number in 0..gens.first().connections().len() {
-        let parker = Parker::new(alloc)?;
-        wakers.push(parker.unparker().clone()?)?;
+        let parker = new_parker(alloc, wakers)?;
         forwarders.push(Forwarder {
             alloc,
             gens,
@@ -98,10 +103,10 @@ pub(crate) fn seat_forwarders<'a>(
             parker,
         })?;
     }
-    Ok((forwarders, wakers))
+    Ok(forwarders)
 }
 
-/// A worker for each tenant.
+/// A worker for each tenant, and what wakes each.
 pub(crate) fn seat_dispatchers<'a>(
     alloc: Global,
     gens: &'a Generations,
@@ -109,22 +114,21 @@ pub(crate) fn seat_dispatchers<'a>(
     heads: Vec<FreeHead<TenantItem>>,
     targets: &'a [Vec<FreeQueue<PipelineItem>>],
     tails: Vec<Vec<FreeTail<PipelineItem>>>,
-) -> Result<(Vec<Dispatcher<'a>>, Vec<Unparker>), Memory>
+    wakers: &mut Vec<Unparker>,
+) -> Result<Vec<Dispatcher<'a>>, Memory>
     requires sources { length sources.now ≡ length (tenants_of gens.now.first) }
     requires heads { heads.items ≡ map fresh_head sources.now }
     requires targets { map (λ queues. length queues.items) targets.now ≡ pipeline_counts gens.now.first }
     requires tails { map (λ row. row.items) tails.items ≡ map (λ queues. map (fresh_tail 0) queues.items) targets.now }
-    ensures count { IfOk result (λ made. length made.0.items ≡ length (tenants_of gens.entry.now.first)) }
-    ensures dispatchers { IfOk result (λ made. EachAt (IsDispatcherOf gens.entry.now sources.entry.now (map (λ queues. queues.items) targets.entry.now)) made.0.items) }
+    ensures count { IfOk result (λ made. length made.items ≡ length (tenants_of gens.entry.now.first)) }
+    ensures dispatchers { IfOk result (λ made. EachAt (IsDispatcherOf gens.entry.now sources.entry.now (map (λ queues. queues.items) targets.entry.now)) made.items) }
 {
     let mut heads = heads.into_iter();
     let mut tails = tails.into_iter();
     let mut dispatchers = Vec::new(alloc);
-    let mut wakers = Vec::new(alloc);
     for number in 0..gens.first().tenants().len() {
         let tenant = TenantId(number as u32);
-        let parker = Parker::new(alloc)?;
-        wakers.push(parker.unparker().clone()?)?;
+        let parker = new_parker(alloc, wakers)?;
         dispatchers.push(Dispatcher {
             alloc,
             gens,
@@ -136,10 +140,10 @@ pub(crate) fn seat_dispatchers<'a>(
             parker,
         })?;
     }
-    Ok((dispatchers, wakers))
+    Ok(dispatchers)
 }
 
-/// A worker for each pipeline, by tenant.
+/// A worker for each pipeline, by tenant, and what wakes each.
 pub(crate) fn seat_workers<'a, G>(
     alloc: Global,
     config: &'a Config,
@@ -147,22 +151,23 @@ pub(crate) fn seat_workers<'a, G>(
     heads: Vec<Vec<FreeHead<PipelineItem>>>,
     inbox: Vec<Vec<PipelineInbox>>,
     gate: &'a G,
-) -> Result<(Vec<Vec<Worker<'a, G>>>, Vec<Vec<Unparker>>), Memory>
+    wakers: &mut Vec<Vec<Unparker>>,
+) -> Result<Vec<Vec<Worker<'a, G>>>, Memory>
     requires sources { map (λ queues. length queues.items) sources.now ≡ pipeline_counts config.now }
     requires heads { map (λ row. row.items) heads.items ≡ map (λ queues. map fresh_head queues.items) sources.now }
     requires inbox { map (λ row. length row.items) inbox.items ≡ pipeline_counts config.now }
-    ensures count { IfOk result (λ made. length made.0.items ≡ length (tenants_of config.entry.now)) }
-    ensures workers { IfOk result (λ made. EachAt (AreWorkersOf config.entry.now (map (λ queues. queues.items) sources.entry.now) (map (λ row. map inbox_of row.items) inbox.items)) (map (λ row. row.items) made.0.items)) }
+    ensures count { IfOk result (λ made. length made.items ≡ length (tenants_of config.entry.now)) }
+    ensures workers { IfOk result (λ made. EachAt (AreWorkersOf config.entry.now (map (λ queues. queues.items) sources.entry.now) (map (λ row. map inbox_of row.items) inbox.items)) (map (λ row. row.items) made.items)) }
 {
     let mut heads = heads.into_iter();
     let mut inbox = inbox.into_iter();
     let mut workers = Vec::new(alloc);
-    let mut wakers = Vec::new(alloc);
     for number in 0..config.tenants().len() {
         let tenant = TenantId(number as u32);
         let own_heads = next_of(&mut heads);
         let own_inbox = next_of(&mut inbox);
-        let (own, woken) = seat_pipelines(
+        let mut own_wakers = Vec::new(alloc);
+        let own = seat_pipelines(
             alloc,
             config,
             tenant,
@@ -170,11 +175,12 @@ pub(crate) fn seat_workers<'a, G>(
             own_heads,
             own_inbox,
             gate,
+            &mut own_wakers,
         )?;
         workers.push(own)?;
-        wakers.push(woken)?;
+        wakers.push(own_wakers)?;
     }
-    Ok((workers, wakers))
+    Ok(workers)
 }
 
 // A worker for each pipeline of a tenant.
@@ -186,17 +192,17 @@ fn seat_pipelines<'a, G>(
     heads: Vec<FreeHead<PipelineItem>>,
     inbox: Vec<PipelineInbox>,
     gate: &'a G,
-) -> Result<(Vec<Worker<'a, G>>, Vec<Unparker>), Memory>
+    wakers: &mut Vec<Unparker>,
+) -> Result<Vec<Worker<'a, G>>, Memory>
     requires sources { length sources.now ≡ length (pipelines_of config.now tenant.0) }
     requires heads { heads.items ≡ map fresh_head sources.now }
     requires inbox { length inbox.items ≡ length (pipelines_of config.now tenant.0) }
-    ensures count { IfOk result (λ made. length made.0.items ≡ length (pipelines_of config.entry.now tenant.0)) }
-    ensures workers { IfOk result (λ made. EachAt (IsWorkerOf config.entry.now tenant.0 sources.entry.now (map inbox_of inbox.items)) made.0.items) }
+    ensures count { IfOk result (λ made. length made.items ≡ length (pipelines_of config.entry.now tenant.0)) }
+    ensures workers { IfOk result (λ made. EachAt (IsWorkerOf config.entry.now tenant.0 sources.entry.now (map inbox_of inbox.items)) made.items) }
 {
     let mut heads = heads.into_iter();
     let mut inbox = inbox.into_iter();
     let mut workers = Vec::new(alloc);
-    let mut wakers = Vec::new(alloc);
     for number in 0..config.pipelines(tenant).len() {
         let pipeline = PipelineId(number as u32);
         let place = next_of(&mut inbox);
@@ -219,5 +225,5 @@ fn seat_pipelines<'a, G>(
             gate,
         })?;
     }
-    Ok((workers, wakers))
+    Ok(workers)
 }

@@ -5,30 +5,30 @@ ghost use Rattle.gate_config.specs.Lookups.{connections_of};
 ghost use Rattle.gate_source.specs.Stops.{IsNoteOf};
 ghost use Rattle.gate_run.specs.Gatherings.{report_of_pipeline};
 ghost use Rattle.gate_reader.specs.Asked.{AreKnown};
-ghost use Rattle.gate_run.specs.Asked.{KnowsStill};
-ghost use Rattle.gate_run.specs.Inner.Asked.{knows_as_much};
+ghost use Rattle.gate_posts.specs.Asked.{KnowsStill};
+ghost use Rattle.gate_posts.specs.Asked.{knows_as_much};
 ghost use Rattle.gate_run.specs.Inner.Gatherings.{inbox_back, most_asked, report_of_reader};
 ghost use Rattle.gate_threads.specs.Lists.{Each};
 ghost use Rattle.gate_reader.specs.Readers.{notes_of};
-ghost use Rattle.gate_run.specs.Ports.{IsInboxFor};
+ghost use Rattle.gate_posts.specs.Ports.{IsInboxFor};
 ghost use Rattle.gate_threads.specs.Seats.{seat_in, seat_of};
 ghost use Rattle.gate_run.specs.Serving.{Serves};
 ghost use Rattle.gate_threads.specs.Stages.{AreLanesSettled, IsStageSettled};
 
-use crate::asked::Asked;
 use crate::gathering::{Ends, Readings, Workings, gather_readers, gather_seats, gather_workers};
-use crate::posts::Inbox;
 use crate::queues::{Queues, open_queues};
 use crate::running::run_between;
 use gate_config::Generations;
 use gate_pipeline::{Pipeline, what_was_taken_is_processed};
+use gate_posts::{Asked, Inbox};
 use gate_queue::{EventQueue, FreeQueue};
 use gate_record::{
     ConnEntry, Memory, PipelineItem, TenantItem, entries_have_generations, records_have_generations,
 };
+use gate_report::{PLACES, RunReport};
 use gate_source::RecordFeed;
 use gate_threads::{RunFault, settle_lane, settle_lanes, settle_stage};
-use gate_ways::{PLACES, RunReport, each_way_delivers};
+use gate_ways::each_way_delivers;
 use gate_worker::Gate;
 use std::alloc::Global;
 use std::sync::Wait;

@@ -10,11 +10,11 @@ use Rattle.gate_config.specs.declared.generations.Generations.{Generations}
 use Rattle.gate_config.specs.declared.config.PipelineSpec.{PipelineSpec}
 use Rattle.gate_config.specs.declared.config.TenantSpec.{TenantSpec}
 use Rattle.gate_config.specs.Lookups.{connections_of, lists, pipelines_of, tenants_of}
-use Rattle.gate_ways.specs.declared.report.PipelineReport.{PipelineReport}
-use Rattle.gate_ways.specs.declared.report.RunReport.{RunReport}
+use Rattle.gate_report.specs.declared.report.PipelineReport.{PipelineReport}
+use Rattle.gate_report.specs.declared.report.RunReport.{RunReport}
 use Rattle.gate_ways.specs.Wanted.{numbers_from, wanted}
 use Rattle.gate_core.specs.Output.{connection_lines, done_lines, done_start, number_text, pipeline_line, pipeline_lines, report_text, tenant_lines}
-use Rattle.gate_run.specs.Ports.{at_pipeline, pipeline_counts}
+use Rattle.gate_posts.specs.Ports.{at_pipeline, pipeline_counts}
 use Rattle.gate_told.specs.Told.{AllFinished, Stream, all_lines, ended_with, finished_lines, in_force_of, text_of, wanted_lines}
 
 pub the_same : {X : Type 0} (x y : X) → Some x ≡ Some y → x ≡ y

@@ -4,18 +4,18 @@ use Rattle.std.specs.Prelude.{Option, None, option_map, slice_get, unwrap_or}
 use Rattle.std.proofs.lemmas.Option.{slice_get-map, slice_get_within}
 use Rattle.std.proofs.lemmas.List.{length-map}
 use Rattle.gate_record.specs.declared.record.Record.{Record}
-use Rattle.gate_ways.specs.declared.report.ConnectionReport.{ConnectionReport}
-use Rattle.gate_ways.specs.declared.report.EndCause.{EndCause}
-use Rattle.gate_ways.specs.declared.report.EndCause.TheVariants.{Ended}
+use Rattle.gate_report.specs.declared.report.ConnectionReport.{ConnectionReport}
+use Rattle.gate_report.specs.declared.report.EndCause.{EndCause}
+use Rattle.gate_report.specs.declared.report.EndCause.TheVariants.{Ended}
 use Rattle.gate_source.specs.Feeds.{AreAll, Told}
 use Rattle.gate_source.specs.Stops.{Note}
 use Rattle.gate_run.specs.Gatherings.{report_of_pipeline}
-use Rattle.gate_run.specs.Ports.{InboxView}
+use Rattle.gate_posts.specs.Ports.{InboxView}
 use Rattle.gate_reader.specs.Readers.{Means}
 use Rattle.gate_run.specs.Serving.{Delivers, HaveEnded, lines_of, renewals_of}
 use Rattle.gate_record.specs.Entries.{beside}
 use Rattle.gate_config.specs.declared.generations.Generations.{Generations}
-use Rattle.gate_ways.specs.declared.report.PipelineReport.{PipelineReport}
+use Rattle.gate_report.specs.declared.report.PipelineReport.{PipelineReport}
 use Rattle.gate_ways.specs.Wanted.{wanted}
 use Rattle.gate_told.specs.Told.{AllEnded, Stream, TheReportTellsTheStreams, ended_with, in_force, in_force_of, text_of}
 use Rattle.gate_told.proofs.Printed.{AreDone, every_text_is_told, the_same}

@@ -6,14 +6,14 @@ use Rattle.gate_config.specs.declared.generations.Generations.{Generations}
 use Rattle.gate_config.specs.declared.config.PipelineSpec.{PipelineSpec}
 use Rattle.gate_config.specs.declared.config.TenantSpec.{TenantSpec}
 use Rattle.gate_config.specs.Lookups.{connections_of, lists, tenants_of}
-use Rattle.gate_ways.specs.declared.report.ConnectionReport.{ConnectionReport}
-use Rattle.gate_ways.specs.declared.report.EndCause.TheVariants.{Ended}
-use Rattle.gate_ways.specs.declared.report.PipelineReport.{PipelineReport}
-use Rattle.gate_ways.specs.declared.report.RunReport.{RunReport}
+use Rattle.gate_report.specs.declared.report.ConnectionReport.{ConnectionReport}
+use Rattle.gate_report.specs.declared.report.EndCause.TheVariants.{Ended}
+use Rattle.gate_report.specs.declared.report.PipelineReport.{PipelineReport}
+use Rattle.gate_report.specs.declared.report.RunReport.{RunReport}
 use Rattle.gate_ways.specs.Wanted.{wanted}
 use Rattle.gate_core.specs.Output.{connection_lines, done_start, number_text, pipeline_line, report_text}
 use Rattle.gate_source.specs.Feeds.{Told}
-use Rattle.gate_run.specs.Ports.{at_pipeline, InboxView}
+use Rattle.gate_posts.specs.Ports.{at_pipeline, InboxView}
 use Rattle.gate_run.specs.Serving.{Serves}
 use Rattle.gate_pipeline.specs.States.{State}
 

@@ -4,7 +4,7 @@ use Rattle.gate_config.specs.declared.config.Config.{Config}
 use Rattle.gate_config.specs.Lookups.{connections_of, tenants_of}
 use Rattle.gate_run.specs.declared.queues.QueueSeats.{QueueSeats}
 use Rattle.gate_run.specs.declared.queues.Queues.{Queues}
-use Rattle.gate_run.specs.Ports.{pipeline_counts}
+use Rattle.gate_posts.specs.Ports.{pipeline_counts}
 use Rattle.gate_threads.specs.Seats.{fresh_head, fresh_tail}
 use Rattle.gate_threads.specs.Stages.{IsOpenStage}
 

@@ -9,11 +9,11 @@ use Rattle.gate_dispatcher.specs.declared.dispatcher.Dispatcher.{Dispatcher}
 use Rattle.gate_forwarder.specs.declared.forwarder.Forwarder.{Forwarder}
 use Rattle.gate_reader.specs.declared.reader.Reader.{Reader}
 use Rattle.gate_worker.specs.declared.worker.Worker.{Worker}
-use Rattle.gate_run.specs.Asked.{AskedView}
+use Rattle.gate_posts.specs.Asked.{AskedView}
 use Rattle.gate_dispatcher.specs.Dispatchers.{CanDispatch}
 use Rattle.gate_forwarder.specs.Forwarders.{CanForward}
 use Rattle.gate_threads.specs.Lists.{EachAt}
-use Rattle.gate_run.specs.Ports.{InboxEnds}
+use Rattle.gate_posts.specs.Ports.{InboxEnds}
 use Rattle.gate_reader.specs.Readers.{CanRead}
 use Rattle.gate_worker.specs.Workers.{CanWork}
 

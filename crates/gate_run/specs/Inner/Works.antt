@@ -19,7 +19,7 @@ use Rattle.gate_dispatcher.specs.Dispatchers.{CanDispatch, HasDispatched}
 use Rattle.gate_source.specs.Feeds.{Told}
 use Rattle.gate_forwarder.specs.Forwarders.{CanForward, HasForwarded}
 use Rattle.gate_threads.specs.Lists.{Pairwise, EachAt}
-use Rattle.gate_run.specs.Ports.{InboxEnds}
+use Rattle.gate_posts.specs.Ports.{InboxEnds}
 use Rattle.gate_reader.specs.Readers.{CanRead, HasRead}
 use Rattle.gate_run.specs.Inner.Seatings.{AreWorkersOf, Cells, IsDispatcherOf, IsForwarderOf, IsReaderOf}
 use Rattle.gate_worker.specs.Workers.{CanWork, HasWorked}

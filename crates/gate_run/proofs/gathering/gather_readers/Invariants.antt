@@ -2,8 +2,8 @@ use Rattle.std.specs.Prelude.{◌≡◌, ◌++◌, map, vec_items}
 use Rattle.std.specs.Vec.Iter.{into_iter_items}
 use Rattle.gate_source.specs.Stops.{IsNoteOf, Note}
 use Rattle.gate_reader.specs.Asked.{AreKnown}
-use Rattle.gate_run.specs.Asked.{KnowsStill}
-use Rattle.gate_run.specs.Inner.Asked.{knows_as_much}
+use Rattle.gate_posts.specs.Asked.{KnowsStill}
+use Rattle.gate_posts.specs.Asked.{knows_as_much}
 use Rattle.gate_run.specs.Inner.Gatherings.{most_asked, report_of_reader}
 use Rattle.gate_threads.specs.Lists.{Each}
 use Rattle.gate_reader.specs.Readers.{notes_of}
@@ -15,13 +15,13 @@ abbrev pub invariant-loop-end : goal.invariant-loop-end
 invariant-loop-end g l =
     let rest = into_iter_items l.end-iterator in
     let all = l.fn.ends.items in
-    (vec_items l.feeds ++ map (λ end. end.feed) rest ≡ map (λ end. end.feed) all)
-    × (vec_items l.tails ++ map (λ end. end.tail) rest ≡ map (λ end. end.tail) all)
-    × (l.connections ++ map report_of_reader rest ≡ map report_of_reader all)
-    × IsNoteOf l.fn.asked.note.cell l.asked.note
+    (vec_items l.back.feeds ++ map (λ end. end.feed) rest ≡ map (λ end. end.feed) all)
+    × (vec_items l.back.tails ++ map (λ end. end.tail) rest ≡ map (λ end. end.tail) all)
+    × (l.back.connections ++ map report_of_reader rest ≡ map report_of_reader all)
+    × IsNoteOf l.fn.asked.note.cell l.back.asked.note
     × Each (λ end. IsNoteOf l.fn.asked.note.cell end.note) rest
-    × ((note : Note) → knows_as_much l.asked.note note → Each (λ end. knows_as_much end.note note) rest → Each (λ end. knows_as_much end.note note) all)
-    × (l.asked.cells ≡ l.fn.asked.cells)
+    × ((note : Note) → knows_as_much l.back.asked.note note → Each (λ end. knows_as_much end.note note) rest → Each (λ end. knows_as_much end.note note) all)
+    × (l.back.asked.cells ≡ l.fn.asked.cells)
     × Each (λ end. AreKnown l.fn.asked.cells (notes_of end.renewals.items)) rest
-    × (most_asked l.asked.asked rest ≡ most_asked l.fn.asked.asked all)
-    × KnowsStill l.fn.asked.note l.asked.note
+    × (most_asked l.back.asked.asked rest ≡ most_asked l.fn.asked.asked all)
+    × KnowsStill l.fn.asked.note l.back.asked.note

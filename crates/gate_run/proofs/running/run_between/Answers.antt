@@ -1,8 +1,8 @@
 use Rattle.std.proofs.Common.{List, ◌∙◌, ap, sym, subst, length, map}
 use Rattle.gate_config.specs.Lookups.{connections_of, tenants_of}
 use Rattle.gate_queue.specs.Seats.{Shape}
-use Rattle.gate_run.specs.PipelineEnds.{inbox_of}
-use Rattle.gate_run.specs.Ports.{pipeline_counts}
+use Rattle.gate_posts.specs.PipelineEnds.{inbox_of}
+use Rattle.gate_posts.specs.Ports.{pipeline_counts}
 use Rattle.gate_threads.specs.Lists.{EachAt}
 use Rattle.gate_run.specs.Inner.Seatings.{AreWorkersOf, Cells, IsDispatcherOf, IsForwarderOf, IsReaderOf, IsWorkerOf}
 use Rattle.gate_run.specs.Inner.Works.{ReadyToDispatch, ReadyToForward, ReadyToRead, ReadyToWork}

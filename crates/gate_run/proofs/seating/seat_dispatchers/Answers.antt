@@ -49,8 +49,8 @@ loop-number-preserved c =
     let here' : slice_get targets number ≡ Some target = slice_get_read targets (length targets) number target refl low' (search rules) in
     let slice = c.as_slice.ensures.value in
     let row_here = here_mapped (λ row. row.items) tails number c.next_of-in-loop-number.result (next_is tails number c.next_of-in-loop-number.result (into_iter_items c.next_of-in-loop-number.new.rest) tail_step) in
-    let more = one_more (IsDispatcherOf gens sources (map (λ queues. queues.items) targets)) c.loop-number.dispatchers.items c.push-in-loop-number.new.self.items _ number many each
+    let more = one_more (IsDispatcherOf gens sources (map (λ queues. queues.items) targets)) c.loop-number.dispatchers.items c.push.new.self.items _ number many each
     (dispatcher_of gens sources (map (λ queues. queues.items) targets) heads (map (λ row. row.items) tails) number _ refl refl here
     (here_mapped (λ queues. queues.items) targets number target here' ∙ ap Some (sym slice)) (ap length slice ∙ count_here (λ queues. length queues.items) (λ t. length (pipelines_of gens.first t)) targets tenants number target c.requires.targets here')
-    (next_is heads number c.next_of.result (into_iter_items c.next_of.new.rest) head_step) c.requires.heads row_here (c.requires.tails ∙ sym (map_map (map (fresh_tail 0)) (λ queues. queues.items) targets))) c.in_ok-push-2.ensures.items in
+    (next_is heads number c.next_of.result (into_iter_items c.next_of.new.rest) head_step) c.requires.heads row_here (c.requires.tails ∙ sym (map_map (map (fresh_tail 0)) (λ queues. queues.items) targets))) c.in_ok-push.ensures.items in
     (more.many, left_is heads number c.next_of.result (into_iter_items c.next_of.new.rest) head_step, left_is tails number c.next_of-in-loop-number.result (into_iter_items c.next_of-in-loop-number.new.rest) tail_step, more.each)

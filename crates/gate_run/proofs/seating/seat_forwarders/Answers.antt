@@ -33,7 +33,7 @@ loop-number-preserved c =
     let inside : number < length (connections_of gens.first) = search rules in
     let here : slice_get sources number ≡ Some source = slice_get_read sources (length sources) number source refl low (search rules) in
     let row_here = here_mapped (λ row. row.items) tails number c.next_of-in-loop-number.result (next_is tails number c.next_of-in-loop-number.result (into_iter_items c.next_of-in-loop-number.new.rest) tail_step) in
-    let more = one_more (IsForwarderOf gens sources c.args.targets.now) c.loop-number.forwarders.items c.push-in-loop-number.new.self.items _ number many each
+    let more = one_more (IsForwarderOf gens sources c.args.targets.now) c.loop-number.forwarders.items c.push.new.self.items _ number many each
     (forwarder_of gens sources c.args.targets.now heads (map (λ row. row.items) tails) (length (connections_of gens.first)) number _ refl refl here refl
-    (next_is heads number c.next_of.result (into_iter_items c.next_of.new.rest) head_step) c.requires.heads row_here c.requires.tails inside c.requires.targets) c.in_ok-push-2.ensures.items in
+    (next_is heads number c.next_of.result (into_iter_items c.next_of.new.rest) head_step) c.requires.heads row_here c.requires.tails inside c.requires.targets) c.in_ok-push.ensures.items in
     (more.many, left_is heads number c.next_of.result (into_iter_items c.next_of.new.rest) head_step, left_is tails number c.next_of-in-loop-number.result (into_iter_items c.next_of-in-loop-number.new.rest) tail_step, more.each)

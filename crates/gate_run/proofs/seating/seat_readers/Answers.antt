@@ -20,7 +20,7 @@ loop-number-preserved g c =
     let tail_step = sym c.next_of-in-loop-number.ensures.next ∙ seated in
     let low : number < length queues = search rules in
     let here : slice_get queues number ≡ Some queue = slice_get_read queues (length queues) number queue refl low (search rules) in
-    let more = one_more (IsReaderOf g.F.RecordFeed.fault_count feeds queues cells) c.loop-number.readers.items c.push-in-loop-number.new.self.items _ number many each
+    let more = one_more (IsReaderOf g.F.RecordFeed.fault_count feeds queues cells) c.loop-number.readers.items c.push.new.self.items _ number many each
     (reader_of g.F.RecordFeed.fault_count feeds queues tails cells number _ (next_is feeds number c.next_of.result (into_iter_items c.next_of.new.rest) feed_step) here (next_is tails number c.next_of-in-loop-number.result (into_iter_items c.next_of-in-loop-number.new.rest) tail_step)
-    c.requires.tails c.requires.few refl refl refl c.requires.some c.note.ensures.0) c.in_ok-push-2.ensures.items in
+    c.requires.tails c.requires.few refl refl refl c.requires.some c.note.ensures.0) c.in_ok-push.ensures.items in
     (more.many, left_is feeds number c.next_of.result (into_iter_items c.next_of.new.rest) feed_step, left_is tails number c.next_of-in-loop-number.result (into_iter_items c.next_of-in-loop-number.new.rest) tail_step, more.each)

@@ -5,7 +5,7 @@ use Rattle.std.proofs.lemmas.List.{map-append}
 use Rattle.std.proofs.lemmas.Option.{slice_get_read}
 use Rattle.std.specs.Vec.Iter.{into_iter_items}
 use Rattle.gate_config.specs.Lookups.{pipelines_of, tenants_of}
-use Rattle.gate_run.specs.PipelineEnds.{inbox_of}
+use Rattle.gate_posts.specs.PipelineEnds.{inbox_of}
 use Rattle.gate_run.specs.Inner.Seatings.{AreWorkersOf}
 use Rattle.gate_threads.specs.Seats.{fresh_head}
 use Rattle.gate_threads.proofs.Paired.{map_length}

@@ -1,10 +1,10 @@
 use Rattle.std.proofs.Common.{◌∙◌, sym, ap, subst, length, map}
-use Rattle.gate_run.specs.Asked.{KnowsStill}
+use Rattle.gate_posts.specs.Asked.{KnowsStill}
 use Rattle.gate_run.specs.Gatherings.{report_of_pipeline}
 use Rattle.gate_run.specs.Inner.Gatherings.{inbox_back, most_asked}
 use Rattle.gate_run.specs.Inner.Queues.{AreOpen}
-use Rattle.gate_run.specs.PipelineEnds.{inbox_of}
-use Rattle.gate_run.specs.Ports.{InboxView}
+use Rattle.gate_posts.specs.PipelineEnds.{inbox_of}
+use Rattle.gate_posts.specs.Ports.{InboxView}
 use Rattle.gate_threads.proofs.Paired.{map_length}
 use Rattle.gate_run.proofs.Promised.{serves}
 use Rattle.gate_threads.proofs.Seated.{map_map}

@@ -1,5 +1,5 @@
 use Rattle.std.proofs.Common.{◌∙◌, refl, ap, arith}
-use Rattle.gate_ways.specs.declared.report.EndCause.TheVariants as cause
+use Rattle.gate_report.specs.declared.report.EndCause.TheVariants as cause
 use Rattle.gate_reader.proofs.Readings.{cut_means, means_ended, reading_begins, reading_ends}
 use Rattle.gate_reader.proofs.reader.ReaderWorkReaderEnd.work.Goals as goal
 

@@ -1,10 +1,12 @@
 use Rattle.std.proofs.Common.{List, map, subst}
+use Rattle.std.specs.Prelude.{IfOk}
 use denote.Param.Send.{IsSync, sendable}
 use Rattle.gate_dispatcher.specs.declared.dispatcher.Dispatcher.{Dispatcher}
 use Rattle.gate_forwarder.specs.declared.forwarder.Forwarder.{Forwarder}
 use Rattle.gate_reader.specs.declared.reader.Reader.{Reader}
 use Rattle.gate_worker.specs.declared.worker.Worker.{Worker}
 use Rattle.gate_threads.specs.Lists.{Pairwise}
+use Rattle.gate_run.specs.declared.gathering.Ends.{Ends}
 use Rattle.gate_run.specs.Inner.Works.{Dispatched, Forwarded, Read, Worked}
 use Rattle.gate_run.proofs.Sendings.{dispatcher_send, forwarder_send, worker_send}
 use Rattle.gate_run.proofs.running.fn.run_works.scope.Goals as goal
@@ -20,8 +22,8 @@ start_lists-requires-send-W g c κs within = let s = c.config_crosses.ensures.sy
 
 pub returns : goal.returns
 returns g c = record {
-  readers = subst (λ (ws : List (Reader _)). Pairwise (Read g.F.RecordFeed.to_come g.F.RecordFeed.fault_count) ws c.in_ok-join_all.field-0.items) c.in_ok-readers.ensures c.in_ok-join_all.ensures;
-  forwarders = subst (λ (ws : List Forwarder). Pairwise Forwarded ws c.in_ok-join_all-2.field-0.items) c.in_ok-forwarders.ensures c.in_ok-join_all-2.ensures;
-  dispatchers = subst (λ (ws : List Dispatcher). Pairwise Dispatched ws c.in_ok-join_all-3.field-0.items) c.in_ok-dispatchers.ensures c.in_ok-join_all-3.ensures;
-  workers = subst (λ (ws : List (List (Worker _))). Pairwise (Pairwise Worked) ws (map (λ list. list.items) c.in_ok-join_lists.field-0.items)) c.in_ok-workers.ensures c.in_ok-join_lists.ensures;
+  readers = subst (λ (ws : List (Reader _)). IfOk c.join_works.result (λ (ends : Ends _). Pairwise (Read g.F.RecordFeed.to_come g.F.RecordFeed.fault_count) ws ends.readers.items)) c.in_ok-readers.ensures c.join_works.ensures.readers;
+  forwarders = subst (λ (ws : List Forwarder). IfOk c.join_works.result (λ (ends : Ends _). Pairwise Forwarded ws ends.forwarders.items)) c.in_ok-forwarders.ensures c.join_works.ensures.forwarders;
+  dispatchers = subst (λ (ws : List Dispatcher). IfOk c.join_works.result (λ (ends : Ends _). Pairwise Dispatched ws ends.dispatchers.items)) c.in_ok-dispatchers.ensures c.join_works.ensures.dispatchers;
+  workers = subst (λ (ws : List (List (Worker _))). IfOk c.join_works.result (λ (ends : Ends _). Pairwise (Pairwise Worked) ws (map (λ list. list.items) ends.workers.items))) c.in_ok-workers.ensures c.join_works.ensures.workers;
 }

@@ -1,0 +1,10 @@
+pub mod Attributes
+pub mod Finding
+pub mod Masks
+pub mod Narrowed
+pub mod Results
+pub mod Rows
+pub mod RuledOut
+pub mod Texts
+pub mod Truncated
+pub mod Votes

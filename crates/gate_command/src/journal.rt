@@ -1,0 +1,159 @@
+//! The journal of a run: one file, to which the lines of all pipelines go.
+use gate_config::{Config, Generations};
+use gate_items::{Action, Items, Outcome};
+use gate_journal::{PipelineJournal, Place, push_end, push_start, write_lines};
+use gate_record::{Memory, PipelineId, Shared, Stamp, TenantId};
+use std::alloc::Global;
+use std::fs::{File, OpenOptions};
+use std::io;
+use std::io::ErrorKind;
+use std::rt::Files;
+
+/// Why a journal has no lines of what came later.
+#[derive(Clone, Copy, Debug, PartialEq, Eq)]
+pub enum JournalFault {
+    /// Its file can't be opened or written.
+    File,
+    /// Memory was refused.
+    Memory,
+}
+
+/// A journal that is written, until a line of it can't be.
+#[derive(Drop)]
+pub struct Journal {
+    alloc: Global,
+    gens: Shared<Generations>,
+    file: File,
+    // By tenant and pipeline number.
+    pipelines: Vec<Vec<PipelineJournal>>,
+    // Those of the last action: their room serves the next ones.
+    lines: String,
+    fault: Option<JournalFault>,
+}
+
+/// Opens the file of a journal, which is made where it is missing and appended to, and writes the line with which a run begins. A FIFO
+/// waits for its reader.
+pub fn open_journal<X: Files<File = File> + AllocGlobal>(
+    rt: &X,
+    path: &str,
+) -> Result<File, JournalFault> {
+    let mut start = String::new(rt.alloc());
+    push_start(&mut start)?;
+    let mut file = opened(OpenOptions::new().append(true).create(true).open(rt, path))?;
+    opened(write_lines(&mut file, start.as_str()))?;
+    Ok(file)
+}
+
+fn opened<T>(answer: io::Result<T>) -> Result<T, JournalFault> {
+    match answer {
+        Ok(value) => Ok(value),
+        Err(error) if error.kind() == ErrorKind::OutOfMemory => Err(JournalFault::Memory),
+        Err(_) => Err(JournalFault::File),
+    }
+}
+
+impl From<Memory> for JournalFault {
+    fn from(_refused: Memory) -> JournalFault {
+        JournalFault::Memory
+    }
+}
+
+impl Journal {
+    /// The journal of a run of these generations, whose pipelines begin with no items.
+    pub fn new(
+        alloc: Global,
+        gens: Shared<Generations>,
+        file: File,
+    ) -> Result<Journal, JournalFault> {
+        let pipelines = first_of(alloc, gens.get().first())?;
+        Ok(Journal {
+            alloc,
+            gens,
+            file,
+            pipelines,
+            lines: String::new(alloc),
+            fault: None,
+        })
+    }
+
+    /// Writes the lines of a pipeline's next action, by the items behind it. The stamp is that of a trigger event.
+    pub fn tell(
+        &mut self,
+        tenant: TenantId,
+        pipeline: PipelineId,
+        items: &Items,
+        stamp: Option<Stamp>,
+        action: &Action,
+        outcome: Outcome,
+    ) {
+        if self.fault.is_some() {
+            return;
+        }
+        let Some(pipelines) = self.pipelines.get_mut(tenant.0 as usize) else {
+            return;
+        };
+        let Some(journal) = pipelines.get_mut(pipeline.0 as usize) else {
+            return;
+        };
+        let place = Place {
+            config: self.gens.get().first(),
+            tenant,
+            pipeline,
+        };
+        self.lines.clear();
+        let made = journal.push_action(
+            &mut self.lines,
+            self.alloc,
+            &place,
+            items,
+            stamp,
+            action,
+            outcome,
+        );
+        self.write(made);
+    }
+
+    /// Writes the line behind which nothing comes of a pipeline.
+    pub fn end(&mut self, tenant: TenantId, pipeline: PipelineId, finished: bool) {
+        if self.fault.is_some() {
+            return;
+        }
+        let place = Place {
+            config: self.gens.get().first(),
+            tenant,
+            pipeline,
+        };
+        self.lines.clear();
+        let made = push_end(&mut self.lines, self.alloc, &place, finished);
+        self.write(made);
+    }
+
+    /// Why lines are missing, if any are.
+    pub fn fault(&self) -> Option<JournalFault> {
+        self.fault
+    }
+
+    // Lines that were made go to the file at once. An action that says nothing has none.
+    fn write(&mut self, made: Result<(), Memory>) {
+        if made.is_err() {
+            self.fault = Some(JournalFault::Memory);
+        } else if !self.lines.is_empty()
+            && write_lines(&mut self.file, self.lines.as_str()).is_err()
+        {
+            self.fault = Some(JournalFault::File);
+        }
+    }
+}
+
+// The journals of all pipelines.
+fn first_of(alloc: Global, config: &Config) -> Result<Vec<Vec<PipelineJournal>>, Memory> {
+    let mut all = Vec::new(alloc);
+    for tenant in config.tenants() {
+        let mut own = Vec::new(alloc);
+        for pipeline in tenant.pipelines.as_slice() {
+            own.push(PipelineJournal::new(alloc, pipeline.manager))?;
+        }
+        all.push(own)?;
+    }
+    Ok(all)
+}

@@ -1,0 +1,2 @@
+-- What only private contracts and proofs cite: no public contract rests on it.
+pub mod Asked

@@ -1,0 +1,4 @@
+pub mod Asked
+pub mod Inner
+pub mod PipelineEnds
+pub mod Ports
