@@ -5,6 +5,7 @@ use Rattle.gate_config.specs.declared.config.Config.{Config}
 use Rattle.gate_config.specs.declared.config.TenantSpec.{TenantSpec}
 use Rattle.gate_config.specs.declared.config.PipelineSpec.{PipelineSpec}
 use Rattle.gate_config.specs.Lookups.{connections_of, tenants_of, pipelines_of}
+use Rattle.gate_pipeline.specs.States as worker
 use Rattle.gate_core.specs.declared.pipeline.Pipeline.{Pipeline}
 use Rattle.gate_report.specs.declared.report.ConnectionReport.{ConnectionReport}
 use Rattle.gate_report.specs.declared.report.EndCause.{EndCause}
@@ -45,7 +46,7 @@ abbrev pub connection_report : ConnectionState → ConnectionReport
 connection_report conn = record { accepted = conn.accepted; renewals = conn.renewals; cause = cause_of conn.closed }
 
 abbrev pub pipeline_report : Pipeline → PipelineReport
-pipeline_report pipeline = record { done = pipeline.worker.done; finished = pipeline.worker.finished }
+pipeline_report pipeline = worker.report_of pipeline.worker
 
 abbrev pub tenant_report : TenantState → List PipelineReport
 tenant_report tenant = map pipeline_report tenant.pipelines

@@ -66,11 +66,7 @@ fn report_pipelines(
 {
     let mut reports = Sequence::empty(alloc);
     for pipeline in pipelines {
-        let done = pipeline.worker.done().to_vec(alloc)?;
-        reports.push(PipelineReport {
-            done: Sequence::new(done),
-            finished: pipeline.worker.finished(),
-        })?;
+        reports.push(pipeline.worker.report(alloc)?)?;
     }
     Ok(reports)
 }

@@ -8,6 +8,7 @@ use Rattle.gate_record.specs.declared.transit.PipelineItem.TheVariants as item
 use Rattle.gate_config.specs.declared.config.Config.{Config}
 use Rattle.gate_config.specs.declared.config.PipelineSpec.{PipelineSpec}
 use Rattle.gate_config.specs.Lookups.{pipelines_of}
+use Rattle.gate_report.specs.declared.report.PipelineReport.{PipelineReport}
 use Rattle.gate_items.specs.declared.action.Action.{Action}
 use Rattle.gate_items.specs.declared.action.Action.TheVariants as action
 use Rattle.gate_items.specs.declared.action.Outcome.{Outcome}
@@ -45,6 +46,10 @@ manager_of config t p = unwrap_or (option_map (λ (pipeline : PipelineSpec). pip
 -- nothing was taken, and build sets are numbered from 0
 abbrev pub first_state : Config → ℕ → ℕ → State
 first_state config t p = record { tenant = t; pipeline = p; pass = first_pass; held = None; done = []; finished = false; items = start (manager_of config t p) 0 }
+
+-- what a run says of it
+abbrev pub report_of : State → PipelineReport
+report_of state = record { done = state.done; finished = state.finished }
 
 -- ---- what is to be done next
 

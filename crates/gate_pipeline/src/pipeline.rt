@@ -1,12 +1,13 @@
-ghost use Rattle.std.specs.Prelude.{◌≡◌, OnErr, MatchResult, true};
-ghost use Rattle.gate_pipeline.specs.States.{MayBeRefused, Takes, applied, asked, first_state, found_empty, is_taking, next_of, processed, to_process};
+ghost use Rattle.std.specs.Prelude.{◌≡◌, IfOk, OnErr, MatchResult, true};
+ghost use Rattle.gate_pipeline.specs.States.{MayBeRefused, Takes, applied, asked, first_state, found_empty, is_taking, next_of, processed, report_of, to_process};
 
 use crate::pass::{Pass, Phase, Taking};
 use crate::trigger::{manager_of, trigger_of};
 use crate::which::{Held, Processed, Taken, Which};
 use gate_config::Config;
 use gate_items::{Action, Items, Outcome};
-use gate_record::{Memory, PipelineId, PipelineItem, Stamp, Stamped, TenantId};
+use gate_record::{Memory, PipelineId, PipelineItem, Sequence, Stamp, Stamped, TenantId};
+use gate_report::PipelineReport;
 use std::alloc::Global;
 use std::marker::Model;
 
@@ -118,6 +119,17 @@ impl Pipeline {
         ensures { result ≡ self.now.finished }
     {
         self.finished
+    }
+
+    /// What a run says of the pipeline: the stamps of the trigger events that were processed, and whether the end mark was taken.
+    pub fn report(&self, alloc: Global) -> Result<PipelineReport, Memory>
+        ensures { IfOk result (λ report. report ≡ report_of self.now) }
+    {
+        let done = self.done().to_vec(alloc)?;
+        Ok(PipelineReport {
+            done: Sequence::new(done),
+            finished: self.finished,
+        })
     }
 
     /// The queue items and the reports.

@@ -51,7 +51,7 @@ use Rattle.gate_reader.specs.Asked.{AreKnown}
 use Rattle.gate_posts.specs.Asked.{KnowsStill}
 use Rattle.gate_posts.specs.Asked.{knows_as_much}
 use Rattle.gate_run.specs.Inner.Seatings.{AreWorkersOf, Cells, IsReaderOf}
-use Rattle.gate_run.specs.Gatherings.{report_of_pipeline}
+use Rattle.gate_pipeline.specs.States.{report_of}
 use Rattle.gate_run.specs.Inner.Gatherings.{inbox_back, most_asked, report_of_reader}
 use Rattle.gate_run.specs.Serving.{Delivers, HasEnded, HasProcessed, HaveEnded, Serves, lines_of, renewals_of}
 use Rattle.gate_threads.specs.Stages.{IsStageSettled}
@@ -350,7 +350,7 @@ module _ {F G : Type 0} {gens : Generations} {to_come : F → Told} {faults : F 
       there E.dispatcher_ends t (omega (arith, low, as_many _ E.threads.workers E.worker_ends E.threads.have_worked, E.threads.worker_count, E.threads.dispatcher_count, as_many _ E.threads.dispatchers E.dispatcher_ends E.threads.have_dispatched))
 
   abbrev pub reported : List (List PipelineReport)
-  reported = map (λ (ends : List WorkerEnd). map (λ (end : WorkerEnd). report_of_pipeline end.state) ends) E.worker_ends
+  reported = map (λ (ends : List WorkerEnd). map (λ (end : WorkerEnd). report_of end.state) ends) E.worker_ends
 
   -- the pipeline's worker that a report is of
   record Reported (t p : ℕ) (pipeline : PipelineReport) : Type 0 where
@@ -358,13 +358,13 @@ module _ {F G : Type 0} {gens : Generations} {to_come : F → Told} {faults : F 
     pub list_here : slice_get E.worker_ends t ≡ Some list
     pub end : WorkerEnd
     pub here : slice_get list p ≡ Some end
-    pub is : report_of_pipeline end.state ≡ pipeline
+    pub is : report_of end.state ≡ pipeline
 
   find_report : (t p : ℕ) (pipeline : PipelineReport) → at_pipeline t p reported ≡ Some pipeline → Reported t p pipeline
   find_report t p pipeline at =
       let row = row_of reported t p pipeline at in
-      let list = from (λ (ends : List WorkerEnd). map (λ (end : WorkerEnd). report_of_pipeline end.state) ends) E.worker_ends t row.row row.row_here in
-      let end = from (λ (end : WorkerEnd). report_of_pipeline end.state) list.one p pipeline (ap (λ xs. slice_get xs p) list.is ∙ row.here) in
+      let list = from (λ (ends : List WorkerEnd). map (λ (end : WorkerEnd). report_of end.state) ends) E.worker_ends t row.row row.row_here in
+      let end = from (λ (end : WorkerEnd). report_of end.state) list.one p pipeline (ap (λ xs. slice_get xs p) list.is ∙ row.here) in
       record { list = list.one; list_here = list.here; end = end.one; here = end.here; is = end.is }
 
   pub delivers : EntriesHaveGenerations → TakenIsProcessed → EachWayDelivers → Delivers gens lines counted reported
@@ -507,9 +507,9 @@ module _ {F G : Type 0} {gens : Generations} {to_come : F → Told} {faults : F 
   pub inbox_counted : map length inbox_kept ≡ pipeline_counts gens.first
   inbox_counted = mapped_lengths inbox_back E.worker_ends ∙ worker_counts
 
-  reports_kept : (xss : List (List WorkerEnd)) → map (λ (ends : List WorkerEnd). map (λ (end : WorkerEnd). report_of_pipeline end.state) ends) xss ≡ map (map report_of_pipeline) (map (λ (ends : List WorkerEnd). map (λ (end : WorkerEnd). end.state) ends) xss)
+  reports_kept : (xss : List (List WorkerEnd)) → map (λ (ends : List WorkerEnd). map (λ (end : WorkerEnd). report_of end.state) ends) xss ≡ map (map report_of) (map (λ (ends : List WorkerEnd). map (λ (end : WorkerEnd). end.state) ends) xss)
   reports_kept [] = refl
-  reports_kept (ends ∷ xss) = (λ i. sym (map_map report_of_pipeline (λ (end : WorkerEnd). end.state) ends) i ∷ reports_kept xss i)
+  reports_kept (ends ∷ xss) = (λ i. sym (map_map report_of (λ (end : WorkerEnd). end.state) ends) i ∷ reports_kept xss i)
 
   -- ---- all of it
 
@@ -523,7 +523,7 @@ module _ {F G : Type 0} {gens : Generations} {to_come : F → Told} {faults : F 
     delivers = subst (λ xs. Delivers gens lines xs report.pipelines) (sym connections) (subst (Delivers gens lines counted) (sym done) (delivers entries law ways));
     behind_marks = λ t p c pipeline connection at finished listed here. behind_marks entries law ways t p c pipeline connection
         (ap (at_pipeline t p) (sym done) ∙ at) finished listed (ap (λ (xs : List ConnectionReport). slice_get xs c) (sym connections) ∙ here);
-    reports = done ∙ reports_kept E.worker_ends ∙ ap (map (map report_of_pipeline)) (sym states);
+    reports = done ∙ reports_kept E.worker_ends ∙ ap (map (map report_of)) (sym states);
     processes = λ t p ends ends' state at at' here. processes entries records law ways t p ends ends' state
         (ap (at_pipeline t p) (sym was) ∙ at) (ap (at_pipeline t p) (sym inboxes) ∙ at') (ap (at_pipeline t p) (sym states) ∙ here);
     counts = ap (map length) states ∙ pipelines_counted;

@@ -1,3 +1,2 @@
-pub mod Gatherings
 pub mod Inner
 pub mod Serving

@@ -20,7 +20,7 @@ use Rattle.gate_source.specs.Feeds.{AreFirst, Told}
 use Rattle.gate_source.specs.Sources.{NeverFalls}
 use Rattle.gate_reader.specs.Asked.{AreKnown}
 use Rattle.gate_posts.specs.Asked.{KnowsStill}
-use Rattle.gate_run.specs.Gatherings.{report_of_pipeline}
+use Rattle.gate_pipeline.specs.States.{report_of}
 use Rattle.gate_posts.specs.Ports.{InboxEnds, InboxView, IsInboxFor, at_pipeline, pipeline_counts}
 use Rattle.gate_reader.specs.Readers.{Means, is_closed}
 use Rattle.gate_worker.specs.Workers.{TookMore}
@@ -80,7 +80,7 @@ pub record Serves {F : Type 0} (gens : Generations) (to_come : F → Told) (faul
   -- a pipeline is finished only where the end mark of each connection that its tenant lists was put
   pub behind_marks : (t p c : ℕ) (pipeline : PipelineReport) (connection : ConnectionReport) → at_pipeline t p report.pipelines ≡ Some pipeline → pipeline.finished ≡ true → lists gens.first t c ≡ true → slice_get report.connections c ≡ Some connection →
       is_closed connection.cause ≡ true
-  pub reports : report.pipelines ≡ map (map report_of_pipeline) pipelines
+  pub reports : report.pipelines ≡ map (map report_of) pipelines
   pub processes : (t p : ℕ) (ends ends' : InboxEnds) (state : State) → at_pipeline t p inbox.pipelines ≡ Some ends → at_pipeline t p inbox'.pipelines ≡ Some ends' → at_pipeline t p pipelines ≡ Some state → HasProcessed gens.first t p lines ends ends' state
   -- a pipeline for each of the configuration
   pub counts : map length pipelines ≡ pipeline_counts gens.first

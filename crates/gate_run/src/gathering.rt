@@ -1,7 +1,7 @@
 //! What threads handed back, by what becomes of it.
 ghost use Rattle.std.specs.Prelude.{◌≡◌, ◌++◌, ◌∷◌, [], IfOk, OnOk, map};
 ghost use Rattle.gate_source.specs.Stops.{IsNoteOf};
-ghost use Rattle.gate_run.specs.Gatherings.{report_of_pipeline};
+ghost use Rattle.gate_pipeline.specs.States.{report_of};
 ghost use Rattle.gate_reader.specs.Asked.{AreKnown};
 ghost use Rattle.gate_posts.specs.Asked.{KnowsStill, knows_as_much, longer};
 ghost use Rattle.gate_run.specs.Inner.Gatherings.{inbox_back, most_asked, report_of_reader};
@@ -155,7 +155,7 @@ pub(crate) fn gather_workers(alloc: Global, lists: Vec<Vec<WorkerEnd>>) -> Resul
     ensures heads { IfOk result (λ back. map (λ row. row.items) back.heads.items ≡ map (λ ends. map (λ end. end.head) ends.items) lists.items) }
     ensures pipelines { IfOk result (λ back. map (λ row. row.items) back.pipelines.items ≡ map (λ ends. map (λ end. end.state) ends.items) lists.items) }
     ensures inbox { IfOk result (λ back. map (λ row. map inbox_of row.items) back.inbox.items ≡ map (λ ends. map inbox_back ends.items) lists.items) }
-    ensures reports { IfOk result (λ back. back.reports ≡ map (λ ends. map (λ end. report_of_pipeline end.state) ends.items) lists.items) }
+    ensures reports { IfOk result (λ back. back.reports ≡ map (λ ends. map (λ end. report_of end.state) ends.items) lists.items) }
 {
     let mut heads = Vec::new(alloc);
     let mut pipelines = Vec::new(alloc);
@@ -196,9 +196,9 @@ impl TenantWorkings {
         ensures heads { OnOk result (self.new.heads.items ≡ self.old.heads.items ++ end.head ∷ []) }
         ensures pipelines { OnOk result (self.new.pipelines.items ≡ self.old.pipelines.items ++ end.state ∷ []) }
         ensures inbox { OnOk result (map inbox_of self.new.inbox.items ≡ map inbox_of self.old.inbox.items ++ inbox_back end ∷ []) }
-        ensures reports { OnOk result (self.new.reports ≡ self.old.reports ++ report_of_pipeline end.state ∷ []) }
+        ensures reports { OnOk result (self.new.reports ≡ self.old.reports ++ report_of end.state ∷ []) }
     {
-        self.reports.push(report_of(alloc, &end.state)?)?;
+        self.reports.push(end.state.report(alloc)?)?;
         let WorkerEnd {
             state,
             head,
@@ -217,23 +217,12 @@ impl TenantWorkings {
     }
 }
 
-// What a pipeline has processed, and whether its end mark was met.
-fn report_of(alloc: Global, state: &Pipeline) -> Result<PipelineReport, Memory>
-    ensures { IfOk result (λ report. report ≡ report_of_pipeline state.now) }
-{
-    let done = state.done().to_vec(alloc)?;
-    Ok(PipelineReport {
-        done: Sequence::new(done),
-        finished: state.finished(),
-    })
-}
-
 // Gathers what the workers of a tenant's pipelines handed back.
 fn gather_tenant(alloc: Global, ends: Vec<WorkerEnd>) -> Result<TenantWorkings, Memory>
     ensures heads { IfOk result (λ back. back.heads.items ≡ map (λ end. end.head) ends.items) }
     ensures pipelines { IfOk result (λ back. back.pipelines.items ≡ map (λ end. end.state) ends.items) }
     ensures inbox { IfOk result (λ back. map inbox_of back.inbox.items ≡ map inbox_back ends.items) }
-    ensures reports { IfOk result (λ back. back.reports ≡ map (λ end. report_of_pipeline end.state) ends.items) }
+    ensures reports { IfOk result (λ back. back.reports ≡ map (λ end. report_of end.state) ends.items) }
 {
     let mut back = TenantWorkings {
         heads: Vec::new(alloc),

@@ -3,7 +3,7 @@ ghost use Rattle.std.specs.Prelude.{◌≡◌, ◌∷◌, ◌-◌, ◌<◌, ◌^
 ghost use Rattle.std.specs.List.{range_with_len};
 ghost use Rattle.gate_config.specs.Lookups.{connections_of};
 ghost use Rattle.gate_source.specs.Stops.{IsNoteOf};
-ghost use Rattle.gate_run.specs.Gatherings.{report_of_pipeline};
+ghost use Rattle.gate_pipeline.specs.States.{report_of};
 ghost use Rattle.gate_reader.specs.Asked.{AreKnown};
 ghost use Rattle.gate_posts.specs.Asked.{KnowsStill};
 ghost use Rattle.gate_posts.specs.Asked.{knows_as_much};
@@ -147,7 +147,7 @@ pub(crate) fn finish<F: Drop, R: Wait>(
     requires trigger_tails { map (λ end. map seat_of end.tails.items) ends.dispatchers.items ≡ map (λ queues. map (seat_in 0) queues.items) triggers.items }
     ensures feeds { IfOk result (λ served. served.feeds.items ≡ map (λ end. end.feed) ends.readers.items) }
     ensures connections { IfOk result (λ served. served.report.connections ≡ map report_of_reader ends.readers.items) }
-    ensures reports { IfOk result (λ served. served.report.pipelines ≡ map (λ list. map (λ end. report_of_pipeline end.state) list.items) ends.workers.items) }
+    ensures reports { IfOk result (λ served. served.report.pipelines ≡ map (λ list. map (λ end. report_of end.state) list.items) ends.workers.items) }
     ensures pipelines { IfOk result (λ served. map (λ row. row.items) served.pipelines.items ≡ map (λ list. map (λ end. end.state) list.items) ends.workers.items) }
     ensures inbox { IfOk result (λ served. served.inbox.pipelines ≡ map (λ list. map inbox_back list.items) ends.workers.items) }
     ensures cell { IfOk result (λ served. IsNoteOf asked.note.cell served.inbox.note) }

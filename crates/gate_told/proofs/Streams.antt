@@ -9,7 +9,7 @@ use Rattle.gate_report.specs.declared.report.EndCause.{EndCause}
 use Rattle.gate_report.specs.declared.report.EndCause.TheVariants.{Ended}
 use Rattle.gate_source.specs.Feeds.{AreAll, Told}
 use Rattle.gate_source.specs.Stops.{Note}
-use Rattle.gate_run.specs.Gatherings.{report_of_pipeline}
+use Rattle.gate_pipeline.specs.States.{report_of}
 use Rattle.gate_posts.specs.Ports.{InboxView}
 use Rattle.gate_reader.specs.Readers.{Means}
 use Rattle.gate_run.specs.Serving.{Delivers, HaveEnded, lines_of, renewals_of}
@@ -119,5 +119,5 @@ pub the_report_tells_the_streams : {F : Type 0} (to_come : F → Told) (faults :
 the_report_tells_the_streams to_come faults gens feeds feeds' inbox inbox' report pipelines streams serves told renewed ended finished =
     let reports = reports_are streams serves.connections told renewed ended in
     every_text_is_told gens streams report reports
-    (ap (map length) serves.reports ∙ counted report_of_pipeline pipelines ∙ serves.counts)
+    (ap (map length) serves.reports ∙ counted report_of pipelines ∙ serves.counts)
     (are_done streams gens serves.lines report.connections report.pipelines (lines_are streams serves.connections told renewed ended) reports serves.delivers) finished

@@ -1,6 +1,6 @@
 use Rattle.std.specs.Prelude.{◌≡◌, ◌++◌, map, vec_items}
 use Rattle.std.specs.Vec.Iter.{into_iter_items}
-use Rattle.gate_run.specs.Gatherings.{report_of_pipeline}
+use Rattle.gate_pipeline.specs.States.{report_of}
 use Rattle.gate_run.specs.Inner.Gatherings.{inbox_back}
 use Rattle.gate_posts.specs.PipelineEnds.{inbox_of}
 use Rattle.gate_run.proofs.gathering.gather_tenant.Given as goal
@@ -12,4 +12,4 @@ invariant-loop-end l =
     (vec_items l.back.heads ++ map (λ end. end.head) rest ≡ map (λ end. end.head) all)
     × (vec_items l.back.pipelines ++ map (λ end. end.state) rest ≡ map (λ end. end.state) all)
     × (map inbox_of (vec_items l.back.inbox) ++ map inbox_back rest ≡ map inbox_back all)
-    × (l.back.reports ++ map (λ end. report_of_pipeline end.state) rest ≡ map (λ end. report_of_pipeline end.state) all)
+    × (l.back.reports ++ map (λ end. report_of end.state) rest ≡ map (λ end. report_of end.state) all)

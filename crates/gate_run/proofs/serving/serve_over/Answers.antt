@@ -1,6 +1,6 @@
 use Rattle.std.proofs.Common.{◌∙◌, sym, ap, subst, length, map}
 use Rattle.gate_posts.specs.Asked.{KnowsStill}
-use Rattle.gate_run.specs.Gatherings.{report_of_pipeline}
+use Rattle.gate_pipeline.specs.States.{report_of}
 use Rattle.gate_run.specs.Inner.Gatherings.{inbox_back, most_asked}
 use Rattle.gate_run.specs.Inner.Queues.{AreOpen}
 use Rattle.gate_posts.specs.PipelineEnds.{inbox_of}
@@ -56,7 +56,7 @@ returns g c =
     c.entries_have_generations.ensures c.records_have_generations.ensures c.what_was_taken_is_processed.ensures c.each_way_delivers.ensures served.feeds.items c.args.inbox served.inbox served.report (map (λ row. row.items) served.pipelines.items)
     (ap (λ (view : InboxView). view.pipelines) (sym c.inbox.view_is))
     known_now.feeds known_now.connections
-    (known_now.reports ∙ sym (map_map (map (λ end. report_of_pipeline end.state)) (λ list. list.items) lists))
+    (known_now.reports ∙ sym (map_map (map (λ end. report_of end.state)) (λ list. list.items) lists))
     (known_now.pipelines ∙ sym (map_map (map (λ end. end.state)) (λ list. list.items) lists))
     (known_now.inbox ∙ sym (map_map (map inbox_back) (λ list. list.items) lists))
     (known_now.cell ∙ ap (λ (view : InboxView). view.note.cell) c.inbox.view_is)

@@ -1,0 +1,5 @@
+use Rattle.gate_queue.specs.Seats.{IsTailOf}
+use Rattle.bench_parts.proofs.queues.shared.put_all.Given as goal
+
+abbrev pub invariant-loop : goal.invariant-loop
+invariant-loop g l = IsTailOf l.queue l.tail

@@ -1,5 +1,0 @@
-use Rattle.gate_queue.specs.Seats.{IsTailOf}
-use Rattle.bench_queue.proofs.free.put_all.Given as goal
-
-abbrev pub invariant-loop : goal.invariant-loop
-invariant-loop g l = IsTailOf l.queue l.tail
