@@ -196,4 +196,3 @@ fn build_patterns(alloc: Global) -> Result<()> {
     Pattern::new(alloc, "change-restored")?;
     Ok(())
 }
-

@@ -8,7 +8,12 @@ use std::alloc::Global;
 use std::io::Print;
 use std::time::{Clock, Instant};
 
-pub(crate) fn time<R: Clock + Print>(rt: &R, alloc: Global, count: &str, manager: &str) -> Result<()> {
+pub(crate) fn time<R: Clock + Print>(
+    rt: &R,
+    alloc: Global,
+    count: &str,
+    manager: &str,
+) -> Result<()> {
     let changes = count.parse::<u32>().context("the number of changes")?;
     let manager = match manager {
         "independent" => ManagerKind::Independent,
@@ -140,4 +145,3 @@ fn end_queue(alloc: Global, items: &mut Items, changes: u32) -> Result<(), Memor
     }
     Ok(())
 }
-

@@ -81,4 +81,3 @@ fn read_values(alloc: Global, bytes: &[u8], count: u32) -> Result<()> {
     }
     Ok(())
 }
-

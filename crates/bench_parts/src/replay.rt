@@ -97,4 +97,3 @@ fn one(alloc: Global, document: String) -> Result<Vec<Vec<u8>>, AllocError> {
     documents.push(document.into_bytes())?;
     Ok(documents)
 }
-

@@ -1,11 +1,15 @@
 //! Who tells the journal and the board of what the pipelines do.
+use crate::fault::Fault;
 use crate::journal::{Journal, JournalFault};
+use gate_config::Generations;
 use gate_pipeline::{Pipeline, Processed};
-use gate_posts::Stopper;
-use gate_record::{PipelineId, TenantId};
+use gate_posts::{Inbox, Stopper};
+use gate_record::{PipelineId, Shared, TenantId};
 use gate_source::StopCause;
 use gate_status::BoardGate;
 use gate_worker::Gate;
+use std::alloc::Global;
+use std::fs::File;
 use std::sync::{Mutex, Wait};
 
 /// A journal, and what asks the run to stop where a line of it can't be written.
@@ -38,6 +42,22 @@ impl Journaling {
             self.stops = self.stopper.stop(StopCause::Caller).is_ok();
         }
     }
+}
+
+/// The journal that goes to a file, if there is one, and stops the run of this inbox. `Memory` where it is refused.
+pub fn open_journaling(
+    alloc: Global,
+    gens: &Shared<Generations>,
+    inbox: &Inbox,
+    file: Option<File>,
+) -> Result<Option<Mutex<Journaling>>, Fault> {
+    let Some(file) = file else {
+        return Ok(None);
+    };
+    let Ok(journal) = Journal::new(alloc, gens.share()?, file) else {
+        return Err(Fault::Memory);
+    };
+    Ok(Some(Mutex::new(Journaling::new(journal, inbox.stopper()?))))
 }
 
 /// A gate that keeps a board, and a journal where there is one. A call waits for the locks of both; its time grows with what the action

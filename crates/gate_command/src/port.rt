@@ -56,3 +56,23 @@ impl<'a> Listening<'a> {
         }
     }
 }
+
+/// Listens at the address of the word STATUS, if there is one: the port, and its file, if it has one. `Listen` where that can't be done,
+/// `Memory` where it is refused.
+pub fn listen<'a, X>(
+    rt: &X,
+    word: &str,
+    address: Option<Address<'a>>,
+) -> Result<(Option<Port>, Option<SocketFile<'a>>), Fault>
+where
+    X: Files<File = File> + Net<Stream = TcpStream, Listener = TcpListener> + Clock + AllocGlobal,
+{
+    let Some(address) = address else {
+        return Ok((None, None));
+    };
+    match Listening::at(rt, address) {
+        Ok(Listening { port, file }) => Ok((Some(port), file)),
+        Err(error) if error.kind() == ErrorKind::OutOfMemory => Err(Fault::Memory),
+        Err(_) => Err(Fault::Listen(String::from_str(rt.alloc(), word)?)),
+    }
+}

@@ -1,11 +1,13 @@
 //! The sessions of the status port, in a thread of their own.
+ghost use Rattle.std.specs.Prelude.{◌≡◌, IfOk};
+ghost use Rattle.gate_posts.specs.Ports.{IsInboxFor};
 ghost use Rattle.gate_status.specs.Replies.{ArePostsFor};
 
 use crate::fault::Fault;
 use crate::port::Port;
 use gate_config::Generations;
 use gate_crossing::generations_cross;
-use gate_posts::Posts;
+use gate_posts::{Inbox, Posts};
 use gate_record::Shared;
 use gate_status::{Board, Counted, SessionEnd, SessionFault, session};
 use gate_stream::{LineReader, ReplyWriter, TimedRead, TimedWrite};
@@ -110,4 +112,40 @@ impl Sessions {
             &mut self.posts,
         )
     }
+}
+
+/// The inbox of a run: where there is a port, its sessions post into it, and are in their thread from now on. `Thread` where none can be
+/// started, `Memory` where it is refused.
+pub fn open_inbox<X>(
+    rt: &X,
+    gens: &Shared<Generations>,
+    board: &Shared<Mutex<Board>>,
+    port: Option<Port>,
+) -> Result<(Option<JoinHandle<Port>>, Inbox), Fault>
+where
+    X: Threads + Wait + Clock + AllocGlobal + Copy + Send + 'static,
+    ensures { IfOk result (λ opened. IsInboxFor gens.now.first opened.1) }
+{
+    match port {
+        Some(port) => start_sessions(rt, gens, board, port),
+        None => Ok((None, Inbox::without_posts(rt.alloc(), gens.get().first())?)),
+    }
+}
+
+fn start_sessions<X>(
+    rt: &X,
+    gens: &Shared<Generations>,
+    board: &Shared<Mutex<Board>>,
+    port: Port,
+) -> Result<(Option<JoinHandle<Port>>, Inbox), Fault>
+where
+    X: Threads + Wait + Clock + AllocGlobal + Copy + Send + 'static,
+    ensures { IfOk result (λ started. IsInboxFor gens.now.first started.1) }
+{
+    let alloc = rt.alloc();
+    let gens_of_sessions = gens.share()?;
+    let board = board.share()?;
+    let (posts, inbox) = Posts::open(alloc, gens.get())?;
+    let sessions = Sessions::new(port, gens_of_sessions, board, posts);
+    Ok((Some(sessions.start(rt, (*rt, alloc))?), inbox))
 }

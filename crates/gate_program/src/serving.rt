@@ -4,18 +4,17 @@ ghost use Rattle.gate_config.specs.Lookups.{connections_of};
 ghost use Rattle.gate_posts.specs.Ports.{IsInboxFor};
 
 use gate_command::{
-    Fault, Journal, JournalFault, JournalGate, Journaling, Listening, Port, Sessions, Source,
-    journaling_crosses, open_feeds, open_journal, port_address, sources_of,
+    Fault, JournalFault, JournalGate, Port, Source, journal_file, journaling_crosses, listen,
+    open_feeds, open_inbox, open_journaling, port_address, sources_of,
 };
 use gate_config::{Config, Generations, read_generations};
 use gate_core::report_text;
 use gate_record::Shared;
-use gate_run::{Inbox, Posts, ReaderFeed, RecordFeed, Served, serve};
+use gate_run::{Inbox, ReaderFeed, RecordFeed, Served, serve};
 use gate_status::{Board, BoardGate};
-use gate_stream::{Address, SocketFile, Stream};
+use gate_stream::Stream;
 use std::alloc::Global;
 use std::fs::File;
-use std::io::ErrorKind;
 use std::mem;
 use std::net::{Net, TcpListener, TcpStream};
 use std::rt::Files;
@@ -106,43 +105,6 @@ fn open_all<X: Files<File = File> + Net<Stream = TcpStream> + AllocGlobal>(
     Ok((file, feeds))
 }
 
-/// Opens a journal, if there is to be one, and writes the line of a start. `Journal` where that can't be done.
-pub(crate) fn journal_file<X: Files<File = File> + AllocGlobal>(
-    rt: &X,
-    path: &str,
-) -> Result<File, Fault> {
-    match open_journal(rt, path) {
-        Ok(file) => Ok(file),
-        Err(fault) => Err(journal_fault(rt.alloc(), path, fault)),
-    }
-}
-
-/// The fault of the program where a journal has one.
-pub(crate) fn journal_fault(alloc: Global, path: &str, fault: JournalFault) -> Fault {
-    match (fault, String::from_str(alloc, path)) {
-        (JournalFault::File, Ok(path)) => Fault::Journal(path),
-        _ => Fault::Memory,
-    }
-}
-
-fn listen<'a, X>(
-    rt: &X,
-    word: &str,
-    address: Option<Address<'a>>,
-) -> Result<(Option<Port>, Option<SocketFile<'a>>), Fault>
-where
-    X: Files<File = File> + Net<Stream = TcpStream, Listener = TcpListener> + Clock + AllocGlobal,
-{
-    let Some(address) = address else {
-        return Ok((None, None));
-    };
-    match Listening::at(rt, address) {
-        Ok(Listening { port, file }) => Ok((Some(port), file)),
-        Err(error) if error.kind() == ErrorKind::OutOfMemory => Err(Fault::Memory),
-        Err(_) => Err(Fault::Listen(String::from_str(rt.alloc(), word)?)),
-    }
-}
-
 // Runs until the streams are worked off or a session has ended by `stop`; where there is a port, one has to. What came of it, and
 // the port.
 fn run<X>(
@@ -158,45 +120,16 @@ where
     requires feeds { length feeds.items ≡ length (connections_of gens.now.first) }
     requires few { All (λ feed. ⟦<ReaderFeed<Stream> as RecordFeed>⟧.fault_count feed < 2 ^ 64 - 1) feeds.items }
 {
-    match port {
-        Some(port) => run_with_port(rt, gens, board, feeds, port, file),
-        None => run_alone(rt, gens, board, feeds, file),
-    }
-}
-
-fn run_alone<X>(
-    rt: &X,
-    gens: &Shared<Generations>,
-    board: &Shared<Mutex<Board>>,
-    feeds: Vec<ReaderFeed<Stream>>,
-    file: Option<File>,
-) -> Result<(Ran, Option<Port>), Fault>
-where
-    X: Threads + Wait + Clock + AllocGlobal + Copy + Send + Sync + 'static,
-    requires feeds { length feeds.items ≡ length (connections_of gens.now.first) }
-    requires few { All (λ feed. ⟦<ReaderFeed<Stream> as RecordFeed>⟧.fault_count feed < 2 ^ 64 - 1) feeds.items }
-{
-    let inbox = Inbox::without_posts(rt.alloc(), gens.get().first())?;
-    Ok((run_told(rt, gens, board, feeds, inbox, file)?, None))
-}
-
-fn run_with_port<X>(
-    rt: &X,
-    gens: &Shared<Generations>,
-    board: &Shared<Mutex<Board>>,
-    feeds: Vec<ReaderFeed<Stream>>,
-    port: Port,
-    file: Option<File>,
-) -> Result<(Ran, Option<Port>), Fault>
-where
-    X: Threads + Wait + Clock + AllocGlobal + Copy + Send + Sync + 'static,
-    requires feeds { length feeds.items ≡ length (connections_of gens.now.first) }
-    requires few { All (λ feed. ⟦<ReaderFeed<Stream> as RecordFeed>⟧.fault_count feed < 2 ^ 64 - 1) feeds.items }
-{
-    let (sessions, inbox) = start_sessions(rt, gens, board, port)?;
+    let (sessions, inbox) = open_inbox(rt, gens, board, port)?;
     let ran = run_told(rt, gens, board, feeds, inbox, file)?;
-    let port = sessions.join(rt);
-    Ok((ran, Some(port)))
+    Ok((ran, joined(rt, sessions)))
+}
+
+fn joined<X: Threads + Wait>(rt: &X, sessions: Option<JoinHandle<Port>>) -> Option<Port> {
+    match sessions {
+        Some(sessions) => Some(sessions.join(rt)),
+        None => None,
+    }
 }
 
 // Runs with the board and the journal told of what the pipelines do.
@@ -216,47 +149,12 @@ where
 {
     let alloc = rt.alloc();
     journaling_crosses();
-    let journal = journaling(alloc, gens, &inbox, file)?;
+    let journal = open_journaling(alloc, gens, &inbox, file)?;
     let gate = JournalGate::new(BoardGate::new(board.get()), journal.as_ref());
     let served = serve(rt, alloc, gens.get(), feeds, inbox, &gate)?;
     let report = report(alloc, gens.get().first(), served)?;
     let fault = journal.and_then(|journal| journal.lock(rt).fault());
     Ok(Ran { report, fault })
-}
-
-// The journal that goes to a file, if there is one.
-fn journaling(
-    alloc: Global,
-    gens: &Shared<Generations>,
-    inbox: &Inbox,
-    file: Option<File>,
-) -> Result<Option<Mutex<Journaling>>, Fault> {
-    let Some(file) = file else {
-        return Ok(None);
-    };
-    let Ok(journal) = Journal::new(alloc, gens.share()?, file) else {
-        return Err(Fault::Memory);
-    };
-    Ok(Some(Mutex::new(Journaling::new(journal, inbox.stopper()?))))
-}
-
-// The sessions of the port, in their thread, and the inbox of what they post.
-fn start_sessions<X>(
-    rt: &X,
-    gens: &Shared<Generations>,
-    board: &Shared<Mutex<Board>>,
-    port: Port,
-) -> Result<(JoinHandle<Port>, Inbox), Fault>
-where
-    X: Threads + Wait + Clock + AllocGlobal + Copy + Send + 'static,
-    ensures { IfOk result (λ started. IsInboxFor gens.now.first started.1) }
-{
-    let alloc = rt.alloc();
-    let gens_of_sessions = gens.share()?;
-    let board = board.share()?;
-    let (posts, inbox) = Posts::open(alloc, gens.get())?;
-    let sessions = Sessions::new(port, gens_of_sessions, board, posts);
-    Ok((sessions.start(rt, (*rt, alloc))?, inbox))
 }
 
 // The text of the report of a run, whose pipelines the system takes back when the program ends, right behind this.

@@ -56,4 +56,3 @@ pub(crate) fn timed(
     }
     bail!("the clock stands")
 }
-

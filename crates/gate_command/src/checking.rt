@@ -1,0 +1,28 @@
+//! What `check` prints.
+use crate::fault::Fault;
+use crate::files::read_files;
+use gate_config::{Generations, check_text, read_generations};
+use std::alloc::Global;
+use std::rt::Files;
+
+/// What `check` prints of the configuration in these files, a generation each: what they say, one after another. `File` where a file can't
+/// be read, the fault of the documents where they are refused, `Memory` where it is refused.
+pub fn check_files<X: Files + AllocGlobal>(rt: &X, config: Vec<String>) -> Result<String, Fault> {
+    let documents = read_files(rt, config)?;
+    check(rt.alloc(), documents.as_slice())
+}
+
+// What each generation of a configuration says, one after another.
+fn check(alloc: Global, documents: &[Vec<u8>]) -> Result<String, Fault> {
+    let gens = read_generations(alloc, documents)?;
+    text_of(alloc, &gens)
+}
+
+fn text_of(alloc: Global, gens: &Generations) -> Result<String, Fault> {
+    let mut text = String::new(alloc);
+    for g in 0..gens.count() {
+        let said = check_text(alloc, gens.generation(g))?;
+        text.push_str(said.as_str())?;
+    }
+    Ok(text)
+}

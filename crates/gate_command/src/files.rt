@@ -1,0 +1,32 @@
+//! Files that are read whole.
+use crate::fault::Fault;
+use std::io::ErrorKind;
+use std::rt::Files;
+use std::{fs, io};
+
+/// The contents of files, all of which are read before any is looked into. `File` where one can't be read, `Memory` where it is refused.
+pub fn read_files<X: Files + AllocGlobal>(
+    rt: &X,
+    paths: Vec<String>,
+) -> Result<Vec<Vec<u8>>, Fault> {
+    let mut files = Vec::new(rt.alloc());
+    for path in paths {
+        files.push(read_file(rt, path)?)?;
+    }
+    Ok(files)
+}
+
+pub(crate) fn read_file<X: Files + AllocGlobal>(rt: &X, path: String) -> Result<Vec<u8>, Fault> {
+    match fs::read(rt, path.as_str()) {
+        Ok(bytes) => Ok(bytes),
+        Err(error) => Err(reading_fault(path, &error)),
+    }
+}
+
+// Why what stands at a path, or on standard input, isn't read.
+pub(crate) fn reading_fault(path: String, error: &io::Error) -> Fault {
+    match error.kind() {
+        ErrorKind::OutOfMemory => Fault::Memory,
+        _ => Fault::File(path),
+    }
+}
