@@ -141,7 +141,7 @@ pub(crate) fn go_all(log: &mut Log, gens: &Generations, steps: &[Step]) -> Ended
         let copy = made!(log; gate_core::Step::copy(step, alloc))?;
         way.go(log, copy)?;
     }
-    tell_journal(log, config, way.processed.as_slice())
+    way.tell(log, config)
 }
 
 #[derive(Drop)]
@@ -250,6 +250,13 @@ impl Way<'_> {
             self.processed.push(processed)?;
         }
         Ok(())
+    }
+
+    // What the pipeline reports, and the journal of what it has processed.
+    fn tell(&self, log: &mut Log, config: &Config) -> Ended {
+        let report = made!(log; "gate_pipeline Pipeline::report" => self.worker.report(log.alloc))?;
+        say!(log.told, "{report:?}\n");
+        tell_journal(log, config, self.processed.as_slice())
     }
 
     // What was refused before is held, and taken again.
