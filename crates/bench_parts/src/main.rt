@@ -12,6 +12,12 @@ mod replay;
 use anyhow::{Context, Result, bail};
 use std::env;
 use std::env::Args;
+use std::fs::File;
+use std::io::Print;
+use std::rt::Files;
+use std::sync::Wait;
+use std::thread::Threads;
+use std::time::{Clock, CpuClock};
 
 /// The first word says what is timed, and those behind it are as its module says.
 fn main(rt: HostRuntime) -> Result<()> {
@@ -22,7 +28,10 @@ fn main(rt: HostRuntime) -> Result<()> {
     }
 }
 
-fn time(rt: &HostRuntime, part: &str, words: &mut Args) -> Result<()> {
+fn time<R>(rt: &R, part: &str, words: &mut Args) -> Result<()>
+where
+    R: Threads + Wait + Clock + CpuClock + Print + Files<File = File> + AllocGlobal + Sync,
+{
     let first = word(words)?;
     let first = first.as_str();
     match part {
@@ -36,18 +45,26 @@ fn time(rt: &HostRuntime, part: &str, words: &mut Args) -> Result<()> {
     }
 }
 
-fn time_items(rt: &HostRuntime, count: &str, words: &mut Args) -> Result<()> {
+fn time_items<R: Clock + Print + AllocGlobal>(rt: &R, count: &str, words: &mut Args) -> Result<()> {
     let manager = word(words)?;
     items::time(rt, rt.alloc(), count, manager.as_str())
 }
 
-fn time_matching(rt: &HostRuntime, files: &str, words: &mut Args) -> Result<()> {
+fn time_matching<R: Files<File = File> + CpuClock + AllocGlobal + Print>(
+    rt: &R,
+    files: &str,
+    words: &mut Args,
+) -> Result<()> {
     let records = word(words)?;
     let size = word(words)?;
     matching::time(rt, files, records.as_str(), size.as_str())
 }
 
-fn time_replay(rt: &HostRuntime, count: &str, words: &mut Args) -> Result<()> {
+fn time_replay<R: Clock + Print + AllocGlobal>(
+    rt: &R,
+    count: &str,
+    words: &mut Args,
+) -> Result<()> {
     let kind = word(words)?;
     replay::time(rt, rt.alloc(), count, kind.as_str())
 }
