@@ -122,6 +122,7 @@ impl Pipeline {
     }
 
     /// What a run says of the pipeline: the stamps of the trigger events that were processed, and whether the end mark was taken.
+    /// `Memory` where it is refused.
     pub fn report(&self, alloc: Global) -> Result<PipelineReport, Memory>
         ensures { IfOk result (λ report. report ≡ report_of self.now) }
     {
