@@ -390,7 +390,7 @@ out:
     leave()
 }
 
-/* ---- posts.rt, in the hands of gate_command's sessions.rt: posts go to one worker, and it may do no more at any time. */
+/* ---- posts.rt, in the hands of gate_main_command's sessions.rt: posts go to one worker, and it may do no more at any time. */
 
 #define post(queue, count, why) \
     :: atomic { count < POSTS && nfull(queue) -> queue ! event; count++ }; wake(why, WORKER) \

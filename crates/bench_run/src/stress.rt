@@ -120,7 +120,7 @@ fn run_feeds<R: Threads + Wait + Clock + Sync>(
         .context("the run")
 }
 
-ghost use Rattle.gate_posts.specs.Ports.{IsInboxFor};
+ghost use Rattle.gate_run_posts.specs.Ports.{IsInboxFor};
 
 // What came of a run. It has failed where a pipeline isn't complete, a connection ended for a wrong cause, or nothing was
 // reported.

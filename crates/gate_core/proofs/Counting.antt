@@ -23,7 +23,7 @@ use Rattle.gate_core.specs.States.{ConnectionState, State, TenantState}
 use Rattle.gate_core.specs.Steps.{close, is_past, offer, renew, refused_in, refused_step, refused_turn_of, send_from, send_of, send_to, step_of, take, take_from}
 use Rattle.gate_core.specs.Worlds.{AcceptedAtMost}
 use Rattle.gate_core.proofs.Spots.{AfterSet, after_set, another, it}
-use Rattle.gate_ways.proofs.Maps.{the_same}
+use Rattle.gate_delivery.proofs.Maps.{the_same}
 
 module _ (n : ℕ) (state : State) (few : AcceptedAtMost n state) where
   no_more : AcceptedAtMost (n + 1) state

@@ -28,7 +28,7 @@ use Rattle.gate_tenant.specs.Histories.{items_for}
 use Rattle.gate_core.specs.declared.pipeline.Pipeline.{Pipeline}
 use Rattle.gate_core.specs.Pipelines.{fresh_pipeline, took}
 use Rattle.gate_core.specs.Promises.{no_items}
-use Rattle.gate_ways.proofs.Maps.{filter_map_push}
+use Rattle.gate_delivery.proofs.Maps.{filter_map_push}
 use Rattle.gate_core.proofs.Pushes.{or_false, or_true}
 
 -- a trigger is held as its event

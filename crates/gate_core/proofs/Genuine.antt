@@ -15,13 +15,13 @@ use Rattle.gate_items.specs.declared.action.Action.{Action}
 use Rattle.gate_pipeline.specs.Histories.{asking}
 use Rattle.gate_pipeline.specs.Triggers.{trigger_of}
 use Rattle.gate_core.specs.History.{History, accepted_in_force, accepted_records, asked_by, closed, renewals}
-use Rattle.gate_ways.specs.Wanted.{asked_of}
-use Rattle.gate_ways.specs.Ways.{IsEventOf}
-use Rattle.gate_ways.proofs.Readings.{AllOf, ItemIs, TriggerIs, all_picked, forwarded_are}
+use Rattle.gate_delivery.specs.Wanted.{asked_of}
+use Rattle.gate_delivery.specs.Ways.{IsEventOf}
+use Rattle.gate_delivery.proofs.Readings.{AllOf, ItemIs, TriggerIs, all_picked, forwarded_are}
 use Rattle.gate_core.proofs.LowerLaws.{Laws}
 use Rattle.gate_core.proofs.Puts.{put_by}
 use Rattle.gate_record.specs.Entries.{AreEntriesOf}
-use Rattle.gate_ways.proofs.Maps.{the_same}
+use Rattle.gate_delivery.proofs.Maps.{the_same}
 
 -- the record of the stamp was accepted, and reads as the event
 abbrev pub IsGenuine : History → Stamped → Type 0

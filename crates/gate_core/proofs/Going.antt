@@ -33,8 +33,8 @@ use Rattle.gate_tenant.specs.Dispatching.{conn_of_item}
 use Rattle.gate_record.specs.Entries.{AreEntriesOf, accepts, behind, beside, closes, generation_behind, renews, with_generations}
 use Rattle.gate_core.proofs.LowerLaws.{Laws}
 use Rattle.gate_core.proofs.Puts.{put_by, put_push, put_stays, renewals_push, renewals_stay}
-use Rattle.gate_ways.proofs.Arrivals.{same_as_itself}
-use Rattle.gate_ways.proofs.Maps.{cons_option_is, filter_map_push}
+use Rattle.gate_delivery.proofs.Arrivals.{same_as_itself}
+use Rattle.gate_delivery.proofs.Maps.{cons_option_is, filter_map_push}
 use Rattle.gate_core.proofs.Pushes.{accepted_push, closed_push, count_push, or_false, or_true}
 use Rattle.gate_core.proofs.Sendings.{differs}
 use Rattle.gate_core.proofs.Spots.{AfterSet, after_set, another, it}

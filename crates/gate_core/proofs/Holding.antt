@@ -26,8 +26,8 @@ use Rattle.gate_core.specs.States.{ConnectionState, State, TenantState, pipeline
 use Rattle.gate_core.specs.Steps.{close, fetch, fetched, give, give_from, give_to, match_from, match_gathered, offer, on_pipeline, refused_in, renew, refused_turn_of, send_from, send_of, send_to, step_of, take, with_refused}
 use Rattle.gate_config.specs.Generations.{count_of}
 use Rattle.gate_core.proofs.Spots.{AfterSet, after_set, another, it}
-use Rattle.gate_ways.proofs.Arrivals.{same_as_itself}
-use Rattle.gate_ways.proofs.Maps.{the_same}
+use Rattle.gate_delivery.proofs.Arrivals.{same_as_itself}
+use Rattle.gate_delivery.proofs.Maps.{the_same}
 
 -- the worker of a pipeline
 abbrev worker_in : ℕ → Option TenantState → Option Worker

@@ -18,13 +18,13 @@ use Rattle.gate_pipeline.specs.Histories.{stamp_in, stamp_of}
 use Rattle.gate_pipeline.specs.States.{Processed}
 use Rattle.gate_core.specs.declared.pipeline.Pipeline.{Pipeline}
 use Rattle.gate_core.specs.History.{History, accepted_in_force, accepted_records, done, finished, renewals}
-use Rattle.gate_ways.specs.Wanted.{number_from, numbers_from, wanted}
+use Rattle.gate_delivery.specs.Wanted.{number_from, numbers_from, wanted}
 use Rattle.gate_record.specs.Prefixes.{IsPrefixOf}
 use Rattle.gate_core.specs.Promises.{Delivers}
 use Rattle.gate_core.specs.States.{TenantState, State}
-use Rattle.gate_ways.specs.Ways.{Way, number_of_item}
-use Rattle.gate_ways.proofs.Delivering.{none_wanted, prefix as taken_in_order, whole as taken_whole}
-use Rattle.gate_ways.proofs.Maps.{filter_map-filter_map, filter_map_same}
+use Rattle.gate_delivery.specs.Ways.{Way, number_of_item}
+use Rattle.gate_delivery.proofs.Delivering.{none_wanted, prefix as taken_in_order, whole as taken_whole}
+use Rattle.gate_delivery.proofs.Maps.{filter_map-filter_map, filter_map_same}
 use Rattle.gate_core.proofs.Fits.{waiting_items}
 use Rattle.gate_core.proofs.Streams.{Holds, PipeHolds, TenantHolds, count_of, generation_of, hand_of, on_way, pipe_of, queue_of}
 use Rattle.gate_core.proofs.Puts.{put_by}

@@ -29,11 +29,11 @@ use Rattle.gate_core.specs.States.{State, TenantState, items_at}
 use Rattle.gate_tenant.specs.Dispatching.{is_from}
 use Rattle.gate_core.proofs.Fits.{after_push, waiting_ended, waiting_items, waiting_managed}
 use Rattle.gate_core.proofs.Genuine.{IsAsked, IsGenuine, asked_are, genuine_forwarded}
-use Rattle.gate_ways.proofs.Readings.{AllOf, ItemIs, TriggerIs, all_at, all_from, all_front, chosen_are}
-use Rattle.gate_ways.proofs.Delivering.{head_same, tail_same}
+use Rattle.gate_delivery.proofs.Readings.{AllOf, ItemIs, TriggerIs, all_at, all_from, all_front, chosen_are}
+use Rattle.gate_delivery.proofs.Delivering.{head_same, tail_same}
 use Rattle.gate_core.proofs.Outcomes.{all_chosen}
 use Rattle.gate_core.proofs.Streams.{Holds, PipeHolds, TenantHolds, pipe_of}
-use Rattle.gate_ways.proofs.Maps.{the_same}
+use Rattle.gate_delivery.proofs.Maps.{the_same}
 
 -- ---- outcomes, one after another
 

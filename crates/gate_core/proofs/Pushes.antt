@@ -8,7 +8,7 @@ use Rattle.gate_core.specs.declared.answer.Answer.{Answer}
 use Rattle.gate_core.specs.declared.answer.Answer.TheVariants.{Closed, Full, Idle, Passed}
 use Rattle.gate_core.specs.declared.step.Step.{Step}
 use Rattle.gate_core.specs.History.{History, accepted_records, accepted_in, finished, closed, manage_posted_in, manage_posts, posted_manage, posted_result, result_posted_in, result_posts, processed_by, processed_in, is_put, has_taken, is_turn, is_close, is_take, is_offer, is_renew, is_moved, is_accepted, offered_to, processed_of, renewals, renewed_in}
-use Rattle.gate_ways.proofs.Maps.{filter_map_push}
+use Rattle.gate_delivery.proofs.Maps.{filter_map_push}
 use Rattle.gate_core.proofs.Puts.{put_by, put_stays, renewals_stay}
 
 pub accepted_push : (c : ℕ) (h : History) (e : Step × Answer) → accepted_records c (h ++ e ∷ []) ≡ accepted_records c h ++ option_to_list (accepted_in c e)

@@ -15,12 +15,12 @@ use Rattle.gate_core.specs.declared.step.Step.TheVariants as step
 use Rattle.gate_core.specs.History.{History, finished, processed_by}
 use Rattle.gate_core.specs.States.{ConnectionState, TenantState, State}
 use Rattle.gate_tenant.specs.Dispatching.{conn_of_item, is_from}
-use Rattle.gate_ways.proofs.Arrivals.{same_as_itself}
+use Rattle.gate_delivery.proofs.Arrivals.{same_as_itself}
 use Rattle.gate_core.proofs.Sendings.{differs}
 use Rattle.gate_core.proofs.Spots.{AfterSet, after_set, another, it}
 use Rattle.gate_core.proofs.Streams.{AreOf, ConnHolds, ConnSame, Holds, PipeSame, TenantHolds, conn_same, conn_untouched, generation_of, hand_of, on_way, pipe_of, pipe_same, pipe_untouched, put_same, queue_of}
 use Rattle.gate_core.proofs.Puts.{put_by}
-use Rattle.gate_ways.proofs.Maps.{the_same}
+use Rattle.gate_delivery.proofs.Maps.{the_same}
 
 -- the first item for a tenant
 for_it : (t : ℕ) (first : TenantId × TenantItem) (rest : List (TenantId × TenantItem)) → first.0.0 ≡ t → items_to t (first ∷ rest) ≡ first.1 ∷ items_to t rest

@@ -15,7 +15,7 @@ use Rattle.gate_core.specs.declared.answer.Answer.{Answer}
 use Rattle.gate_core.specs.declared.answer.Answer.TheVariants.{Idle, Moved}
 use Rattle.gate_core.specs.States.{ConnectionState}
 use Rattle.gate_core.specs.Steps.{take, take_from}
-use Rattle.gate_ways.proofs.Maps.{filter_map_none}
+use Rattle.gate_delivery.proofs.Maps.{filter_map_none}
 
 pub none_left : {A : Type 0} (xs : List A) → (length xs == 0) ≡ true → xs ≡ []
 none_left [] e = refl

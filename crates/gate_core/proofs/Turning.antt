@@ -16,13 +16,13 @@ use Rattle.gate_core.specs.declared.pipeline.Pipeline.{Pipeline}
 use Rattle.gate_core.specs.declared.step.Step.TheVariants as step
 use Rattle.gate_core.specs.History.{History, finished, is_moved, manage_posts, processed_of, result_posts, processed_by}
 use Rattle.gate_core.specs.States.{TenantState, State}
-use Rattle.gate_ways.proofs.Arrivals.{same_as_itself}
+use Rattle.gate_delivery.proofs.Arrivals.{same_as_itself}
 use Rattle.gate_core.proofs.Fits.{PipeFits, fits_same}
 use Rattle.gate_core.proofs.Pushes.{cond_none, ended_push, finished_push, managed_push, or_false, turned_push}
 use Rattle.gate_core.proofs.Spots.{AfterSet, after_set, another, it}
 use Rattle.gate_core.proofs.Streams.{ConnSame, Holds, PipeHolds, PipeSame, pipe_same, put_same}
 use Rattle.gate_core.proofs.Working.{none_before, tenant_goes_on}
-use Rattle.gate_ways.proofs.Maps.{the_same}
+use Rattle.gate_delivery.proofs.Maps.{the_same}
 
 not_both : (i j k l : ℕ) (x y : Bool) → (i == j) ≡ x → (k == l) ≡ y → ((i ≡ j) × (k ≡ l) → ⊥) → (x && y) ≡ false
 not_both i j k l true true e f no_such = absurd (no_such (eqb-true i j e, eqb-true k l f))

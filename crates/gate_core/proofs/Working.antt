@@ -20,9 +20,9 @@ use Rattle.gate_core.specs.History.{History, finished, processed_by}
 use Rattle.gate_core.specs.States.{TenantState, State, with_gathered}
 use Rattle.gate_core.specs.Steps.{with_item}
 use Rattle.gate_tenant.specs.Dispatching.{is_from}
-use Rattle.gate_ways.proofs.Arrivals.{same_as_itself}
+use Rattle.gate_delivery.proofs.Arrivals.{same_as_itself}
 use Rattle.gate_core.proofs.Fits.{fits_given, fits_still}
-use Rattle.gate_ways.proofs.Maps.{filter_map_push, filter_map_still, the_same}
+use Rattle.gate_delivery.proofs.Maps.{filter_map_push, filter_map_still, the_same}
 use Rattle.gate_core.proofs.Sendings.{differs}
 use Rattle.gate_core.proofs.Spots.{AfterSet, after_set, another, it}
 use Rattle.gate_core.proofs.Tenants.{room_after}

@@ -15,7 +15,7 @@ use Rattle.gate_items.specs.declared.action.Manage.{Manage}
 use Rattle.gate_items.specs.declared.action.Outcome.{Outcome}
 use Rattle.gate_pipeline.specs.Histories.{action_of, managing, outcome_of, resulting, stamp_of, triggering}
 use Rattle.gate_pipeline.specs.States.{Processed}
-use Rattle.gate_ways.specs.Wanted.{asked_among}
+use Rattle.gate_delivery.specs.Wanted.{asked_among}
 use Rattle.gate_core.specs.declared.answer.Answer.{Answer}
 use Rattle.gate_core.specs.declared.answer.Answer.TheVariants.{Accepted, Moved, Turned}
 use Rattle.gate_core.specs.declared.step.Step.{Step}

@@ -20,7 +20,7 @@ use Rattle.gate_report.specs.declared.report.EndCause.{EndCause}
 use Rattle.gate_report.specs.declared.report.EndCause.TheVariants as cause
 use Rattle.gate_report.specs.declared.report.PipelineReport.{PipelineReport}
 use Rattle.gate_report.specs.declared.report.RunReport.{RunReport}
-use Rattle.gate_ways.specs.Wanted.{numbers_from}
+use Rattle.gate_delivery.specs.Wanted.{numbers_from}
 
 -- ---- answers, each on a line
 

@@ -20,7 +20,7 @@ use Rattle.gate_core.specs.declared.step.Step.{Step}
 use Rattle.gate_core.specs.declared.step.Step.TheVariants.{Offer, Close, Renew}
 use Rattle.gate_report.specs.Limits.{places}
 use Rattle.gate_core.specs.History.{History, accepted_in_force, accepted_records, actions, asked_by, closed, done, finished, manage_posts, processed_management, outcomes, result_posts, processed_results, stamp_with, processed_triggers, renewals, waiting}
-use Rattle.gate_ways.specs.Wanted.{numbers_from, wanted}
+use Rattle.gate_delivery.specs.Wanted.{numbers_from, wanted}
 use Rattle.gate_core.specs.Late.{LateIsDiscarded}
 use Rattle.gate_core.specs.Reports.{report_after, report_of}
 use Rattle.gate_core.specs.States.{State, items_at}

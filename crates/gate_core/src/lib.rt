@@ -20,8 +20,8 @@ mod transcript;
 mod world;
 
 pub use answer::Answer;
+pub use gate_delivery::{each_way_delivers, what_is_wanted_arrives};
 pub use gate_report::{ConnectionReport, EndCause, PLACES, PipelineReport, RunReport};
-pub use gate_ways::{each_way_delivers, what_is_wanted_arrives};
 pub use laws::{each_record_has_its_generation, every_chain_delivers, every_run_delivers};
 pub use output::report_text;
 pub use replaying::{ReplayFault, replay};

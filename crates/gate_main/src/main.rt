@@ -1,7 +1,7 @@
 //! The program `gate`.
 #![tactic(auto)]
 
-use gate_program::{run_unread, run_words};
+use gate_main_program::{run_unread, run_words};
 use std::process::ExitCode;
 use std::rt::Env;
 use std::{env, io};

@@ -16,9 +16,9 @@ use Rattle.gate_config.specs.Selection.{is_listed, selects_event}
 use Rattle.gate_lanes.specs.Masks.{is_among}
 use Rattle.gate_match.specs.declared.active.Active.{Active}
 use Rattle.gate_match.specs.Inner.Choosing.{AreActive, active_in, chosen, chosen_of, has_all, is_key_of, key_of, listed_in, same_key}
-use Rattle.gate_batch.specs.Marks.{both, either}
+use Rattle.gate_match_rules.specs.Marks.{both, either}
 use Rattle.gate_match.specs.Inner.Tables.{meets_any}
-use Rattle.gate_batch.proofs.Rows.{map_alike, none_of}
+use Rattle.gate_match_rules.proofs.Rows.{map_alike, none_of}
 
 -- the rows of a generation, and among them those of a connection
 pub active_is : (gens : Generations) (t g c : ℕ) (generations conns : List ℕ) (events : List Event) →

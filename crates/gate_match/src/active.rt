@@ -1,4 +1,4 @@
-use gate_batch::Mask;
+use gate_match_rules::Mask;
 
 // A connection of a batch in a generation, with the rows that are events of it in that generation whose project is listed
 // under it.

@@ -3,9 +3,9 @@ ghost use Rattle.gate_config.specs.Lookups.{belongs};
 ghost use Rattle.gate_intern.specs.Marks.{numbers_where};
 ghost use Rattle.gate_match.specs.Inner.Choosing.{listed_in};
 
-use gate_batch::{Mask, number_text};
 use gate_config::Config;
 use gate_intern::{Columns, Field, texts_mark_their_events};
+use gate_match_rules::{Mask, number_text};
 use gate_record::{ConnId, Memory, TenantId};
 use std::alloc::Global;
 

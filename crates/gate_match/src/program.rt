@@ -1,8 +1,8 @@
 ghost use Rattle.gate_match.specs.Inner.Tables.{AreOfGenerations};
 
 use crate::rules_of_conn::RulesOfConn;
-use gate_batch::MatcherCache;
 use gate_config::Generations;
+use gate_match_rules::MatcherCache;
 use gate_record::TenantId;
 
 /// The rules of all pipelines of a tenant in all generations, ready for one batch of events after another: each distinct text

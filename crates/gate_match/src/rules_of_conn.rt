@@ -1,4 +1,4 @@
-use gate_batch::Compiled;
+use gate_match_rules::Compiled;
 
 // The rules of a pipeline for the events of a connection, in a generation.
 #[derive(Drop)]

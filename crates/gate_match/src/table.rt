@@ -2,8 +2,8 @@ ghost use Rattle.std.specs.Prelude.{IfOk, OnOk};
 ghost use Rattle.gate_match.specs.Inner.Tables.{AreOfGenerations};
 
 use crate::rules_of_conn::RulesOfConn;
-use gate_batch::{MatcherCache, compile};
 use gate_config::{Config, Generations};
+use gate_match_rules::{MatcherCache, compile};
 use gate_record::{ConnId, Memory, PipelineId, TenantId};
 use std::alloc::Global;
 

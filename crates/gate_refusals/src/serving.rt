@@ -1,14 +1,14 @@
 //! What is asked of a run from outside, sessions of the status port, and whole runs in threads over streams in memory.
 ghost use Rattle.std.specs.Prelude.{◌≡◌, All, IfOk};
-ghost use Rattle.gate_posts.specs.Ports.{ArePosts};
+ghost use Rattle.gate_run_posts.specs.Ports.{ArePosts};
 
 use crate::log::{Ended, Log};
 use crate::{made, say, unexpected};
 use gate_config::{Config, Generations};
 use gate_core::{RunReport, report_text};
-use gate_posts::{Inbox, Posts, RenewPostFault};
 use gate_record::{Memory, PipelineId, TenantId};
 use gate_run::{ReaderFeed, RecordFeed, serve, serve_over};
+use gate_run_posts::{Inbox, Posts, RenewPostFault};
 use gate_source::StopCause;
 use gate_status::{Board, BoardGate, Counted, Progress, SessionFault, session};
 use std::alloc::Global;
@@ -39,14 +39,14 @@ type Feed = ReaderFeed<&'static [u8]>;
 fn opened(log: &mut Log, gens: &Generations) -> Result<(Posts, Inbox), Memory>
     ensures { IfOk result (λ ends. ArePosts gens.now ends.0 ends.1) }
 {
-    made!(log; gate_posts::Posts::open(log.alloc, gens))
+    made!(log; gate_run_posts::Posts::open(log.alloc, gens))
 }
 
 /// Asks for the next generation, and for one more than there are; and for stops.
 pub(crate) fn ask(log: &mut Log, gens: &Generations) -> Ended {
-    let inbox = made!(log; gate_posts::Inbox::without_posts(log.alloc, gens.first()))?;
+    let inbox = made!(log; gate_run_posts::Inbox::without_posts(log.alloc, gens.first()))?;
     let mut stopper = inbox.stopper()?;
-    let held = made!(log; gate_posts::Stopper::stop(&mut stopper, StopCause::Caller))?;
+    let held = made!(log; gate_run_posts::Stopper::stop(&mut stopper, StopCause::Caller))?;
     say!(log.told, "{held:?}\n");
     let (mut posts, _inbox) = opened(log, gens)?;
     let (next, last) = (renew(log, &mut posts), renew(log, &mut posts));
@@ -55,12 +55,12 @@ pub(crate) fn ask(log: &mut Log, gens: &Generations) -> Ended {
 }
 
 fn renew(log: &mut Log, posts: &mut Posts) -> Result<u32, RenewPostFault> {
-    made!(log; gate_posts::Posts::renew(posts), RenewPostFault::Memory)
+    made!(log; gate_run_posts::Posts::renew(posts), RenewPostFault::Memory)
 }
 
 // Where memory is refused another cause is asked for, which is the one that is held, unless the refused call left one.
 fn stop(log: &mut Log, posts: &mut Posts) -> Ended {
-    let call = "gate_posts Posts::stop";
+    let call = "gate_run_posts Posts::stop";
     for cause in [StopCause::Caller, StopCause::Port] {
         match posts.stop(cause) {
             Ok(held) => return Ok(log.tell_unless(held == cause, call)),

@@ -3,11 +3,11 @@ use Rattle.std.proofs.Common.{◌≡◌, refl, ℕ, ◌≤◌, List, [], ◌∷�
 use Rattle.std.specs.Prelude.{Bool, nat_lt, if◌then◌else◌}
 use Rattle.std.proofs.lemmas.Bool.{ltb-false, ltb-true}
 use Rattle.gate_source.specs.Stops.{Note}
-use Rattle.gate_reader.specs.declared.reader.ReaderEnd.{ReaderEnd}
-use Rattle.gate_posts.specs.Asked.{longer}
+use Rattle.gate_run_reader.specs.declared.reader.ReaderEnd.{ReaderEnd}
+use Rattle.gate_run_posts.specs.Asked.{longer}
 use Rattle.gate_run.specs.Inner.Gatherings.{most_asked}
-use Rattle.gate_threads.specs.Lists.{Each}
-use Rattle.gate_reader.specs.Readers.{notes_of}
+use Rattle.gate_run_threads.specs.Lists.{Each}
+use Rattle.gate_run_reader.specs.Readers.{notes_of}
 
 longer_long : {A : Type 0} (xs ys : List A) → (length xs ≤ length (longer xs ys)) × (length ys ≤ length (longer xs ys))
 longer_long xs ys = by (nat_lt (length xs) (length ys)) refl

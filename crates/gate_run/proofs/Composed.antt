@@ -25,8 +25,8 @@ use Rattle.gate_tenant.specs.Dispatching.{chosen, conn_of_item, is_from}
 use Rattle.gate_queue.specs.declared.tagged.Tagged.{Tagged}
 use Rattle.gate_queue.specs.States.{AreFrom, IsDelivered}
 use Rattle.gate_queue.specs.Tagged.{values_of}
-use Rattle.gate_ways.specs.Ways.{Way}
-use Rattle.gate_threads.specs.Seats.{values}
+use Rattle.gate_delivery.specs.Ways.{Way}
+use Rattle.gate_run_threads.specs.Seats.{values}
 
 -- ---- the values of senders
 

@@ -7,13 +7,13 @@ use Rattle.gate_config.specs.declared.generations.Generations.{Generations}
 use Rattle.gate_config.specs.Generations.{count_of}
 use Rattle.gate_config.specs.Lookups.{connections_of}
 use Rattle.gate_queue.specs.Seats.{Shape, TakerSeat}
-use Rattle.gate_threads.specs.declared.putting.PassedOn.{PassedOn}
-use Rattle.gate_reader.specs.declared.reader.ReaderEnd.{ReaderEnd}
-use Rattle.gate_worker.specs.declared.worker.WorkerEnd.{WorkerEnd}
+use Rattle.gate_run_threads.specs.declared.putting.PassedOn.{PassedOn}
+use Rattle.gate_run_reader.specs.declared.reader.ReaderEnd.{ReaderEnd}
+use Rattle.gate_run_worker.specs.declared.worker.WorkerEnd.{WorkerEnd}
 use Rattle.gate_source.specs.Feeds.{Told}
-use Rattle.gate_posts.specs.Ports.{InboxEnds}
+use Rattle.gate_run_posts.specs.Ports.{InboxEnds}
 use Rattle.gate_run.specs.Inner.Seatings.{Cells}
-use Rattle.gate_threads.specs.Stages.{AreLanesSettled, IsStageSettled}
+use Rattle.gate_run_threads.specs.Stages.{AreLanesSettled, IsStageSettled}
 use Rattle.gate_run.specs.Inner.Works.{ThreadsHaveRun}
 
 pub record Evidence {F : Type 0} (G : Type 0) (gens : Generations) (to_come : F → Told) (faults : F → ℕ) (feeds : List F) (inbox : List (List InboxEnds)) (cells : Cells) : Type 0 where

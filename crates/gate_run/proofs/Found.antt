@@ -7,21 +7,21 @@ use Rattle.gate_record.specs.declared.transit.PipelineItem.{PipelineItem}
 use Rattle.gate_record.specs.declared.transit.TenantItem.{TenantItem}
 use Rattle.gate_config.specs.declared.generations.Generations.{Generations}
 use Rattle.gate_queue.specs.Seats.{QueueName, SenderSeat, Shape, TakerSeat}
-use Rattle.gate_threads.specs.declared.putting.PassedOn.{PassedOn}
-use Rattle.gate_reader.specs.declared.reader.Reader.{Reader}
-use Rattle.gate_reader.specs.declared.reader.ReaderEnd.{ReaderEnd}
-use Rattle.gate_worker.specs.declared.worker.WorkerEnd.{WorkerEnd}
-use Rattle.gate_dispatcher.specs.Dispatchers.{HasDispatched}
+use Rattle.gate_run_threads.specs.declared.putting.PassedOn.{PassedOn}
+use Rattle.gate_run_reader.specs.declared.reader.Reader.{Reader}
+use Rattle.gate_run_reader.specs.declared.reader.ReaderEnd.{ReaderEnd}
+use Rattle.gate_run_worker.specs.declared.worker.WorkerEnd.{WorkerEnd}
+use Rattle.gate_run_dispatcher.specs.Dispatchers.{HasDispatched}
 use Rattle.gate_source.specs.Feeds.{Told}
-use Rattle.gate_forwarder.specs.Forwarders.{HasForwarded}
-use Rattle.gate_threads.specs.Lists.{Pairwise, Threes}
-use Rattle.gate_posts.specs.Ports.{InboxEnds, at_pipeline}
+use Rattle.gate_run_forwarder.specs.Forwarders.{HasForwarded}
+use Rattle.gate_run_threads.specs.Lists.{Pairwise, Threes}
+use Rattle.gate_run_posts.specs.Ports.{InboxEnds, at_pipeline}
 use Rattle.gate_run.specs.Inner.Seatings.{AreWorkersOf, Cells, IsDispatcherOf, IsForwarderOf, IsWorkerOf}
-use Rattle.gate_threads.specs.Seats.{seat_in, seat_of}
-use Rattle.gate_worker.specs.Workers.{HasWorked}
+use Rattle.gate_run_threads.specs.Seats.{seat_in, seat_of}
+use Rattle.gate_run_worker.specs.Workers.{HasWorked}
 use Rattle.gate_run.specs.Inner.Works.{Dispatched, Forwarded, Read, Worked}
 use Rattle.gate_run.proofs.Evidence.{Evidence}
-use Rattle.gate_threads.proofs.Places.{at_here, beside_of, each_alike, each_here, the_same}
+use Rattle.gate_run_threads.proofs.Places.{at_here, beside_of, each_alike, each_here, the_same}
 use Rattle.gate_run.proofs.Seatings.{here_mapped}
 
 -- ---- lookups

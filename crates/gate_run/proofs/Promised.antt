@@ -35,35 +35,35 @@ use Rattle.gate_report.specs.declared.report.EndCause.{EndCause}
 use Rattle.gate_report.specs.declared.report.EndCause.TheVariants as cause
 use Rattle.gate_report.specs.declared.report.PipelineReport.{PipelineReport}
 use Rattle.gate_report.specs.declared.report.RunReport.{RunReport}
-use Rattle.gate_ways.specs.Wanted.{asked_among, asked_of, number_from, numbers_from, wanted}
-use Rattle.gate_ways.specs.Ways.{EachWayDelivers, IsEventOf, Way, number_of_item}
-use Rattle.gate_threads.specs.declared.putting.PassedOn.{PassedOn}
-use Rattle.gate_reader.specs.declared.reader.ReaderEnd.{ReaderEnd}
-use Rattle.gate_reader.specs.declared.reading.Renewal.{Renewal}
-use Rattle.gate_worker.specs.declared.worker.Worker.{Worker}
-use Rattle.gate_worker.specs.declared.worker.WorkerEnd.{WorkerEnd}
+use Rattle.gate_delivery.specs.Wanted.{asked_among, asked_of, number_from, numbers_from, wanted}
+use Rattle.gate_delivery.specs.Ways.{EachWayDelivers, IsEventOf, Way, number_of_item}
+use Rattle.gate_run_threads.specs.declared.putting.PassedOn.{PassedOn}
+use Rattle.gate_run_reader.specs.declared.reader.ReaderEnd.{ReaderEnd}
+use Rattle.gate_run_reader.specs.declared.reading.Renewal.{Renewal}
+use Rattle.gate_run_worker.specs.declared.worker.Worker.{Worker}
+use Rattle.gate_run_worker.specs.declared.worker.WorkerEnd.{WorkerEnd}
 use Rattle.gate_source.specs.Feeds.{Told}
-use Rattle.gate_threads.specs.Lists.{Each, EachAt}
-use Rattle.gate_posts.specs.Ports.{InboxEnds, InboxView, at_pipeline, pipeline_counts}
-use Rattle.gate_reader.specs.Readers.{Means, is_closed, counts_of, notes_of}
-use Rattle.gate_threads.specs.Seats.{values, seat_in, seat_of}
-use Rattle.gate_reader.specs.Asked.{AreKnown}
-use Rattle.gate_posts.specs.Asked.{KnowsStill}
-use Rattle.gate_posts.specs.Asked.{knows_as_much}
+use Rattle.gate_run_threads.specs.Lists.{Each, EachAt}
+use Rattle.gate_run_posts.specs.Ports.{InboxEnds, InboxView, at_pipeline, pipeline_counts}
+use Rattle.gate_run_reader.specs.Readers.{Means, is_closed, counts_of, notes_of}
+use Rattle.gate_run_threads.specs.Seats.{values, seat_in, seat_of}
+use Rattle.gate_run_reader.specs.Asked.{AreKnown}
+use Rattle.gate_run_posts.specs.Asked.{KnowsStill}
+use Rattle.gate_run_posts.specs.Asked.{knows_as_much}
 use Rattle.gate_run.specs.Inner.Seatings.{AreWorkersOf, Cells, IsReaderOf}
 use Rattle.gate_pipeline.specs.States.{report_of}
 use Rattle.gate_run.specs.Inner.Gatherings.{inbox_back, most_asked, report_of_reader}
 use Rattle.gate_run.specs.Serving.{Delivers, HasEnded, HasProcessed, HaveEnded, Serves, lines_of, renewals_of}
-use Rattle.gate_threads.specs.Stages.{IsStageSettled}
+use Rattle.gate_run_threads.specs.Stages.{IsStageSettled}
 use Rattle.gate_run.specs.Inner.Works.{Read, Worked}
 use Rattle.gate_run.proofs.Asking.{each_enough, most_no_fewer}
 use Rattle.gate_run.proofs.Composed.{OfSenders, of_senders, taken_own, way_of}
 use Rattle.gate_run.proofs.Evidence.{Evidence}
 use Rattle.gate_run.proofs.Found.{ForwarderAt, LinesOf, There, WorkerAt, alike_here, all_lines, dispatcher_at, find_lines, forwarder_at, from, lines_count, row_of, seat_at, there, three_here, worker_at}
-use Rattle.gate_threads.proofs.Paired.{map_length}
-use Rattle.gate_threads.proofs.Seated.{map_map}
+use Rattle.gate_run_threads.proofs.Paired.{map_length}
+use Rattle.gate_run_threads.proofs.Seated.{map_map}
 use Rattle.gate_run.proofs.Seatings.{here_mapped}
-use Rattle.gate_threads.proofs.Places.{as_long, as_many, at_here, each_here, the_same}
+use Rattle.gate_run_threads.proofs.Places.{as_long, as_many, at_here, each_here, the_same}
 
 -- ---- lists of numbers
 

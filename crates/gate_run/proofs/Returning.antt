@@ -11,24 +11,24 @@ use Rattle.gate_config.specs.declared.generations.Generations.{Generations}
 use Rattle.gate_config.specs.Lookups.{pipelines_of}
 use Rattle.gate_queue.specs.Seats.{SenderSeat, Shape, TakerSeat}
 use Rattle.gate_source.specs.Stops.{IsNoteOf}
-use Rattle.gate_dispatcher.specs.declared.dispatcher.Dispatcher.{Dispatcher}
-use Rattle.gate_forwarder.specs.declared.forwarder.Forwarder.{Forwarder}
-use Rattle.gate_threads.specs.declared.putting.PassedOn.{PassedOn}
-use Rattle.gate_reader.specs.declared.reader.Reader.{Reader}
-use Rattle.gate_reader.specs.declared.reader.ReaderEnd.{ReaderEnd}
-use Rattle.gate_worker.specs.declared.worker.Worker.{Worker}
-use Rattle.gate_worker.specs.declared.worker.WorkerEnd.{WorkerEnd}
+use Rattle.gate_run_dispatcher.specs.declared.dispatcher.Dispatcher.{Dispatcher}
+use Rattle.gate_run_forwarder.specs.declared.forwarder.Forwarder.{Forwarder}
+use Rattle.gate_run_threads.specs.declared.putting.PassedOn.{PassedOn}
+use Rattle.gate_run_reader.specs.declared.reader.Reader.{Reader}
+use Rattle.gate_run_reader.specs.declared.reader.ReaderEnd.{ReaderEnd}
+use Rattle.gate_run_worker.specs.declared.worker.Worker.{Worker}
+use Rattle.gate_run_worker.specs.declared.worker.WorkerEnd.{WorkerEnd}
 use Rattle.gate_source.specs.Feeds.{Told}
-use Rattle.gate_threads.specs.Lists.{Pairwise, Each, EachAt}
-use Rattle.gate_reader.specs.Asked.{AreKnown}
-use Rattle.gate_reader.specs.Readers.{notes_of}
-use Rattle.gate_posts.specs.Ports.{InboxEnds}
+use Rattle.gate_run_threads.specs.Lists.{Pairwise, Each, EachAt}
+use Rattle.gate_run_reader.specs.Asked.{AreKnown}
+use Rattle.gate_run_reader.specs.Readers.{notes_of}
+use Rattle.gate_run_posts.specs.Ports.{InboxEnds}
 use Rattle.gate_run.specs.Inner.Seatings.{AreWorkersOf, Cells, IsDispatcherOf, IsForwarderOf, IsReaderOf, IsWorkerOf}
-use Rattle.gate_threads.specs.Seats.{seat_in, seat_of}
+use Rattle.gate_run_threads.specs.Seats.{seat_in, seat_of}
 use Rattle.gate_run.specs.Inner.Works.{Dispatched, Forwarded, Read, Worked}
-use Rattle.gate_threads.proofs.Places.{as_many, at_here, beside_of, the_same}
+use Rattle.gate_run_threads.proofs.Places.{as_many, at_here, beside_of, the_same}
 use Rattle.gate_run.proofs.Seatings.{number_here}
-use Rattle.gate_threads.proofs.Staged.{range_length}
+use Rattle.gate_run_threads.proofs.Staged.{range_length}
 
 -- lists of as many elements, of which each two at a place are seen alike
 pub all_alike : {A B C : Type 0} (f : A → C) (g : B → C) (xs : List A) (ys : List B) → length xs ≡ length ys → ((i : ℕ) (x : A) (y : B) → slice_get xs i ≡ Some x → slice_get ys i ≡ Some y → f x ≡ g y) → map f xs ≡ map g ys

@@ -12,17 +12,17 @@ use Rattle.gate_config.specs.Lookups.{pipelines_of, tenants_of}
 use Rattle.gate_pipeline.specs.States as pipeline
 use Rattle.gate_queue.specs.Seats.{SenderSeat, Shape, TakerSeat}
 use Rattle.gate_source.specs.Stops.{IsNoteOf}
-use Rattle.gate_dispatcher.specs.declared.dispatcher.Dispatcher.{Dispatcher}
-use Rattle.gate_forwarder.specs.declared.forwarder.Forwarder.{Forwarder}
-use Rattle.gate_reader.specs.declared.reader.Reader.{Reader}
-use Rattle.gate_worker.specs.declared.worker.Worker.{Worker}
-use Rattle.gate_threads.specs.Lists.{EachAt}
-use Rattle.gate_posts.specs.Ports.{InboxEnds}
+use Rattle.gate_run_dispatcher.specs.declared.dispatcher.Dispatcher.{Dispatcher}
+use Rattle.gate_run_forwarder.specs.declared.forwarder.Forwarder.{Forwarder}
+use Rattle.gate_run_reader.specs.declared.reader.Reader.{Reader}
+use Rattle.gate_run_worker.specs.declared.worker.Worker.{Worker}
+use Rattle.gate_run_threads.specs.Lists.{EachAt}
+use Rattle.gate_run_posts.specs.Ports.{InboxEnds}
 use Rattle.gate_run.specs.Inner.Seatings.{Cells, IsDispatcherOf, IsForwarderOf, IsReaderOf, IsWorkerOf}
-use Rattle.gate_threads.specs.Seats.{fresh_head, fresh_tail}
-use Rattle.gate_threads.proofs.Paired.{map_length}
-use Rattle.gate_threads.proofs.Places.{at_more, the_same}
-use Rattle.gate_threads.proofs.Staged.{range_length}
+use Rattle.gate_run_threads.specs.Seats.{fresh_head, fresh_tail}
+use Rattle.gate_run_threads.proofs.Paired.{map_length}
+use Rattle.gate_run_threads.proofs.Places.{at_more, the_same}
+use Rattle.gate_run_threads.proofs.Staged.{range_length}
 
 pub here_mapped : {A B : Type 0} (f : A → B) (xs : List A) (i : ℕ) (x : A) → slice_get xs i ≡ Some x → slice_get (map f xs) i ≡ Some (f x)
 here_mapped f [] i x e = absurd (cc)

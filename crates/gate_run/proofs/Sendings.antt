@@ -14,14 +14,14 @@ use Rattle.gate_record.proofs.transit.ConnEntry.TheSendSync as entry
 use Rattle.gate_record.proofs.transit.PipelineItem.TheSendSync as trigger
 use Rattle.gate_record.proofs.transit.TenantItem.TheSendSync as item
 use Rattle.gate_pipeline.proofs.pipeline.Pipeline.TheSendSync as state
-use Rattle.gate_worker.proofs.inbox.InboxSeat.TheSendSync as inbox
+use Rattle.gate_run_worker.proofs.inbox.InboxSeat.TheSendSync as inbox
 use Rattle.gate_items.proofs.action.Manage.TheSendSync as manage
 use Rattle.gate_items.proofs.action.JobResult.TheSendSync as ended
 use Rattle.gate_config.specs.contracts.config.Config as config
 use Rattle.gate_config.specs.contracts.generations.Generations as generations
-use Rattle.gate_dispatcher.specs.contracts.dispatcher.Dispatcher as dispatcher
-use Rattle.gate_forwarder.specs.contracts.forwarder.Forwarder as forwarder
-use Rattle.gate_worker.specs.contracts.worker.Worker as worker
+use Rattle.gate_run_dispatcher.specs.contracts.dispatcher.Dispatcher as dispatcher
+use Rattle.gate_run_forwarder.specs.contracts.forwarder.Forwarder as forwarder
+use Rattle.gate_run_worker.specs.contracts.worker.Worker as worker
 
 module _ (κ : NamedLft) (generations_sync : IsSync generations.the_row) where
   forwarder_parts : AllSend (shape (forwarder.the_type κ)).fields

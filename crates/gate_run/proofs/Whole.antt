@@ -9,28 +9,28 @@ use Rattle.gate_config.specs.Lookups.{connections_of, pipelines_of, tenants_of}
 use Rattle.gate_source.specs.Stops.{IsNoteOf}
 use Rattle.gate_queue.specs.Seats.{Shape, TakerSeat}
 use Rattle.gate_run.specs.declared.gathering.Ends.{Ends}
-use Rattle.gate_threads.specs.declared.putting.PassedOn.{PassedOn}
+use Rattle.gate_run_threads.specs.declared.putting.PassedOn.{PassedOn}
 use Rattle.gate_run.specs.declared.queues.QueueSeats.{QueueSeats}
 use Rattle.gate_run.specs.declared.queues.Queues.{Queues}
-use Rattle.gate_reader.specs.declared.reader.Reader.{Reader}
+use Rattle.gate_run_reader.specs.declared.reader.Reader.{Reader}
 use Rattle.gate_source.specs.Feeds.{Told}
-use Rattle.gate_threads.specs.Lists.{Each}
-use Rattle.gate_reader.specs.Asked.{AreKnown}
-use Rattle.gate_posts.specs.Asked.{AskedView}
-use Rattle.gate_posts.specs.Ports.{InboxEnds}
+use Rattle.gate_run_threads.specs.Lists.{Each}
+use Rattle.gate_run_reader.specs.Asked.{AreKnown}
+use Rattle.gate_run_posts.specs.Asked.{AskedView}
+use Rattle.gate_run_posts.specs.Ports.{InboxEnds}
 use Rattle.gate_run.specs.Inner.Queues.{AreOpen}
-use Rattle.gate_reader.specs.Readers.{notes_of}
+use Rattle.gate_run_reader.specs.Readers.{notes_of}
 use Rattle.gate_run.specs.Inner.Seatings.{IsReaderOf, cells_of}
-use Rattle.gate_threads.specs.Seats.{seat_in, seat_of}
-use Rattle.gate_threads.specs.Stages.{AreLanesSettled, IsStageSettled}
+use Rattle.gate_run_threads.specs.Seats.{seat_in, seat_of}
+use Rattle.gate_run_threads.specs.Stages.{AreLanesSettled, IsStageSettled}
 use Rattle.gate_run.specs.Inner.Works.{Forwarded, HaveRun}
 use Rattle.gate_run.proofs.Evidence.{Evidence}
-use Rattle.gate_threads.proofs.Paired.{map_length}
-use Rattle.gate_threads.proofs.Places.{as_many}
+use Rattle.gate_run_threads.proofs.Paired.{map_length}
+use Rattle.gate_run_threads.proofs.Places.{as_many}
 use Rattle.gate_run.proofs.Returning.{dispatcher_heads, dispatcher_tails, forwarder_heads, forwarder_tails, known_back, notes_back, tails_back, worker_heads}
-use Rattle.gate_threads.proofs.Seated.{map_map}
+use Rattle.gate_run_threads.proofs.Seated.{map_map}
 use Rattle.gate_run.proofs.Seatings.{as_many_of, count_here}
-use Rattle.gate_threads.proofs.Staged.{lanes_as, range_length}
+use Rattle.gate_run_threads.proofs.Staged.{lanes_as, range_length}
 
 pub if_ok : {T E : Type 0} {A B C D Z : T → Type 0} (r : Result T E) → ((x : T) → A x → B x → C x → D x → Z x) → IfOk r A → IfOk r B → IfOk r C → IfOk r D → IfOk r Z
 if_ok (Ok x) f a b c d = f x a b c d

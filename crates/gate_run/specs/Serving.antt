@@ -15,15 +15,15 @@ use Rattle.gate_pipeline.specs.States.{State}
 use Rattle.gate_report.specs.declared.report.ConnectionReport.{ConnectionReport}
 use Rattle.gate_report.specs.declared.report.PipelineReport.{PipelineReport}
 use Rattle.gate_report.specs.declared.report.RunReport.{RunReport}
-use Rattle.gate_ways.specs.Wanted.{asked_among, numbers_from, wanted}
+use Rattle.gate_delivery.specs.Wanted.{asked_among, numbers_from, wanted}
 use Rattle.gate_source.specs.Feeds.{AreFirst, Told}
 use Rattle.gate_source.specs.Sources.{NeverFalls}
-use Rattle.gate_reader.specs.Asked.{AreKnown}
-use Rattle.gate_posts.specs.Asked.{KnowsStill}
+use Rattle.gate_run_reader.specs.Asked.{AreKnown}
+use Rattle.gate_run_posts.specs.Asked.{KnowsStill}
 use Rattle.gate_pipeline.specs.States.{report_of}
-use Rattle.gate_posts.specs.Ports.{InboxEnds, InboxView, IsInboxFor, at_pipeline, pipeline_counts}
-use Rattle.gate_reader.specs.Readers.{Means, is_closed}
-use Rattle.gate_worker.specs.Workers.{TookMore}
+use Rattle.gate_run_posts.specs.Ports.{InboxEnds, InboxView, IsInboxFor, at_pipeline, pipeline_counts}
+use Rattle.gate_run_reader.specs.Readers.{Means, is_closed}
+use Rattle.gate_run_worker.specs.Workers.{TookMore}
 
 -- the records of connection c
 abbrev pub lines_of : ℕ → List (List Record) → List Record

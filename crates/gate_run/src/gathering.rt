@@ -2,22 +2,22 @@
 ghost use Rattle.std.specs.Prelude.{◌≡◌, ◌++◌, ◌∷◌, [], IfOk, OnOk, map};
 ghost use Rattle.gate_source.specs.Stops.{IsNoteOf};
 ghost use Rattle.gate_pipeline.specs.States.{report_of};
-ghost use Rattle.gate_reader.specs.Asked.{AreKnown};
-ghost use Rattle.gate_posts.specs.Asked.{KnowsStill, knows_as_much, longer};
+ghost use Rattle.gate_run_reader.specs.Asked.{AreKnown};
+ghost use Rattle.gate_run_posts.specs.Asked.{KnowsStill, knows_as_much, longer};
 ghost use Rattle.gate_run.specs.Inner.Gatherings.{inbox_back, most_asked, report_of_reader};
-ghost use Rattle.gate_threads.specs.Lists.{Each};
-ghost use Rattle.gate_reader.specs.Readers.{counts_of, notes_of};
-ghost use Rattle.gate_posts.specs.PipelineEnds.{inbox_of};
+ghost use Rattle.gate_run_threads.specs.Lists.{Each};
+ghost use Rattle.gate_run_reader.specs.Readers.{counts_of, notes_of};
+ghost use Rattle.gate_run_posts.specs.PipelineEnds.{inbox_of};
 
 use gate_pipeline::Pipeline;
-use gate_posts::{Asked, PipelineInbox};
 use gate_queue::{FreeHead, FreeTail, Head, Tail};
-use gate_reader::{ReaderEnd, Renewal};
 use gate_record::{ConnEntry, Memory, PipelineItem, Sequence, TenantItem};
 use gate_report::{ConnectionReport, PipelineReport};
+use gate_run_posts::{Asked, PipelineInbox};
+use gate_run_reader::{ReaderEnd, Renewal};
+use gate_run_threads::{PassedOn, push};
+use gate_run_worker::WorkerEnd;
 use gate_source::StopNote;
-use gate_threads::{PassedOn, push};
-use gate_worker::WorkerEnd;
 use std::alloc::Global;
 
 /// What the threads of a run handed back.

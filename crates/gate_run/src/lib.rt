@@ -7,8 +7,8 @@ mod running;
 mod seating;
 mod serving;
 
-pub use gate_posts::{Inbox, PostFault, Posts, RenewPostFault, Stopper};
+pub use gate_run_posts::{Inbox, PostFault, Posts, RenewPostFault, Stopper};
+pub use gate_run_threads::RunFault;
+pub use gate_run_worker::Gate;
 pub use gate_source::{FeedStep, ReaderFeed, RecordFeed};
-pub use gate_threads::RunFault;
-pub use gate_worker::Gate;
 pub use serving::{Served, serve, serve_over};

@@ -1,15 +1,15 @@
 //! The queues of a run, from connections to pipelines.
 ghost use Rattle.std.specs.Prelude.{◌≡◌, ◌<◌, ◌∷◌, [], IfOk, length, map};
 ghost use Rattle.gate_config.specs.Lookups.{connections_of, tenants_of};
-ghost use Rattle.gate_posts.specs.Ports.{pipeline_counts};
+ghost use Rattle.gate_run_posts.specs.Ports.{pipeline_counts};
 ghost use Rattle.gate_run.specs.Inner.Queues.{AreOpen};
-ghost use Rattle.gate_threads.specs.Seats.{fresh_head, fresh_tail};
-ghost use Rattle.gate_threads.specs.Stages.{HavePlaces, IsOpenStage};
+ghost use Rattle.gate_run_threads.specs.Seats.{fresh_head, fresh_tail};
+ghost use Rattle.gate_run_threads.specs.Stages.{HavePlaces, IsOpenStage};
 
 use gate_config::Config;
 use gate_queue::{EventQueue, FreeHead, FreeQueue, FreeTail, Head, Tail};
 use gate_record::{ConnEntry, Memory, PipelineItem, TenantId, TenantItem};
-use gate_threads::{Lane, Stage, open_lane, open_stage};
+use gate_run_threads::{Lane, Stage, open_lane, open_stage};
 use std::alloc::Global;
 
 /// The queues of a run.

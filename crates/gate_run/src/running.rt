@@ -2,9 +2,9 @@
 ghost use denote.Param.Send.{IsSync};
 ghost use Rattle.std.specs.Prelude.{◌≡◌, ◌-◌, ◌<◌, ◌^◌, All, IfOk, length, map};
 ghost use Rattle.gate_config.specs.Lookups.{connections_of};
-ghost use Rattle.gate_threads.specs.Lists.{Pairwise};
-ghost use Rattle.gate_posts.specs.PipelineEnds.{inbox_of};
-ghost use Rattle.gate_posts.specs.Ports.{pipeline_counts};
+ghost use Rattle.gate_run_threads.specs.Lists.{Pairwise};
+ghost use Rattle.gate_run_posts.specs.PipelineEnds.{inbox_of};
+ghost use Rattle.gate_run_posts.specs.Ports.{pipeline_counts};
 ghost use Rattle.gate_run.specs.Inner.Queues.{AreOpen};
 ghost use Rattle.gate_run.specs.Inner.Seatings.{cells_of};
 ghost use Rattle.gate_run.specs.Inner.Works.{Dispatched, Forwarded, HaveRun, Read, ReadyToDispatch, ReadyToForward, ReadyToRead, ReadyToWork, Worked};
@@ -13,18 +13,18 @@ use crate::gathering::Ends;
 use crate::queues::{QueueSeats, Queues};
 use crate::seating::{seat_dispatchers, seat_forwarders, seat_readers, seat_workers};
 use gate_config::Generations;
-use gate_crossing::{config_crosses, generations_cross};
-use gate_dispatcher::Dispatcher;
-use gate_forwarder::Forwarder;
-use gate_posts::{Asked, PipelineInbox};
 use gate_queue::{FreeHead, Head};
-use gate_reader::{Reader, ReaderEnd};
 use gate_record::{ConnEntry, PipelineItem, TenantItem};
-use gate_source::RecordFeed;
-use gate_threads::{
+use gate_run_crossing::{config_crosses, generations_cross};
+use gate_run_dispatcher::Dispatcher;
+use gate_run_forwarder::Forwarder;
+use gate_run_posts::{Asked, PipelineInbox};
+use gate_run_reader::{Reader, ReaderEnd};
+use gate_run_threads::{
     PassedOn, RunFault, Signals, Thread, Work, join_all, join_lists, start_all, start_lists,
 };
-use gate_worker::{Gate, Worker, WorkerEnd};
+use gate_run_worker::{Gate, Worker, WorkerEnd};
+use gate_source::RecordFeed;
 use std::alloc::Global;
 use std::sync::Wait;
 use std::sync::atomic::AtomicBool;

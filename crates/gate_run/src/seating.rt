@@ -2,24 +2,24 @@
 ghost use Rattle.std.specs.Prelude.{◌≡◌, ◌-◌, ◌<◌, ◌^◌, All, IfOk, length, map};
 ghost use Rattle.std.specs.List.{range_with_len};
 ghost use Rattle.gate_config.specs.Lookups.{connections_of, pipelines_of, tenants_of};
-ghost use Rattle.gate_threads.specs.Lists.{EachAt};
-ghost use Rattle.gate_posts.specs.PipelineEnds.{inbox_of};
-ghost use Rattle.gate_posts.specs.Ports.{pipeline_counts};
+ghost use Rattle.gate_run_threads.specs.Lists.{EachAt};
+ghost use Rattle.gate_run_posts.specs.PipelineEnds.{inbox_of};
+ghost use Rattle.gate_run_posts.specs.Ports.{pipeline_counts};
 ghost use Rattle.gate_run.specs.Inner.Seatings.{AreWorkersOf, IsDispatcherOf, IsForwarderOf, IsReaderOf, IsWorkerOf};
-ghost use Rattle.gate_threads.specs.Seats.{fresh_head, fresh_tail};
+ghost use Rattle.gate_run_threads.specs.Seats.{fresh_head, fresh_tail};
 
 use crossbeam_utils::sync::{Parker, Unparker};
 use gate_config::{Config, Generations};
-use gate_dispatcher::Dispatcher;
-use gate_forwarder::Forwarder;
 use gate_pipeline::Pipeline;
-use gate_posts::PipelineInbox;
 use gate_queue::{EventQueue, FreeHead, FreeQueue, FreeTail, Head, Tail};
-use gate_reader::Reader;
 use gate_record::{ConnEntry, ConnId, Memory, PipelineId, PipelineItem, TenantId, TenantItem};
+use gate_run_dispatcher::Dispatcher;
+use gate_run_forwarder::Forwarder;
+use gate_run_posts::PipelineInbox;
+use gate_run_reader::Reader;
+use gate_run_threads::next_of;
+use gate_run_worker::Worker;
 use gate_source::{RecordFeed, StopCell};
-use gate_threads::next_of;
-use gate_worker::Worker;
 use std::alloc::Global;
 
 // What a thread parks on. What wakes it is added to these.

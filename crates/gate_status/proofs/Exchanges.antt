@@ -8,7 +8,7 @@ use Rattle.std.proofs.lemmas.List.Elements.{All-append, All-cons, All-nil}
 use Rattle.std.proofs.lemmas.List.Sums.{fold-append}
 use Rattle.gate_record.specs.declared.record.Record.{Record}
 use Rattle.gate_config.specs.declared.config.Config.{Config}
-use Rattle.gate_posts.specs.Ports.{PostsView}
+use Rattle.gate_run_posts.specs.Ports.{PostsView}
 use Rattle.gate_status.specs.declared.fault.SessionEnd.{SessionEnd}
 use Rattle.gate_status.specs.declared.reply.Reply.{Reply}
 use Rattle.gate_status.specs.Replies.{IsLeft, MayReply, NoteAfter, asked_behind, asked_by, end_of, posted_by, reply_text}

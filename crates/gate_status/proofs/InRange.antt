@@ -8,15 +8,15 @@ use Rattle.std.proofs.lemmas.List.{length-map}
 use Rattle.gate_config.specs.declared.config.Config.{Config}
 use Rattle.gate_config.specs.declared.config.TenantSpec.{TenantSpec}
 use Rattle.gate_config.specs.Lookups.{pipelines_of, tenants_of}
-use Rattle.gate_posts.specs.Ports.{PostEnds, PostsView, at_pipeline, changed_at, pipeline_counts, posted, slice_change, PostEnd}
+use Rattle.gate_run_posts.specs.Ports.{PostEnds, PostsView, at_pipeline, changed_at, pipeline_counts, posted, slice_change, PostEnd}
 use Rattle.gate_status.specs.declared.command.Command.{Command}
 use Rattle.gate_status.specs.declared.command.Command.TheVariants as command
 use Rattle.gate_status.specs.declared.command.CommandFault.{CommandFault}
 use Rattle.gate_status.specs.declared.reply.Reply.{Reply}
 use Rattle.gate_status.specs.declared.reply.Reply.TheVariants as reply
-use Rattle.gate_posts.specs.declared.posts.PostFault.{PostFault}
-use Rattle.gate_posts.specs.declared.posts.PostFault.TheVariants.{NoPipeline, Full}
-use Rattle.gate_posts.specs.PipelineEnds.{Judges}
+use Rattle.gate_run_posts.specs.declared.posts.PostFault.{PostFault}
+use Rattle.gate_run_posts.specs.declared.posts.PostFault.TheVariants.{NoPipeline, Full}
+use Rattle.gate_run_posts.specs.PipelineEnds.{Judges}
 use Rattle.gate_status.specs.Replies.{ArePostsFor, IsMissing, IsThere, MayReply, addressed, end_of, posted_by, with_posted}
 use Rattle.gate_status.specs.Inner.Replies.{refusal_of}
 

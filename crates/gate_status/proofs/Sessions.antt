@@ -9,7 +9,7 @@ use Rattle.gate_record.specs.Lines.{ended_records, records_of}
 use Rattle.gate_record.specs.Prefixes.{IsPrefixOf}
 use Rattle.gate_config.specs.declared.config.Config.{Config}
 use Rattle.gate_source.specs.Splitting.{Finishes, IsFed}
-use Rattle.gate_posts.specs.Ports.{PostsView}
+use Rattle.gate_run_posts.specs.Ports.{PostsView}
 use Rattle.gate_status.specs.declared.fault.SessionEnd.{SessionEnd}
 use Rattle.gate_status.specs.declared.fault.SessionEnd.TheVariants as end
 use Rattle.gate_status.specs.Limits.{longest_session}

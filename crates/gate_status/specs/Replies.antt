@@ -6,7 +6,7 @@ use Rattle.gate_config.specs.declared.config.Config.{Config}
 use Rattle.gate_config.specs.Lookups.{pipelines_of}
 use Rattle.gate_source.specs.declared.stop.StopCause.{StopCause}
 use Rattle.gate_source.specs.Stops.{Learns, Note}
-use Rattle.gate_posts.specs.Ports.{PostEnds, PostsView, changed_at, pipeline_counts, posted}
+use Rattle.gate_run_posts.specs.Ports.{PostEnds, PostsView, changed_at, pipeline_counts, posted}
 use Rattle.gate_status.specs.declared.command.Command.{Command}
 use Rattle.gate_status.specs.declared.command.Command.TheVariants as command
 use Rattle.gate_status.specs.declared.command.CommandFault.{CommandFault}

@@ -2,7 +2,7 @@ use crate::board::Board;
 use crate::progress::Progress;
 use gate_pipeline::{Pipeline, Processed};
 use gate_record::{PipelineId, TenantId};
-use gate_worker::Gate;
+use gate_run_worker::Gate;
 use std::sync::{Mutex, Wait};
 
 /// A gate that keeps a board: it says there how far a pipeline is behind each of its actions, and once its worker returns.

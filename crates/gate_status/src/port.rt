@@ -10,8 +10,8 @@ use crate::counted::Counted;
 use crate::fault::{SessionEnd, SessionFault};
 use crate::listening::Listening;
 use gate_config::Config;
-use gate_posts::Posts;
 use gate_record::Memory;
+use gate_run_posts::Posts;
 use std::io::{Read, Write};
 use std::sync::{Mutex, Wait};
 

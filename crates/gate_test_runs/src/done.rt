@@ -1,6 +1,6 @@
 //! What came of runs.
 ghost use Rattle.std.specs.Prelude.{◌-◌, ◌<◌, ◌^◌, All};
-ghost use Rattle.gate_posts.specs.Ports.{IsInboxFor};
+ghost use Rattle.gate_run_posts.specs.Ports.{IsInboxFor};
 
 use crate::run::Run;
 use gate_config::Generations;

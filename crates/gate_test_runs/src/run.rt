@@ -1,7 +1,7 @@
 //! Runs that can begin.
 ghost use Rattle.std.specs.Prelude.{◌≡◌, ◌∷◌, ◌-◌, ◌<◌, ◌^◌, [], All, IfOk, length};
 ghost use Rattle.gate_config.specs.Lookups.{connections_of};
-ghost use Rattle.gate_posts.specs.Ports.{IsInboxFor};
+ghost use Rattle.gate_run_posts.specs.Ports.{IsInboxFor};
 
 use crate::documents::generations;
 use crate::done::Done;

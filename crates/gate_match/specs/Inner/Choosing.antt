@@ -8,8 +8,8 @@ use Rattle.gate_config.specs.Generations.{config_at}
 use Rattle.gate_config.specs.Lookups.{rules_of}
 use Rattle.gate_config.specs.Selection.{is_listed}
 use Rattle.gate_match.specs.declared.active.Active.{Active}
-use Rattle.gate_batch.specs.Marks.{both, either}
-use Rattle.gate_batch.specs.Narrowing.{meeting_any}
+use Rattle.gate_match_rules.specs.Marks.{both, either}
+use Rattle.gate_match_rules.specs.Narrowing.{meeting_any}
 
 -- the events whose project the tenant lists under connection c
 abbrev pub listed_in : Config → ℕ → ℕ → List Event → List Bool

@@ -8,7 +8,7 @@ use Rattle.gate_config.specs.declared.generations.Generations.{Generations}
 use Rattle.gate_config.specs.Generations.{config_at}
 use Rattle.gate_config.specs.Lookups.{rules_of}
 use Rattle.gate_match.specs.declared.rules_of_conn.RulesOfConn.{RulesOfConn}
-use Rattle.gate_batch.specs.Compiling.{rules_in}
+use Rattle.gate_match_rules.specs.Compiling.{rules_in}
 
 -- the event meets one of the rules
 abbrev pub meets_any : List Rule → Event → Bool

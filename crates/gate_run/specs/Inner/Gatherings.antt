@@ -2,11 +2,11 @@
 use Rattle.std.specs.Prelude.{List, fold}
 use Rattle.gate_report.specs.declared.report.ConnectionReport.{ConnectionReport}
 use Rattle.gate_source.specs.Stops.{Note}
-use Rattle.gate_reader.specs.declared.reader.ReaderEnd.{ReaderEnd}
-use Rattle.gate_worker.specs.declared.worker.WorkerEnd.{WorkerEnd}
-use Rattle.gate_posts.specs.Asked.{longer}
-use Rattle.gate_reader.specs.Readers.{counts_of, notes_of}
-use Rattle.gate_posts.specs.Ports.{InboxEnds}
+use Rattle.gate_run_reader.specs.declared.reader.ReaderEnd.{ReaderEnd}
+use Rattle.gate_run_worker.specs.declared.worker.WorkerEnd.{WorkerEnd}
+use Rattle.gate_run_posts.specs.Asked.{longer}
+use Rattle.gate_run_reader.specs.Readers.{counts_of, notes_of}
+use Rattle.gate_run_posts.specs.Ports.{InboxEnds}
 
 -- how many records were accepted, how many before each renewal, and why there were no more
 abbrev pub report_of_reader : {F : Type 0} → ReaderEnd F → ConnectionReport

@@ -4,9 +4,9 @@ use Rattle.gate_config.specs.declared.config.Config.{Config}
 use Rattle.gate_config.specs.Lookups.{connections_of, tenants_of}
 use Rattle.gate_run.specs.declared.queues.QueueSeats.{QueueSeats}
 use Rattle.gate_run.specs.declared.queues.Queues.{Queues}
-use Rattle.gate_posts.specs.Ports.{pipeline_counts}
-use Rattle.gate_threads.specs.Seats.{fresh_head, fresh_tail}
-use Rattle.gate_threads.specs.Stages.{IsOpenStage}
+use Rattle.gate_run_posts.specs.Ports.{pipeline_counts}
+use Rattle.gate_run_threads.specs.Seats.{fresh_head, fresh_tail}
+use Rattle.gate_run_threads.specs.Stages.{IsOpenStage}
 
 -- A queue for each connection, one for each tenant and one for each pipeline, with all their seats, by which nothing was put or taken.
 pub record AreOpen (config : Config) (queues : Queues) (seats : QueueSeats) : Type 0 where

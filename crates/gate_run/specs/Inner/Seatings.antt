@@ -5,17 +5,17 @@ use Rattle.gate_config.specs.declared.generations.Generations.{Generations}
 use Rattle.gate_config.specs.Generations.{count_of}
 use Rattle.gate_config.specs.Lookups.{pipelines_of}
 use Rattle.gate_queue.specs.Seats.{Shape}
-use Rattle.gate_dispatcher.specs.declared.dispatcher.Dispatcher.{Dispatcher}
-use Rattle.gate_forwarder.specs.declared.forwarder.Forwarder.{Forwarder}
-use Rattle.gate_reader.specs.declared.reader.Reader.{Reader}
-use Rattle.gate_worker.specs.declared.worker.Worker.{Worker}
-use Rattle.gate_posts.specs.Asked.{AskedView}
-use Rattle.gate_dispatcher.specs.Dispatchers.{CanDispatch}
-use Rattle.gate_forwarder.specs.Forwarders.{CanForward}
-use Rattle.gate_threads.specs.Lists.{EachAt}
-use Rattle.gate_posts.specs.Ports.{InboxEnds}
-use Rattle.gate_reader.specs.Readers.{CanRead}
-use Rattle.gate_worker.specs.Workers.{CanWork}
+use Rattle.gate_run_dispatcher.specs.declared.dispatcher.Dispatcher.{Dispatcher}
+use Rattle.gate_run_forwarder.specs.declared.forwarder.Forwarder.{Forwarder}
+use Rattle.gate_run_reader.specs.declared.reader.Reader.{Reader}
+use Rattle.gate_run_worker.specs.declared.worker.Worker.{Worker}
+use Rattle.gate_run_posts.specs.Asked.{AskedView}
+use Rattle.gate_run_dispatcher.specs.Dispatchers.{CanDispatch}
+use Rattle.gate_run_forwarder.specs.Forwarders.{CanForward}
+use Rattle.gate_run_threads.specs.Lists.{EachAt}
+use Rattle.gate_run_posts.specs.Ports.{InboxEnds}
+use Rattle.gate_run_reader.specs.Readers.{CanRead}
+use Rattle.gate_run_worker.specs.Workers.{CanWork}
 
 -- What tells readers to stop, and to put generations in force: the stop cell, how many generations there are, and the cells of those
 -- behind the first

@@ -6,23 +6,23 @@ use Rattle.gate_record.specs.declared.transit.TenantItem.{TenantItem}
 use Rattle.gate_config.specs.declared.generations.Generations.{Generations}
 use Rattle.gate_config.specs.Lookups.{connections_of, tenants_of}
 use Rattle.gate_queue.specs.Seats.{Shape, TakerSeat}
-use Rattle.gate_dispatcher.specs.declared.dispatcher.Dispatcher.{Dispatcher}
-use Rattle.gate_forwarder.specs.declared.forwarder.Forwarder.{Forwarder}
+use Rattle.gate_run_dispatcher.specs.declared.dispatcher.Dispatcher.{Dispatcher}
+use Rattle.gate_run_forwarder.specs.declared.forwarder.Forwarder.{Forwarder}
 use Rattle.gate_run.specs.declared.gathering.Ends.{Ends}
-use Rattle.gate_threads.specs.declared.putting.PassedOn.{PassedOn}
+use Rattle.gate_run_threads.specs.declared.putting.PassedOn.{PassedOn}
 use Rattle.gate_run.specs.declared.queues.Queues.{Queues}
-use Rattle.gate_reader.specs.declared.reader.Reader.{Reader}
-use Rattle.gate_reader.specs.declared.reader.ReaderEnd.{ReaderEnd}
-use Rattle.gate_worker.specs.declared.worker.Worker.{Worker}
-use Rattle.gate_worker.specs.declared.worker.WorkerEnd.{WorkerEnd}
-use Rattle.gate_dispatcher.specs.Dispatchers.{CanDispatch, HasDispatched}
+use Rattle.gate_run_reader.specs.declared.reader.Reader.{Reader}
+use Rattle.gate_run_reader.specs.declared.reader.ReaderEnd.{ReaderEnd}
+use Rattle.gate_run_worker.specs.declared.worker.Worker.{Worker}
+use Rattle.gate_run_worker.specs.declared.worker.WorkerEnd.{WorkerEnd}
+use Rattle.gate_run_dispatcher.specs.Dispatchers.{CanDispatch, HasDispatched}
 use Rattle.gate_source.specs.Feeds.{Told}
-use Rattle.gate_forwarder.specs.Forwarders.{CanForward, HasForwarded}
-use Rattle.gate_threads.specs.Lists.{Pairwise, EachAt}
-use Rattle.gate_posts.specs.Ports.{InboxEnds}
-use Rattle.gate_reader.specs.Readers.{CanRead, HasRead}
+use Rattle.gate_run_forwarder.specs.Forwarders.{CanForward, HasForwarded}
+use Rattle.gate_run_threads.specs.Lists.{Pairwise, EachAt}
+use Rattle.gate_run_posts.specs.Ports.{InboxEnds}
+use Rattle.gate_run_reader.specs.Readers.{CanRead, HasRead}
 use Rattle.gate_run.specs.Inner.Seatings.{AreWorkersOf, Cells, IsDispatcherOf, IsForwarderOf, IsReaderOf}
-use Rattle.gate_worker.specs.Workers.{CanWork, HasWorked}
+use Rattle.gate_run_worker.specs.Workers.{CanWork, HasWorked}
 
 abbrev pub ReadyToRead : {F : Type 0} → (F → ℕ) → Reader F → Type 0
 ReadyToRead faults w = CanRead w.queue.now w.tail w.cell.now w.note w.generations (faults w.feed)

@@ -1,7 +1,7 @@
 -- Beside `Replies`: what private contracts and proofs cite.
-use Rattle.gate_posts.specs.declared.posts.PostFault.{PostFault}
-use Rattle.gate_posts.specs.declared.posts.PostFault.TheVariants.{NoPipeline, Full}
-use Rattle.gate_posts.specs.Ports.{posted}
+use Rattle.gate_run_posts.specs.declared.posts.PostFault.{PostFault}
+use Rattle.gate_run_posts.specs.declared.posts.PostFault.TheVariants.{NoPipeline, Full}
+use Rattle.gate_run_posts.specs.Ports.{posted}
 use Rattle.gate_status.specs.declared.reply.Reply.{Reply}
 use Rattle.gate_status.specs.declared.reply.Reply.TheVariants as reply
 

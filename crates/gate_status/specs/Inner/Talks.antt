@@ -3,7 +3,7 @@ use Rattle.std.specs.Prelude.{◌≡◌, ℕ, List, map, Option, Some, None}
 use Rattle.gate_record.specs.declared.record.Record.{Record}
 use Rattle.gate_record.specs.Prefixes.{IsPrefixOf}
 use Rattle.gate_config.specs.declared.config.Config.{Config}
-use Rattle.gate_posts.specs.Ports.{PostsView}
+use Rattle.gate_run_posts.specs.Ports.{PostsView}
 use Rattle.gate_status.specs.declared.fault.SessionEnd.{SessionEnd}
 use Rattle.gate_status.specs.Talks.{Exchange, Talk}
 

@@ -1,7 +1,7 @@
 use Rattle.std.proofs.Common.{Bor, ℕ, List, [], map}
 use Rattle.gate_config.specs.Lookups.{belongs}
 use Rattle.gate_intern.specs.Marks.{numbers_where}
-use Rattle.gate_batch.proofs.Finding.{numbered_more}
+use Rattle.gate_match_rules.proofs.Finding.{numbered_more}
 use Rattle.gate_match.proofs.listed.listed_ids.Goals as goal
 
 abbrev now : Bor (List ℕ) → List ℕ

@@ -7,9 +7,9 @@ use Rattle.gate_lanes.specs.Masks.{is_among}
 use Rattle.gate_intern.specs.Columns.{texts_of}
 use Rattle.gate_intern.specs.declared.field.Field.TheVariants.{Project}
 use Rattle.gate_intern.specs.Marks.{numbers_where, passes}
-use Rattle.gate_batch.proofs.Results.{if_ok}
-use Rattle.gate_batch.proofs.Rows.{map_alike}
-use Rattle.gate_batch.proofs.Texts.{rows_pass}
+use Rattle.gate_match_rules.proofs.Results.{if_ok}
+use Rattle.gate_match_rules.proofs.Rows.{map_alike}
+use Rattle.gate_match_rules.proofs.Texts.{rows_pass}
 use Rattle.gate_match.proofs.listed.listed_rows.Goals as goal
 
 listed_where : (config : Config) (t c : ℕ) (project : Option (List ℕ)) → passes (belongs config t c) project ≡ is_listed config t c project

@@ -1,8 +1,8 @@
 use Rattle.std.proofs.Common.{rules, ◌∙◌, sym, ap, subst, is_some}
-use Rattle.gate_posts.specs.Asked.{knows_as_much}
+use Rattle.gate_run_posts.specs.Asked.{knows_as_much}
 use Rattle.gate_run.specs.Inner.Gatherings.{report_of_reader}
-use Rattle.gate_threads.specs.Lists.{Each}
-use Rattle.gate_threads.proofs.Paired.{moved_on}
+use Rattle.gate_run_threads.specs.Lists.{Each}
+use Rattle.gate_run_threads.proofs.Paired.{moved_on}
 use Rattle.gate_run.proofs.gathering.gather_readers.Goals as goal
 
 pub loop-end-preserved : goal.loop-end-preserved

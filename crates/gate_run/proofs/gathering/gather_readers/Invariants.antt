@@ -1,12 +1,12 @@
 use Rattle.std.specs.Prelude.{◌≡◌, ◌++◌, map, vec_items}
 use Rattle.std.specs.Vec.Iter.{into_iter_items}
 use Rattle.gate_source.specs.Stops.{IsNoteOf, Note}
-use Rattle.gate_reader.specs.Asked.{AreKnown}
-use Rattle.gate_posts.specs.Asked.{KnowsStill}
-use Rattle.gate_posts.specs.Asked.{knows_as_much}
+use Rattle.gate_run_reader.specs.Asked.{AreKnown}
+use Rattle.gate_run_posts.specs.Asked.{KnowsStill}
+use Rattle.gate_run_posts.specs.Asked.{knows_as_much}
 use Rattle.gate_run.specs.Inner.Gatherings.{most_asked, report_of_reader}
-use Rattle.gate_threads.specs.Lists.{Each}
-use Rattle.gate_reader.specs.Readers.{notes_of}
+use Rattle.gate_run_threads.specs.Lists.{Each}
+use Rattle.gate_run_reader.specs.Readers.{notes_of}
 use Rattle.gate_run.proofs.gathering.gather_readers.Given as goal
 
 -- what was gathered, with what is left, is all; a note that knows as much as this one and those that are left knows as much as

@@ -2,7 +2,7 @@ use Rattle.std.specs.Prelude.{◌≡◌, ◌++◌, map, vec_items}
 use Rattle.std.specs.Vec.Iter.{into_iter_items}
 use Rattle.gate_pipeline.specs.States.{report_of}
 use Rattle.gate_run.specs.Inner.Gatherings.{inbox_back}
-use Rattle.gate_posts.specs.PipelineEnds.{inbox_of}
+use Rattle.gate_run_posts.specs.PipelineEnds.{inbox_of}
 use Rattle.gate_run.proofs.gathering.gather_tenant.Given as goal
 
 abbrev pub invariant-loop-end : goal.invariant-loop-end

@@ -1,6 +1,6 @@
 use Rattle.std.specs.Prelude.{◌≡◌, ◌++◌, vec_items}
 use Rattle.std.specs.Vec.Iter.{into_iter_items}
-use Rattle.gate_reader.specs.Readers.{counts_of, notes_of}
+use Rattle.gate_run_reader.specs.Readers.{counts_of, notes_of}
 use Rattle.gate_run.proofs.gathering.parted.Given as goal
 
 -- what was parted, with what is left, is all

@@ -1,9 +1,9 @@
 use Rattle.std.proofs.Common.{◌∙◌, ap, [], length, map}
 use Rattle.gate_config.specs.Lookups.{pipelines_of}
-use Rattle.gate_threads.specs.Seats.{fresh_head, fresh_tail}
-use Rattle.gate_threads.proofs.Paired.{made_more}
-use Rattle.gate_threads.proofs.Places.{head_same}
-use Rattle.gate_threads.proofs.Staged.{alike_more}
+use Rattle.gate_run_threads.specs.Seats.{fresh_head, fresh_tail}
+use Rattle.gate_run_threads.proofs.Paired.{made_more}
+use Rattle.gate_run_threads.proofs.Places.{head_same}
+use Rattle.gate_run_threads.proofs.Staged.{alike_more}
 use Rattle.gate_run.proofs.queues.open_triggers.Goals as goal
 
 pub loop-number-preserved : goal.loop-number-preserved

@@ -1,7 +1,7 @@
 use Rattle.std.specs.Prelude.{◌≡◌, length, map, vec_items}
 use Rattle.std.specs.List.{range_with_len}
 use Rattle.gate_config.specs.Lookups.{pipelines_of}
-use Rattle.gate_threads.specs.Seats.{fresh_head, fresh_tail}
+use Rattle.gate_run_threads.specs.Seats.{fresh_head, fresh_tail}
 use Rattle.gate_run.proofs.queues.open_triggers.Given as goal
 
 abbrev pub invariant-loop-number : goal.invariant-loop-number

@@ -1,13 +1,13 @@
 use Rattle.std.proofs.Common.{List, ◌∙◌, ap, sym, subst, length, map}
 use Rattle.gate_config.specs.Lookups.{connections_of, tenants_of}
 use Rattle.gate_queue.specs.Seats.{Shape}
-use Rattle.gate_posts.specs.PipelineEnds.{inbox_of}
-use Rattle.gate_posts.specs.Ports.{pipeline_counts}
-use Rattle.gate_threads.specs.Lists.{EachAt}
+use Rattle.gate_run_posts.specs.PipelineEnds.{inbox_of}
+use Rattle.gate_run_posts.specs.Ports.{pipeline_counts}
+use Rattle.gate_run_threads.specs.Lists.{EachAt}
 use Rattle.gate_run.specs.Inner.Seatings.{AreWorkersOf, Cells, IsDispatcherOf, IsForwarderOf, IsReaderOf, IsWorkerOf}
 use Rattle.gate_run.specs.Inner.Works.{ReadyToDispatch, ReadyToForward, ReadyToRead, ReadyToWork}
-use Rattle.gate_threads.proofs.Paired.{map_length}
-use Rattle.gate_threads.proofs.Places.{all_of_at}
+use Rattle.gate_run_threads.proofs.Paired.{map_length}
+use Rattle.gate_run_threads.proofs.Places.{all_of_at}
 use Rattle.gate_run.proofs.Returning.{all_ready}
 use Rattle.gate_run.proofs.Whole.{if_ok}
 use Rattle.gate_run.proofs.running.run_between.Goals as goal

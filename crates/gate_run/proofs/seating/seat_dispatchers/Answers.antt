@@ -5,11 +5,11 @@ use Rattle.std.proofs.lemmas.Option.{slice_get_read}
 use Rattle.std.specs.Vec.Iter.{into_iter_items}
 use Rattle.gate_config.specs.Lookups.{pipelines_of, tenants_of}
 use Rattle.gate_run.specs.Inner.Seatings.{IsDispatcherOf}
-use Rattle.gate_threads.specs.Seats.{fresh_tail}
-use Rattle.gate_threads.proofs.Places.{left_is, next_is, some_left}
-use Rattle.gate_threads.proofs.Seated.{map_map}
+use Rattle.gate_run_threads.specs.Seats.{fresh_tail}
+use Rattle.gate_run_threads.proofs.Places.{left_is, next_is, some_left}
+use Rattle.gate_run_threads.proofs.Seated.{map_map}
 use Rattle.gate_run.proofs.Seatings.{as_many_of, count_here, dispatcher_of, here_mapped, one_more}
-use Rattle.gate_threads.proofs.Staged.{range_length}
+use Rattle.gate_run_threads.proofs.Staged.{range_length}
 use Rattle.gate_run.proofs.seating.seat_dispatchers.Goals as goal
 
 pub bounds-targets-number : goal.bounds-targets-number

@@ -1,6 +1,6 @@
 use Rattle.std.specs.Prelude.{◌≡◌, drop, length, vec_items}
 use Rattle.std.specs.Vec.Iter.{into_iter_items}
-use Rattle.gate_threads.specs.Lists.{EachAt}
+use Rattle.gate_run_threads.specs.Lists.{EachAt}
 use Rattle.gate_run.specs.Inner.Seatings.{IsForwarderOf}
 use Rattle.gate_run.proofs.seating.seat_forwarders.Given as goal
 

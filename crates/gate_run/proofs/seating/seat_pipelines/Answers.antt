@@ -2,9 +2,9 @@ use Rattle.std.proofs.Common.{rules, ◌≡◌, ◌∙◌, sym, refl, ◌<◌, l
 use Rattle.std.specs.Prelude.{slice_get}
 use Rattle.std.proofs.lemmas.Option.{slice_get_read}
 use Rattle.std.specs.Vec.Iter.{into_iter_items}
-use Rattle.gate_posts.specs.PipelineEnds.{inbox_of}
+use Rattle.gate_run_posts.specs.PipelineEnds.{inbox_of}
 use Rattle.gate_run.specs.Inner.Seatings.{IsWorkerOf}
-use Rattle.gate_threads.proofs.Places.{left_is, next_is}
+use Rattle.gate_run_threads.proofs.Places.{left_is, next_is}
 use Rattle.gate_run.proofs.Seatings.{here_mapped, one_more, worker_of}
 use Rattle.gate_run.proofs.seating.seat_pipelines.Goals as goal
 

@@ -3,7 +3,7 @@ use Rattle.std.specs.Prelude.{slice_get}
 use Rattle.std.proofs.lemmas.Option.{slice_get_read}
 use Rattle.std.specs.Vec.Iter.{into_iter_items}
 use Rattle.gate_run.specs.Inner.Seatings.{Cells, IsReaderOf}
-use Rattle.gate_threads.proofs.Places.{left_is, next_is}
+use Rattle.gate_run_threads.proofs.Places.{left_is, next_is}
 use Rattle.gate_run.proofs.Seatings.{one_more, reader_of}
 use Rattle.gate_run.proofs.seating.seat_readers.Goals as goal
 

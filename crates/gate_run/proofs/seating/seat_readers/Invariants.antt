@@ -1,6 +1,6 @@
 use Rattle.std.specs.Prelude.{◌≡◌, drop, length, vec_items}
 use Rattle.std.specs.Vec.Iter.{into_iter_items}
-use Rattle.gate_threads.specs.Lists.{EachAt}
+use Rattle.gate_run_threads.specs.Lists.{EachAt}
 use Rattle.gate_run.specs.Inner.Seatings.{IsReaderOf}
 use Rattle.gate_run.proofs.seating.seat_readers.Given as goal
 

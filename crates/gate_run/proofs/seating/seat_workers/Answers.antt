@@ -5,13 +5,13 @@ use Rattle.std.proofs.lemmas.List.{map-append}
 use Rattle.std.proofs.lemmas.Option.{slice_get_read}
 use Rattle.std.specs.Vec.Iter.{into_iter_items}
 use Rattle.gate_config.specs.Lookups.{pipelines_of, tenants_of}
-use Rattle.gate_posts.specs.PipelineEnds.{inbox_of}
+use Rattle.gate_run_posts.specs.PipelineEnds.{inbox_of}
 use Rattle.gate_run.specs.Inner.Seatings.{AreWorkersOf}
-use Rattle.gate_threads.specs.Seats.{fresh_head}
-use Rattle.gate_threads.proofs.Paired.{map_length}
-use Rattle.gate_threads.proofs.Places.{left_is, next_is, some_left}
+use Rattle.gate_run_threads.specs.Seats.{fresh_head}
+use Rattle.gate_run_threads.proofs.Paired.{map_length}
+use Rattle.gate_run_threads.proofs.Places.{left_is, next_is, some_left}
 use Rattle.gate_run.proofs.Seatings.{as_many_of, count_here, here_mapped, is_mapped, one_more}
-use Rattle.gate_threads.proofs.Staged.{range_length}
+use Rattle.gate_run_threads.proofs.Staged.{range_length}
 use Rattle.gate_run.proofs.seating.seat_workers.Goals as goal
 
 pub bounds-sources-number : goal.bounds-sources-number

@@ -1,7 +1,7 @@
 use Rattle.std.specs.Prelude.{◌≡◌, drop, length, map, vec_items}
 use Rattle.std.specs.Vec.Iter.{into_iter_items}
-use Rattle.gate_threads.specs.Lists.{EachAt}
-use Rattle.gate_posts.specs.PipelineEnds.{inbox_of}
+use Rattle.gate_run_threads.specs.Lists.{EachAt}
+use Rattle.gate_run_posts.specs.PipelineEnds.{inbox_of}
 use Rattle.gate_run.specs.Inner.Seatings.{AreWorkersOf}
 use Rattle.gate_run.proofs.seating.seat_workers.Given as goal
 

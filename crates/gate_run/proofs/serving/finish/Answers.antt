@@ -1,9 +1,9 @@
 use Rattle.std.proofs.Common.{◌≡◌, ◌∙◌, sym, ap, length, map}
 use Rattle.std.specs.List.{range_with_len}
-use Rattle.gate_threads.specs.Seats.{seat_in, seat_of}
-use Rattle.gate_threads.proofs.Seated.{map_map}
+use Rattle.gate_run_threads.specs.Seats.{seat_in, seat_of}
+use Rattle.gate_run_threads.proofs.Seated.{map_map}
 use Rattle.gate_run.proofs.Seatings.{as_many_of}
-use Rattle.gate_threads.proofs.Turned.{map_same}
+use Rattle.gate_run_threads.proofs.Turned.{map_same}
 use Rattle.gate_run.proofs.serving.finish.Goals as goal
 
 pub settle_lane-requires-clause-heads : goal.settle_lane-requires-clause-heads

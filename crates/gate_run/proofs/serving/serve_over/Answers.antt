@@ -1,14 +1,14 @@
 use Rattle.std.proofs.Common.{◌∙◌, sym, ap, subst, length, map}
-use Rattle.gate_posts.specs.Asked.{KnowsStill}
+use Rattle.gate_run_posts.specs.Asked.{KnowsStill}
 use Rattle.gate_pipeline.specs.States.{report_of}
 use Rattle.gate_run.specs.Inner.Gatherings.{inbox_back, most_asked}
 use Rattle.gate_run.specs.Inner.Queues.{AreOpen}
-use Rattle.gate_posts.specs.PipelineEnds.{inbox_of}
-use Rattle.gate_posts.specs.Ports.{InboxView}
-use Rattle.gate_threads.proofs.Paired.{map_length}
+use Rattle.gate_run_posts.specs.PipelineEnds.{inbox_of}
+use Rattle.gate_run_posts.specs.Ports.{InboxView}
+use Rattle.gate_run_threads.proofs.Paired.{map_length}
 use Rattle.gate_run.proofs.Promised.{serves}
-use Rattle.gate_threads.proofs.Seated.{map_map}
-use Rattle.gate_threads.proofs.Turned.{map_same}
+use Rattle.gate_run_threads.proofs.Seated.{map_map}
+use Rattle.gate_run_threads.proofs.Turned.{map_same}
 use Rattle.gate_run.proofs.Whole.{evidence, item_heads, item_senders, item_tails, known, notes, record_heads, record_tails, trigger_heads, trigger_tails}
 use Rattle.gate_run.proofs.serving.serve_over.Goals as goal
 

@@ -2,7 +2,7 @@ use Rattle.std.proofs.Common.{◌∙◌, ap, Bool, Some, None, if◌then◌else�
 use Rattle.gate_core.specs.declared.step.Step.TheVariants as step
 use Rattle.gate_core.specs.History.{offered_to}
 use Rattle.gate_core.specs.Worlds.{gens_of, state_of}
-use Rattle.gate_ways.proofs.Arrivals.{same_as_itself}
+use Rattle.gate_delivery.proofs.Arrivals.{same_as_itself}
 use Rattle.gate_core.proofs.Counting.{one_more}
 use Rattle.gate_core.proofs.world.World.step.Goals as goal
 

@@ -1,6 +1,6 @@
 use Rattle.std.proofs.Common.{◌∙◌, ap, ap₂}
 use Rattle.gate_match.specs.Inner.Choosing.{listed_in}
-use Rattle.gate_batch.specs.Marks.{both}
+use Rattle.gate_match_rules.specs.Marks.{both}
 use Rattle.gate_match.proofs.Chosen.{active_is}
 use Rattle.gate_match.proofs.program.Program.active.Goals as goal
 

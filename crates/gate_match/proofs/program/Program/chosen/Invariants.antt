@@ -1,6 +1,6 @@
 use Rattle.std.proofs.Common.{◌≡◌, drop, false, length, replicate}
 use Rattle.gate_match.specs.Inner.Choosing.{chosen}
-use Rattle.gate_batch.specs.Knowing.{AreRight}
+use Rattle.gate_match_rules.specs.Knowing.{AreRight}
 use Rattle.gate_match.proofs.program.Program.chosen.Given as goal
 
 -- what was chosen, and what will be of the keys that are left, is all that is chosen

@@ -7,9 +7,9 @@ use Rattle.gate_config.specs.declared.generations.Generations.{Generations}
 use Rattle.gate_config.specs.Generations.{config_at}
 use Rattle.gate_config.specs.Selection.{is_listed, selects_event}
 use Rattle.gate_match.specs.Inner.Choosing.{active_in, same_key}
-use Rattle.gate_batch.specs.Marks.{words_of}
+use Rattle.gate_match_rules.specs.Marks.{words_of}
 use Rattle.gate_match.proofs.Chosen.{chosen_rows, keys_length}
-use Rattle.gate_batch.proofs.Masks.{words_of_map}
+use Rattle.gate_match_rules.proofs.Masks.{words_of_map}
 use Rattle.gate_match.proofs.program.Program.mask.Goals as goal
 
 active_length : (gens : Generations) (t : ℕ) (key : ℕ × ℕ) (keys : List (ℕ × ℕ)) (events : List Event) → length events ≡ length keys → length (active_in gens t key (zip keys events)) ≡ length events

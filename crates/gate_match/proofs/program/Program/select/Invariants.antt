@@ -1,6 +1,6 @@
 use Rattle.std.proofs.Common.{◌≡◌, map}
 use Rattle.std.specs.List.{range_with_len, zip}
-use Rattle.gate_batch.specs.Knowing.{AreRight}
+use Rattle.gate_match_rules.specs.Knowing.{AreRight}
 use Rattle.gate_match.specs.Selecting.{mask_of}
 use Rattle.gate_match.proofs.program.Program.select.Given as goal
 

@@ -1,5 +1,5 @@
 use Rattle.std.proofs.Common.{refl, sym, subst, Ok}
-use Rattle.gate_posts.specs.Ports.{PostEnds}
+use Rattle.gate_run_posts.specs.Ports.{PostEnds}
 use Rattle.gate_status.specs.declared.command.Command.TheVariants.{Result}
 use Rattle.gate_status.specs.Replies.{MayReply}
 use Rattle.gate_status.proofs.InRange.{may_post, may_refuse}

@@ -1,11 +1,11 @@
 use Rattle.std.proofs.Common.{List, map, subst}
 use Rattle.std.specs.Prelude.{IfOk}
 use denote.Param.Send.{IsSync, sendable}
-use Rattle.gate_dispatcher.specs.declared.dispatcher.Dispatcher.{Dispatcher}
-use Rattle.gate_forwarder.specs.declared.forwarder.Forwarder.{Forwarder}
-use Rattle.gate_reader.specs.declared.reader.Reader.{Reader}
-use Rattle.gate_worker.specs.declared.worker.Worker.{Worker}
-use Rattle.gate_threads.specs.Lists.{Pairwise}
+use Rattle.gate_run_dispatcher.specs.declared.dispatcher.Dispatcher.{Dispatcher}
+use Rattle.gate_run_forwarder.specs.declared.forwarder.Forwarder.{Forwarder}
+use Rattle.gate_run_reader.specs.declared.reader.Reader.{Reader}
+use Rattle.gate_run_worker.specs.declared.worker.Worker.{Worker}
+use Rattle.gate_run_threads.specs.Lists.{Pairwise}
 use Rattle.gate_run.specs.declared.gathering.Ends.{Ends}
 use Rattle.gate_run.specs.Inner.Works.{Dispatched, Forwarded, Read, Worked}
 use Rattle.gate_run.proofs.Sendings.{dispatcher_send, forwarder_send, worker_send}

@@ -1,6 +1,0 @@
-use Rattle.std.proofs.Common.{◌≡◌, take}
-use Rattle.gate_batch.specs.Narrowing.{entries_of}
-use Rattle.gate_batch.proofs.compiling.all_asked.Given as goal
-
-abbrev pub invariant-loop-entry : goal.invariant-loop-entry
-invariant-loop-entry l = entries_of l.asked.items ≡ take l.entry-index l.entries

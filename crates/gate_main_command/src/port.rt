@@ -1,0 +1,78 @@
+//! The status port.
+use crate::fault::Fault;
+use gate_main_streams::{Address, SocketFile};
+use std::fs::File;
+use std::io;
+use std::io::ErrorKind;
+use std::net::{Net, TcpListener, TcpStream};
+use std::os::unix::net::UnixListener;
+use std::rt::Files;
+use std::time::Clock;
+
+/// Reads the word STATUS: where the port is to be, if there is to be one. `Usage` for a word of another form.
+pub fn port_address(word: &str) -> Result<Option<Address<'_>>, Fault> {
+    match Address::of(word) {
+        None if word == "none" => Ok(None),
+        None | Some(Address::File(_)) => Err(Fault::Usage),
+        address => Ok(address),
+    }
+}
+
+/// What is listened on.
+#[derive(Drop)]
+pub enum Port {
+    /// A TCP address.
+    Tcp(TcpListener),
+    /// A Unix socket.
+    Unix(UnixListener),
+}
+
+/// A port that is listened on, and its file, if it has one.
+#[derive(Drop)]
+pub struct Listening<'a> {
+    pub port: Port,
+    pub file: Option<SocketFile<'a>>,
+}
+
+impl<'a> Listening<'a> {
+    /// Listens at an address: `SocketFile::listen` has what becomes of a Unix socket's file.
+    pub fn at<X>(rt: &X, address: Address<'a>) -> io::Result<Listening<'a>>
+    where
+        X: Files<File = File> + Net<Stream = TcpStream, Listener = TcpListener> + Clock,
+    {
+        match address {
+            Address::Tcp(place) => Ok(Listening {
+                port: Port::Tcp(TcpListener::bind(rt, place)?),
+                file: None,
+            }),
+            Address::Unix(path) => {
+                let (listener, file) = SocketFile::listen(rt, path)?;
+                Ok(Listening {
+                    port: Port::Unix(listener),
+                    file: Some(file),
+                })
+            }
+            Address::File(_) => Err(io::Error::from(ErrorKind::InvalidInput)),
+        }
+    }
+}
+
+/// Listens at the address of the word STATUS, if there is one: the port, and its file, if it has one. `Listen` where that can't be done,
+/// `Memory` where it is refused.
+pub fn listen<'a, X>(
+    rt: &X,
+    word: &str,
+    address: Option<Address<'a>>,
+) -> Result<(Option<Port>, Option<SocketFile<'a>>), Fault>
+where
+    X: Files<File = File> + Net<Stream = TcpStream, Listener = TcpListener> + Clock + AllocGlobal,
+{
+    let Some(address) = address else {
+        return Ok((None, None));
+    };
+    match Listening::at(rt, address) {
+        Ok(Listening { port, file }) => Ok((Some(port), file)),
+        Err(error) if error.kind() == ErrorKind::OutOfMemory => Err(Fault::Memory),
+        Err(_) => Err(Fault::Listen(String::from_str(rt.alloc(), word)?)),
+    }
+}

@@ -1,0 +1,177 @@
+//! `gate serve`: the streams are opened, the port is listened on, and a report is made of what has run.
+ghost use Rattle.std.specs.Prelude.{◌≡◌, ◌-◌, ◌<◌, ◌^◌, All, IfOk, length};
+ghost use Rattle.gate_config.specs.Lookups.{connections_of};
+ghost use Rattle.gate_run_posts.specs.Ports.{IsInboxFor};
+
+use gate_config::{Config, Generations, read_generations};
+use gate_core::report_text;
+use gate_main_command::{
+    Fault, JournalFault, JournalGate, Port, Source, journal_file, journaling_crosses, listen,
+    open_feeds, open_inbox, open_journaling, port_address, sources_of,
+};
+use gate_main_streams::Stream;
+use gate_record::Shared;
+use gate_run::{Inbox, ReaderFeed, RecordFeed, Served, serve};
+use gate_status::{Board, BoardGate};
+use std::alloc::Global;
+use std::fs::File;
+use std::mem;
+use std::net::{Net, TcpListener, TcpStream};
+use std::rt::Files;
+use std::sync::{Mutex, Wait};
+use std::thread::{JoinHandle, Threads};
+use std::time::Clock;
+
+/// What a run has come to.
+#[derive(Drop)]
+pub(crate) struct Ran {
+    /// The report.
+    pub(crate) report: String,
+    /// Why the journal has no lines of what came last, if it hasn't.
+    pub(crate) fault: Option<JournalFault>,
+}
+
+/// Runs the configuration of these documents, a generation each, over the streams of these words, with a port where STATUS asks for
+/// one, and a journal at this path, if there is one.
+///
+/// The faults come in this order: those of the documents; `Usage` for STATUS; `Source` for the words; `Listen`; `Journal`; `File` and
+/// `Connect` for the streams, in the order of their words; `Thread`. `Memory` where it is refused.
+pub(crate) fn serve_words<X>(
+    rt: &X,
+    documents: Vec<Vec<u8>>,
+    status: &str,
+    words: &[String],
+    journal: Option<&str>,
+) -> Result<Ran, Fault>
+where
+    X: Files<File = File>
+        + Net<Stream = TcpStream, Listener = TcpListener>
+        + Threads
+        + Wait
+        + Clock
+        + AllocGlobal
+        + Copy
+        + Send
+        + Sync
+        + 'static,
+{
+    let alloc = rt.alloc();
+    let gens = shared_generations(alloc, documents)?;
+    let board = shared_board(alloc, gens.get().first())?;
+    let address = port_address(status)?;
+    let sources = sources_of(alloc, gens.get().first(), words)?;
+    let (port, socket) = listen(rt, status, address)?;
+    let ran = match open_all(rt, gens.get().first(), sources.as_slice(), journal) {
+        Ok((file, feeds)) => run(rt, &gens, &board, feeds, port, file),
+        Err(fault) => Err(fault),
+    };
+    // While it is listened on, nobody else takes the socket for an abandoned one.
+    if let Some(socket) = socket {
+        let _ = socket.remove(rt);
+    }
+    let (ran, _port) = ran?;
+    // The program ends behind this, and the system takes it back at once.
+    mem::forget(gens);
+    Ok(ran)
+}
+
+// A run may take days, and what was read isn't asked again: so the documents end here.
+fn shared_generations(
+    alloc: Global,
+    documents: Vec<Vec<u8>>,
+) -> Result<Shared<Generations>, Fault> {
+    Ok(Shared::new(alloc, read_generations(alloc, documents.as_slice())?)?)
+}
+
+fn shared_board(alloc: Global, config: &Config) -> Result<Shared<Mutex<Board>>, Fault> {
+    Ok(Shared::new(alloc, Mutex::new(Board::new(alloc, config)?))?)
+}
+
+// The journal and the streams of a run, and its feeds by connection number.
+fn open_all<X: Files<File = File> + Net<Stream = TcpStream> + AllocGlobal>(
+    rt: &X,
+    config: &Config,
+    sources: &[Source<'_>],
+    journal: Option<&str>,
+) -> Result<(Option<File>, Vec<ReaderFeed<Stream>>), Fault>
+    ensures count { IfOk result (λ opened. length opened.1.items ≡ length (connections_of config.now)) }
+    ensures few { IfOk result (λ opened. All (λ feed. ⟦<ReaderFeed<Stream> as RecordFeed>⟧.fault_count feed < 2 ^ 64 - 1) opened.1.items) }
+{
+    let file = match journal {
+        Some(path) => Some(journal_file(rt, path)?),
+        None => None,
+    };
+    let feeds = open_feeds(rt, config, sources)?;
+    Ok((file, feeds))
+}
+
+// Runs until the streams are worked off or a session has ended by `stop`; where there is a port, one has to. What came of it, and
+// the port.
+fn run<X>(
+    rt: &X,
+    gens: &Shared<Generations>,
+    board: &Shared<Mutex<Board>>,
+    feeds: Vec<ReaderFeed<Stream>>,
+    port: Option<Port>,
+    file: Option<File>,
+) -> Result<(Ran, Option<Port>), Fault>
+where
+    X: Threads + Wait + Clock + AllocGlobal + Copy + Send + Sync + 'static,
+    requires feeds { length feeds.items ≡ length (connections_of gens.now.first) }
+    requires few { All (λ feed. ⟦<ReaderFeed<Stream> as RecordFeed>⟧.fault_count feed < 2 ^ 64 - 1) feeds.items }
+{
+    let (sessions, inbox) = open_inbox(rt, gens, board, port)?;
+    let ran = run_told(rt, gens, board, feeds, inbox, file)?;
+    Ok((ran, joined(rt, sessions)))
+}
+
+fn joined<X: Threads + Wait>(rt: &X, sessions: Option<JoinHandle<Port>>) -> Option<Port> {
+    match sessions {
+        Some(sessions) => Some(sessions.join(rt)),
+        None => None,
+    }
+}
+
+// Runs with the board and the journal told of what the pipelines do.
+fn run_told<X>(
+    rt: &X,
+    gens: &Shared<Generations>,
+    board: &Shared<Mutex<Board>>,
+    feeds: Vec<ReaderFeed<Stream>>,
+    inbox: Inbox,
+    file: Option<File>,
+) -> Result<Ran, Fault>
+where
+    X: Threads + Wait + Clock + AllocGlobal + Copy + Send + Sync + 'static,
+    requires feeds { length feeds.items ≡ length (connections_of gens.now.first) }
+    requires few { All (λ feed. ⟦<ReaderFeed<Stream> as RecordFeed>⟧.fault_count feed < 2 ^ 64 - 1) feeds.items }
+    requires for_config { IsInboxFor gens.now.first inbox }
+{
+    let alloc = rt.alloc();
+    journaling_crosses();
+    let journal = open_journaling(alloc, gens, &inbox, file)?;
+    let gate = JournalGate::new(BoardGate::new(board.get()), journal.as_ref());
+    let served = serve(rt, alloc, gens.get(), feeds, inbox, &gate)?;
+    let report = report(alloc, gens.get().first(), served)?;
+    let fault = journal.and_then(|journal| journal.lock(rt).fault());
+    Ok(Ran { report, fault })
+}
+
+// The text of the report of a run, whose pipelines the system takes back when the program ends, right behind this.
+fn report(
+    alloc: Global,
+    config: &Config,
+    served: Served<ReaderFeed<Stream>>,
+) -> Result<String, Fault> {
+    let Served {
+        report,
+        pipelines,
+        feeds,
+        inbox: _inbox,
+    } = served;
+    // A stream may stand where standard output was closed.
+    drop(feeds);
+    let text = report_text(alloc, config, &report)?;
+    mem::forget(pipelines);
+    Ok(text)
+}

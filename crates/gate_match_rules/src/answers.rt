@@ -1,0 +1,156 @@
+ghost use Rattle.std.specs.Prelude.{◌≡◌, IfOk, IfSome, OnOk, List, length, true};
+ghost use Rattle.gate_record.specs.declared.event.Event.{Event};
+ghost use Rattle.gate_match_rules.specs.Finding.{HoldsOfEntry, met_in, texts_of};
+ghost use Rattle.gate_match_rules.specs.Knowing.{asked_in};
+ghost use Rattle.gate_match_rules.specs.Inner.Joined.{joined};
+
+use crate::asked::Asked;
+use crate::given::Approvals;
+use crate::mask::{Joining, Mask};
+use crate::matcher_cache::MatcherCache;
+use crate::reach::reach_in;
+use gate_intern::{Columns, Field, texts_mark_their_events};
+use gate_record::Memory;
+use gate_rule::Entry;
+use std::alloc::Global;
+
+// The rows of a batch whose field meets the entries of a pattern's text that are negated, or those that aren't.
+#[derive(Drop)]
+pub(crate) struct Answer<'c> {
+    field: Field,
+    text: &'c str,
+    negate: bool,
+    rows: Mask,
+}
+
+/// What was found so far in a batch: in its fields, so that no entry is tried twice on a field; and of its approvals. It belongs to one
+/// cache, with its room for an index of four bytes for each different entry.
+//
+// An answer tells of which field and entry it is, and nothing is known of the index.
+#[derive(Drop)]
+pub struct Answers<'c> {
+    known: Vec<Answer<'c>>,
+    // By an entry's place: how many answers were known with the one that stands here, and 0 where none does.
+    index: Vec<u32>,
+    pub(crate) approvals: Approvals,
+}
+
+impl<'c> Answer<'c> {
+    // Whether this is the answer of the entry in the field.
+    fn is_of(&self, field: Field, entry: &Entry) -> bool
+        ensures field { result ≡ true → self.now.field ≡ field }
+        ensures entry { result ≡ true → asked_in self.now ≡ texts_of entry.now }
+    {
+        self.field == field && self.negate == entry.negate && self.text == entry.pattern.text()
+    }
+}
+
+impl<'c> Answers<'c> {
+    ghost use Rattle.gate_match_rules.specs.Knowing.{AreRight};
+
+    /// Nothing was asked, of whichever batch.
+    pub fn none(alloc: Global) -> Answers<'c>
+        ensures { (events : List Event) → AreRight events result }
+    {
+        Answers {
+            known: Vec::new(alloc),
+            index: Vec::new(alloc),
+            approvals: Approvals::none(alloc),
+        }
+    }
+
+    // Takes into the mask the rows whose field meets the entry.
+    pub(crate) fn join(
+        &mut self,
+        alloc: Global,
+        cache: &MatcherCache<'c>,
+        columns: &Columns<'_>,
+        field: Field,
+        asked: &Asked<'c>,
+        joining: Joining,
+        out: &mut Mask,
+    ) -> Result<(), Memory>
+        requires { AreRight columns.now self.old × (length out.old ≡ length columns.now) }
+        ensures fits { AreRight columns.now self.new × (length out.new ≡ length columns.now) }
+        ensures joins { OnOk result (out.new ≡ joined joining out.old (met_in field asked.now.entry.now columns.now)) }
+    {
+        if let Some(rows) = self.find(field, asked) {
+            out.join(joining, rows);
+            return Ok(());
+        }
+        let rows = rows(alloc, cache, columns, field, asked)?;
+        out.join(joining, &rows);
+        self.keep(alloc, cache, field, asked, rows)
+    }
+
+    // What is known of the entry in the field.
+    pub(crate) fn find(&self, field: Field, asked: &Asked<'c>) -> Option<&Mask>
+        ensures { (events : List Event) → AreRight events self.now → IfSome result (λ rows. rows.now ≡ met_in field asked.now.entry.now events) }
+    {
+        let count = *self.index.get(asked.place)? as usize;
+        match self.known.get(count.wrapping_sub(1)) {
+            Some(answer) if answer.is_of(field, asked.entry) => Some(&answer.rows),
+            _ => None,
+        }
+    }
+
+    fn keep(
+        &mut self,
+        alloc: Global,
+        cache: &MatcherCache<'c>,
+        field: Field,
+        asked: &Asked<'c>,
+        rows: Mask,
+    ) -> Result<(), Memory>
+        ensures { (events : List Event) → AreRight events self.old → HoldsOfEntry (texts_of asked.now.entry.now) (λ entry. rows ≡ met_in field entry events) → AreRight events self.new }
+    {
+        let answer = Answer {
+            field,
+            text: asked.entry.pattern.text(),
+            negate: asked.entry.negate,
+            rows,
+        };
+        self.known.push(answer)?;
+        self.note_last(alloc, cache, asked.place)
+    }
+
+    // The answer that came last stands at this place.
+    fn note_last(
+        &mut self,
+        alloc: Global,
+        cache: &MatcherCache<'c>,
+        place: usize,
+    ) -> Result<(), Memory>
+        ensures known { self.new.known.items ≡ self.old.known.items }
+        ensures approvals { self.new.approvals ≡ self.old.approvals }
+    {
+        if self.index.is_empty() {
+            self.index = vec![in alloc; 0; cache.questions()]?;
+        }
+        if let Some(count) = self.index.get_mut(place) {
+            *count = u32::try_from(self.known.len()).unwrap_or(0);
+        }
+        Ok(())
+    }
+}
+
+// The rows whose field meets the entry, and so each entry of its texts. It stands apart from what finds an answer that is known.
+#[inline(never)]
+fn rows<'c>(
+    alloc: Global,
+    cache: &MatcherCache<'c>,
+    columns: &Columns<'_>,
+    field: Field,
+    asked: &Asked<'c>,
+) -> Result<Mask, Memory>
+    ensures { IfOk result (λ rows. HoldsOfEntry (texts_of asked.now.entry.now) (λ entry. rows ≡ met_in field entry columns.now)) }
+{
+    texts_mark_their_events();
+    cache.rows(
+        alloc,
+        asked,
+        reach_in(field),
+        columns.texts(field),
+        columns.column(field),
+    )
+}

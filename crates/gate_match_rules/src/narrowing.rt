@@ -1,0 +1,231 @@
+ghost use Rattle.std.specs.Prelude.{◌≡◌, IfOk, OnOk, length};
+ghost use Rattle.gate_match_rules.specs.Knowing.{AreRight};
+ghost use Rattle.gate_match_rules.specs.Marks.{both};
+ghost use Rattle.gate_match_rules.specs.Compiling.{rule_of};
+ghost use Rattle.gate_match_rules.specs.Narrowing.{any_met_in, approved, meeting, meeting_front, meeting_in, meeting_rest, not_ignored, entries_of};
+
+use crate::answers::Answers;
+use crate::asked::Asked;
+use crate::compiled::Compiled;
+use crate::mask::{Joining, Mask};
+use crate::matcher_cache::MatcherCache;
+use gate_intern::{Columns, Field};
+use gate_record::{Memory, Text};
+use std::alloc::Global;
+
+// Leaves of the rows those whose event meets the rule. Where none is left, nothing that remains of the rule is looked for.
+pub(crate) fn narrow<'c>(
+    alloc: Global,
+    cache: &MatcherCache<'c>,
+    columns: &Columns<'_>,
+    rule: &Compiled<'c>,
+    answers: &mut Answers<'c>,
+    out: &mut Mask,
+) -> Result<(), Memory>
+    requires right { AreRight columns.now answers.old }
+    requires len { length out.old ≡ length columns.now }
+    ensures right { AreRight columns.now answers.new }
+    ensures len { length out.new ≡ length columns.now }
+    ensures leaves { OnOk result (out.new ≡ both out.old (meeting (rule_of rule.now) columns.now)) }
+{
+    narrow_front(alloc, cache, columns, rule, answers, out)?;
+    if out.is_none() {
+        return Ok(());
+    }
+    narrow_rest(alloc, cache, columns, rule, answers, out)
+}
+
+fn narrow_front<'c>(
+    alloc: Global,
+    cache: &MatcherCache<'c>,
+    columns: &Columns<'_>,
+    rule: &Compiled<'c>,
+    answers: &mut Answers<'c>,
+    out: &mut Mask,
+) -> Result<(), Memory>
+    requires right { AreRight columns.now answers.old }
+    requires len { length out.old ≡ length columns.now }
+    ensures right { AreRight columns.now answers.new }
+    ensures len { length out.new ≡ length columns.now }
+    ensures leaves { OnOk result (out.new ≡ both out.old (meeting_front (rule_of rule.now) columns.now)) }
+{
+    narrow_in(
+        alloc,
+        cache,
+        columns,
+        Field::Kind,
+        rule.event.as_slice(),
+        answers,
+        out,
+    )?;
+    if out.is_none() {
+        return Ok(());
+    }
+    narrow_in(
+        alloc,
+        cache,
+        columns,
+        Field::Branch,
+        rule.branch.as_slice(),
+        answers,
+        out,
+    )?;
+    if out.is_none() {
+        return Ok(());
+    }
+    narrow_in(
+        alloc,
+        cache,
+        columns,
+        Field::Refname,
+        rule.refname.as_slice(),
+        answers,
+        out,
+    )
+}
+
+fn narrow_rest<'c>(
+    alloc: Global,
+    cache: &MatcherCache<'c>,
+    columns: &Columns<'_>,
+    rule: &Compiled<'c>,
+    answers: &mut Answers<'c>,
+    out: &mut Mask,
+) -> Result<(), Memory>
+    requires right { AreRight columns.now answers.old }
+    requires len { length out.old ≡ length columns.now }
+    ensures right { AreRight columns.now answers.new }
+    ensures len { length out.new ≡ length columns.now }
+    ensures leaves { OnOk result (out.new ≡ both out.old (meeting_rest (rule_of rule.now) columns.now)) }
+{
+    narrow_in(
+        alloc,
+        cache,
+        columns,
+        Field::Username,
+        rule.username.as_slice(),
+        answers,
+        out,
+    )?;
+    narrow_left_in(
+        alloc,
+        cache,
+        columns,
+        Field::Email,
+        rule.email.as_slice(),
+        answers,
+        out,
+    )?;
+    narrow_left_in(
+        alloc,
+        cache,
+        columns,
+        Field::Comment,
+        rule.comment.as_slice(),
+        answers,
+        out,
+    )?;
+    narrow_approved(alloc, columns, rule.approval, answers, out)?;
+    narrow_deletes(columns, rule.ignore_deletes, out);
+    Ok(())
+}
+
+// Leaves of the rows those whose field meets one of the entries. With no entry all stay.
+fn narrow_in<'c>(
+    alloc: Global,
+    cache: &MatcherCache<'c>,
+    columns: &Columns<'_>,
+    field: Field,
+    asked: &[Asked<'c>],
+    answers: &mut Answers<'c>,
+    out: &mut Mask,
+) -> Result<(), Memory>
+    requires right { AreRight columns.now answers.old }
+    requires len { length out.old ≡ length columns.now }
+    ensures right { AreRight columns.now answers.new }
+    ensures len { length out.new ≡ length columns.now }
+    ensures leaves { OnOk result (out.new ≡ both out.old (meeting_in field (entries_of asked.now) columns.now)) }
+{
+    if asked.is_empty() {
+        return Ok(());
+    }
+    if let [one] = asked {
+        return answers.join(alloc, cache, columns, field, one, Joining::Both, out);
+    }
+    let met = any_met(alloc, cache, columns, field, asked, answers)?;
+    out.and(&met);
+    Ok(())
+}
+
+// The same where rows are left: where none is, nothing is looked for.
+fn narrow_left_in<'c>(
+    alloc: Global,
+    cache: &MatcherCache<'c>,
+    columns: &Columns<'_>,
+    field: Field,
+    asked: &[Asked<'c>],
+    answers: &mut Answers<'c>,
+    out: &mut Mask,
+) -> Result<(), Memory>
+    requires right { AreRight columns.now answers.old }
+    requires len { length out.old ≡ length columns.now }
+    ensures right { AreRight columns.now answers.new }
+    ensures len { length out.new ≡ length columns.now }
+    ensures leaves { OnOk result (out.new ≡ both out.old (meeting_in field (entries_of asked.now) columns.now)) }
+{
+    if out.is_none() {
+        return Ok(());
+    }
+    narrow_in(alloc, cache, columns, field, asked, answers, out)
+}
+
+// The rows whose field meets one of the entries.
+fn any_met<'c>(
+    alloc: Global,
+    cache: &MatcherCache<'c>,
+    columns: &Columns<'_>,
+    field: Field,
+    asked: &[Asked<'c>],
+    answers: &mut Answers<'c>,
+) -> Result<Mask, Memory>
+    requires { AreRight columns.now answers.old }
+    ensures right { AreRight columns.now answers.new }
+    ensures met { IfOk result (λ rows. rows ≡ any_met_in field (entries_of asked.now) columns.now) }
+{
+    let mut met = Mask::none(alloc, columns.rows())?;
+    for one in asked {
+        answers.join(alloc, cache, columns, field, one, Joining::Either, &mut met)?;
+    }
+    Ok(met)
+}
+
+// Leaves of the rows those to which each of the categories is given, with its vote.
+fn narrow_approved(
+    alloc: Global,
+    columns: &Columns<'_>,
+    asked: &[(Text, i64)],
+    answers: &mut Answers<'_>,
+    out: &mut Mask,
+) -> Result<(), Memory>
+    requires right { AreRight columns.now answers.old }
+    requires len { length out.old ≡ length columns.now }
+    ensures right { AreRight columns.now answers.new }
+    ensures len { length out.new ≡ length columns.now }
+    ensures leaves { OnOk result (out.new ≡ both out.old (approved asked.now columns.now)) }
+{
+    for wanted in asked {
+        answers.approvals.leave(alloc, columns, wanted, out)?;
+    }
+    Ok(())
+}
+
+// Leaves of the rows those that aren't a deletion, if deletions are ignored.
+fn narrow_deletes(columns: &Columns<'_>, ignores: bool, out: &mut Mask)
+    requires { length out.old ≡ length columns.now }
+    ensures len { length out.new ≡ length columns.now }
+    ensures leaves { out.new ≡ both out.old (not_ignored ignores columns.now) }
+{
+    if ignores {
+        out.clear(columns.deletes());
+    }
+}

@@ -1,0 +1,345 @@
+//! The queues of management events and results: what is posted from outside, and taken by the pipelines' workers.
+ghost use Rattle.std.specs.Prelude.{◌≡◌, ◌<◌, ◌+◌, [], IfErr, IfNone, IfOk, IfSome, OnErr, OnOk, is_some, length, map};
+ghost use Rattle.gate_queue.specs.Seats.{IsTailOf};
+ghost use Rattle.gate_run_threads.specs.Lists.{Pairwise};
+ghost use Rattle.gate_run_posts.specs.PipelineEnds.{ends_of, inbox_of};
+ghost use Rattle.gate_run_posts.specs.Ports.{AreOpened, IsOpened, pipeline_counts};
+
+use crate::asked::{Asked, RenewPostFault};
+use crate::stopper::Stopper;
+use crossbeam_utils::sync::{Parker, Unparker};
+use gate_config::{Config, Generations};
+use gate_items::{JobResult, Manage};
+use gate_queue::{EventQueue, Full, Tail};
+use gate_record::{Memory, PipelineId, Shared, TenantId};
+use gate_report::PLACES;
+use gate_run_threads::open_queue;
+use gate_run_worker::InboxSeat;
+use gate_source::StopCause;
+use std::alloc::Global;
+use std::marker::Model;
+use std::sync::Wait;
+
+/// Why a management event or a result was not posted; it comes back.
+#[derive(Debug, Drop)]
+pub enum PostFault<T> {
+    /// There is no such pipeline.
+    NoPipeline(T),
+    /// The pipeline's queue was full at some moment of the call.
+    Full(T),
+}
+
+/// The only sender's seat, with its queue.
+#[derive(Drop)]
+pub(crate) struct PostSeat<T> {
+    queue: Shared<EventQueue<T>>,
+    tail: Tail<T>,
+    ghost own: { IsTailOf queue tail },
+}
+
+impl<T> Model for PostSeat<T> {
+    ghost use Rattle.gate_run_posts.specs.Ports.{PostEnd};
+
+    ghost Value = { PostEnd T };
+
+    ghost view = { λ seat. record { queue = seat.queue; tail = seat.tail } };
+}
+
+impl<T> PostSeat<T> {
+    ghost use Rattle.gate_queue.specs.States.{MayBeFull};
+    ghost use Rattle.gate_run_posts.specs.Ports.{posted};
+
+    /// Puts a value. It comes back where the queue was full.
+    fn put<R: Wait>(&mut self, rt: &R, value: T) -> Result<(), T>
+        ensures puts { OnOk result (self.new ≡ posted value self.old) }
+        ensures refused { IfErr result (λ back. (back ≡ value) × (self.new ≡ self.old)) }
+        ensures full { OnErr result (MayBeFull self.old.queue self.old.tail) }
+    {
+        match self.queue.get().put(rt, &mut self.tail, value) {
+            Ok(()) => Ok(()),
+            Err(Full(value)) => Err(value),
+        }
+    }
+}
+
+// Both ends of a new queue with so many places.
+fn open_pair<T: Drop>(alloc: Global, places: usize) -> Result<(PostSeat<T>, InboxSeat<T>), Memory>
+    requires { 0 < places }
+    ensures { IfOk result (λ ends. IsOpened places ends.0 ends.1) }
+{
+    let (queue, head, tail) = open_queue(alloc, places)?;
+    let queue = Shared::new(alloc, queue)?;
+    let other = queue.share()?;
+    Ok((PostSeat { queue, tail }, InboxSeat::new(other, head)))
+}
+
+/// Where management events and results are posted to one pipeline, and what wakes its worker.
+#[derive(Drop)]
+pub(crate) struct PipelinePosts {
+    management: PostSeat<Manage>,
+    results: PostSeat<JobResult>,
+    worker: Unparker,
+}
+
+/// Where the worker of one pipeline takes them, and what it waits on.
+#[derive(Drop)]
+pub struct PipelineInbox {
+    /// Of the pipeline's queue of management events.
+    pub management: InboxSeat<Manage>,
+    /// Of its queue of results.
+    pub results: InboxSeat<JobResult>,
+    /// What the worker waits on; whoever posts wakes it.
+    pub parker: Parker,
+}
+
+/// Where management events and results are posted to the pipelines of a configuration while `serve` runs, and where `serve` is
+/// asked to stop, and to put later generations in force. Contracts see by tenant and pipeline number what was posted, and what is
+/// known of the cause to stop and of the generations that were asked for.
+#[derive(Drop)]
+pub struct Posts {
+    tenants: Vec<Vec<PipelinePosts>>,
+    asked: Asked,
+}
+
+impl Model for Posts {
+    ghost use Rattle.gate_run_posts.specs.Ports.{PostsView};
+
+    ghost Value = { PostsView };
+
+    ghost use Rattle.std.specs.Prelude.{map};
+    ghost use Rattle.gate_run_posts.specs.PipelineEnds.{ends_of};
+
+    ghost view = { λ posts. record { pipelines = map (λ tenant. map ends_of tenant.items) posts.tenants.items; note = posts.asked.note; cells = posts.asked.cells; asked = posts.asked.asked } };
+}
+
+/// The other ends of the queues of `Posts`, for `serve`.
+#[derive(Drop)]
+pub struct Inbox {
+    /// By tenant and pipeline number.
+    pub tenants: Vec<Vec<PipelineInbox>>,
+    /// What `serve` is asked for.
+    pub asked: Asked,
+}
+
+impl Model for Inbox {
+    ghost use Rattle.gate_run_posts.specs.Ports.{InboxView};
+
+    ghost Value = { InboxView };
+
+    ghost use Rattle.std.specs.Prelude.{map};
+    ghost use Rattle.gate_run_posts.specs.PipelineEnds.{inbox_of};
+
+    ghost view = { λ inbox. record { pipelines = map (λ tenant. map inbox_of tenant.items) inbox.tenants.items; note = inbox.asked.note; cells = inbox.asked.cells; asked = inbox.asked.asked } };
+}
+
+// Both ends of the queues of one pipeline.
+fn open_pipeline(alloc: Global, places: usize) -> Result<(PipelinePosts, PipelineInbox), Memory>
+    requires { 0 < places }
+    ensures { IfOk result (λ ends. AreOpened places (ends_of ends.0) (inbox_of ends.1)) }
+{
+    let (management, management_inbox) = open_pair(alloc, places)?;
+    let (results, results_inbox) = open_pair(alloc, places)?;
+    let parker = Parker::new(alloc)?;
+    let worker = parker.unparker().clone()?;
+    let posts = PipelinePosts {
+        management,
+        results,
+        worker,
+    };
+    let inbox = PipelineInbox {
+        management: management_inbox,
+        results: results_inbox,
+        parker,
+    };
+    Ok((posts, inbox))
+}
+
+// Both ends of the queues of so many pipelines.
+fn open_tenant(
+    alloc: Global,
+    places: usize,
+    count: usize,
+) -> Result<(Vec<PipelinePosts>, Vec<PipelineInbox>), Memory>
+    requires { 0 < places }
+    ensures count { IfOk result (λ ends. length ends.0.items ≡ count) }
+    ensures opened { IfOk result (λ ends. Pairwise (AreOpened places) (map ends_of ends.0.items) (map inbox_of ends.1.items)) }
+{
+    let mut posts = Vec::new(alloc);
+    let mut inbox = Vec::new(alloc);
+    for _pipeline in 0..count {
+        let (own, other) = open_pipeline(alloc, places)?;
+        posts.push(own)?;
+        inbox.push(other)?;
+    }
+    Ok((posts, inbox))
+}
+
+// Both ends of the queues of all pipelines of a configuration.
+fn open_tenants(
+    alloc: Global,
+    places: usize,
+    config: &Config,
+) -> Result<(Vec<Vec<PipelinePosts>>, Vec<Vec<PipelineInbox>>), Memory>
+    requires { 0 < places }
+    ensures counts { IfOk result (λ ends. map (λ tenant. length (map ends_of tenant.items)) ends.0.items ≡ pipeline_counts config.now) }
+    ensures opened { IfOk result (λ ends. Pairwise (Pairwise (AreOpened places)) (map (λ tenant. map ends_of tenant.items) ends.0.items) (map (λ tenant. map inbox_of tenant.items) ends.1.items)) }
+{
+    let mut posts = Vec::new(alloc);
+    let mut inbox = Vec::new(alloc);
+    for number in 0..config.tenants().len() {
+        let count = config.pipelines(TenantId(number as u32)).len();
+        let (own, other) = open_tenant(alloc, places, count)?;
+        posts.push(own)?;
+        inbox.push(other)?;
+    }
+    Ok((posts, inbox))
+}
+
+impl Posts {
+    ghost use Rattle.std.specs.Prelude.{None};
+    ghost use Rattle.gate_source.specs.Stops.{Learns};
+    ghost use Rattle.gate_run_posts.specs.Asked.{AsksForNext, MayNotAsk};
+    ghost use Rattle.gate_run_posts.specs.PipelineEnds.{HandsBack, Judges};
+    ghost use Rattle.gate_run_posts.specs.Ports.{ArePosts, with_manage, with_result};
+
+    /// Opens a queue of management events and one of results for each pipeline of a configuration, each of 4,096 places, a cell
+    /// for the cause to stop, and one for each generation behind the first: the posts, and the other ends for `serve`. `Memory`
+    /// where there is none for them.
+    pub fn open(alloc: Global, gens: &Generations) -> Result<(Posts, Inbox), Memory>
+        ensures { IfOk result (λ ends. ArePosts gens.now ends.0 ends.1) }
+    {
+        let (posts, inbox) = open_tenants(alloc, PLACES, gens.first())?;
+        let (asked, other) = Asked::open(alloc, gens.count() as usize - 1)?;
+        let posts = Posts {
+            tenants: posts,
+            asked,
+        };
+        let inbox = Inbox {
+            tenants: inbox,
+            asked: other,
+        };
+        Ok((posts, inbox))
+    }
+
+    /// Posts a management event to a pipeline, behind those that wait there. It takes no memory.
+    ///
+    /// `NoPipeline` exactly where there is no such pipeline, and else `Full` only where its queue was full at some moment of the call;
+    /// both hand the event back, and nothing is changed.
+    pub fn manage<R: Wait>(
+        &mut self,
+        rt: &R,
+        tenant: TenantId,
+        pipeline: PipelineId,
+        manage: Manage,
+    ) -> Result<(), PostFault<Manage>>
+        ensures posts { OnOk result (self.new ≡ with_manage tenant.0 pipeline.0 manage self.old) }
+        ensures unchanged { OnErr result (self.new ≡ self.old) }
+        ensures back { IfErr result (HandsBack manage) }
+        ensures judges { Judges (λ ends. ends.management) tenant.0 pipeline.0 self.old.pipelines result }
+    {
+        let tenant = tenant.0 as usize;
+        let pipeline = pipeline.0 as usize;
+        if tenant >= self.tenants.len() {
+            return Err(PostFault::NoPipeline(manage));
+        }
+        if pipeline >= self.tenants[tenant].len() {
+            return Err(PostFault::NoPipeline(manage));
+        }
+        let posts = &mut self.tenants[tenant][pipeline];
+        if let Err(back) = posts.management.put(rt, manage) {
+            return Err(PostFault::Full(back));
+        }
+        posts.worker.unpark();
+        Ok(())
+    }
+
+    /// Posts a result to a pipeline, behind those that wait there. It takes no memory.
+    ///
+    /// `NoPipeline` exactly where there is no such pipeline, and else `Full` only where its queue was full at some moment of the call;
+    /// both hand the result back, and nothing is changed.
+    pub fn result<R: Wait>(
+        &mut self,
+        rt: &R,
+        tenant: TenantId,
+        pipeline: PipelineId,
+        ended: JobResult,
+    ) -> Result<(), PostFault<JobResult>>
+        ensures posts { OnOk result (self.new ≡ with_result tenant.0 pipeline.0 ended self.old) }
+        ensures unchanged { OnErr result (self.new ≡ self.old) }
+        ensures back { IfErr result (HandsBack ended) }
+        ensures judges { Judges (λ ends. ends.results) tenant.0 pipeline.0 self.old.pipelines result }
+    {
+        let tenant = tenant.0 as usize;
+        let pipeline = pipeline.0 as usize;
+        if tenant >= self.tenants.len() {
+            return Err(PostFault::NoPipeline(ended));
+        }
+        if pipeline >= self.tenants[tenant].len() {
+            return Err(PostFault::NoPipeline(ended));
+        }
+        let posts = &mut self.tenants[tenant][pipeline];
+        if let Err(back) = posts.results.put(rt, ended) {
+            return Err(PostFault::Full(back));
+        }
+        posts.worker.unpark();
+        Ok(())
+    }
+
+    /// Asks `serve` to stop. The answer is the cause that counts, this one or that of whoever asked before. `Memory` only where nobody
+    /// is known to have asked, and then nothing is changed.
+    pub fn stop(&mut self, cause: StopCause) -> Result<StopCause, Memory>
+        ensures stops { IfOk result (λ held. Learns self.old.note held self.new.note) }
+        ensures memory { OnErr result ((self.old.note.cause ≡ None) × (self.new ≡ self.old)) }
+        ensures posts { self.new.pipelines ≡ self.old.pipelines }
+        ensures cells { self.new.cells ≡ self.old.cells }
+        ensures asked { self.new.asked ≡ self.old.asked }
+    {
+        self.asked.stop(cause)
+    }
+
+    /// Whether a stop was asked for, as far as these posts know: whether they have asked for it themselves.
+    pub fn stopped(&self) -> bool
+        ensures { result ≡ is_some self.now.note.cause }
+    {
+        self.asked.stopped()
+    }
+
+    /// Asks `serve` to put the next generation in force on each connection, behind the last one that these posts asked for, or
+    /// behind the first of all. The answer is its number. A connection's reader puts its mark before the next record that it gets.
+    ///
+    /// `Last` comes exactly where there is no such generation, and then `Memory`; both change nothing.
+    pub fn renew(&mut self) -> Result<u32, RenewPostFault>
+        ensures number { IfOk result (λ generation. generation ≡ length self.old.asked + 1) }
+        ensures asks { IfOk result (λ generation. AsksForNext self.old.cells self.old.asked self.new.asked) }
+        ensures rest { self.new ≡ record self.old { asked = self.new.asked } }
+        ensures unchanged { OnErr result (self.new ≡ self.old) }
+        ensures why { IfErr result (MayNotAsk self.old.cells self.old.asked) }
+    {
+        self.asked.renew()
+    }
+}
+
+impl Inbox {
+    ghost use Rattle.std.specs.Prelude.{None};
+    ghost use Rattle.gate_run_posts.specs.Ports.{IsInboxFor};
+
+    /// The inbox of a run to which nobody posts, and which nobody asks for anything: its queues have one place in place of 4,096, so it
+    /// takes some kilobytes for a pipeline where `Posts::open` takes 670. `Memory` where there is none for them.
+    pub fn without_posts(alloc: Global, config: &Config) -> Result<Inbox, Memory>
+        ensures for_config { IfOk result (λ inbox. IsInboxFor config.now inbox) }
+        ensures knows_none { IfOk result (λ inbox. inbox.note.cause ≡ None) }
+        ensures asks_none { IfOk result (λ inbox. inbox.cells ≡ []) }
+    {
+        let (_posts, tenants) = open_tenants(alloc, 1, config)?;
+        let (_other, asked) = Asked::open(alloc, 0)?;
+        Ok(Inbox { tenants, asked })
+    }
+
+    /// What asks the run of this inbox to stop, from whichever thread. `Memory` where there is none for it.
+    pub fn stopper(&self) -> Result<Stopper, Memory>
+        ensures cell { IfOk result (λ stopper. stopper.cell ≡ self.now.note.cell) }
+        ensures knows_none { IfOk result (λ stopper. stopper.cause ≡ None) }
+    {
+        self.asked.stopper()
+    }
+}

@@ -1,5 +1,0 @@
-use Rattle.gate_ways.proofs.Delivering.{each_way_delivers}
-use Rattle.gate_ways.proofs.laws.each_way_delivers.Goals as goal
-
-pub returns : goal.returns
-returns c = each_way_delivers c.entries_have_generations.ensures
