@@ -1,4 +1,4 @@
--- What a configuration says, as it is printed.
+-- What `gate check` prints of a configuration.
 use Rattle.std.specs.Prelude.{ℕ, List, ◌++◌, length, codes, decimal}
 use Rattle.std.specs.List.{enumerate_from, flat_map, sum_by}
 use Rattle.gate_record.specs.Names.{name_text}
@@ -17,15 +17,15 @@ manager_word Dependent = codes "dependent"
 abbrev pub rules_count : Config → ℕ → ℕ → ℕ
 rules_count config t p = sum_by (λ (connection : ℕ × List ℕ). length (rules_of config t p connection.0)) (enumerate_from 0 (connections_of config))
 
--- a connection with its number
+-- the line of a connection, which comes with its number
 abbrev pub connection_line : ℕ × List ℕ → List ℕ
 connection_line connection = codes "connection " ++ decimal connection.0 ++ codes " " ++ name_text connection.1 ++ codes "\n"
 
--- a pipeline's numbers and name
+-- the beginning of a pipeline's line: its tenant's number, its own number and its name
 abbrev pub pipeline_start : ℕ → ℕ → List ℕ → List ℕ
 pipeline_start t p name = codes "pipeline " ++ decimal t ++ codes " " ++ decimal p ++ codes " " ++ name_text name
 
--- a pipeline of tenant t with its number
+-- the line of a pipeline of tenant t; the pipeline comes with its number
 abbrev pub pipeline_line : Config → ℕ → ℕ × PipelineSpec → List ℕ
 pipeline_line config t pipeline =
     pipeline_start t pipeline.0 pipeline.1.name ++ codes " " ++ manager_word pipeline.1.manager ++ codes " rules " ++ decimal (rules_count config t pipeline.0) ++ codes "\n"
@@ -33,10 +33,10 @@ pipeline_line config t pipeline =
 abbrev pub tenant_line : ℕ × TenantSpec → List ℕ
 tenant_line tenant = codes "tenant " ++ decimal tenant.0 ++ codes " " ++ name_text tenant.1.name ++ codes "\n"
 
--- a tenant with its number, and behind it its pipelines
+-- the line of a tenant, which comes with its number, and then those of its pipelines
 abbrev pub tenant_lines : Config → ℕ × TenantSpec → List ℕ
 tenant_lines config tenant = tenant_line tenant ++ flat_map (pipeline_line config tenant.0) (enumerate_from 0 tenant.1.pipelines)
 
--- a line for each connection, then the lines of each tenant
+-- the whole text: a line for each connection, then the lines of each tenant
 abbrev pub check_text : Config → List ℕ
 check_text config = flat_map connection_line (enumerate_from 0 (connections_of config)) ++ flat_map (tenant_lines config) (enumerate_from 0 (tenants_of config))

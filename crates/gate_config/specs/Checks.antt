@@ -14,11 +14,11 @@ use Rattle.gate_config.specs.Parts.{is_fine, is_flag, is_list, is_object, is_tex
 use Rattle.gate_config.specs.Places.{below, nth, whole}
 use Rattle.gate_config.specs.Limits.{most_tenants, most_connections, most_pipelines, most_rules, most_entries}
 
--- the checks of each of the values, by its position from 0
+-- the checks of each of the values, which depend on its position, counted from 0
 abbrev pub each : {A : Type 0} → (ℕ → A → List Check) → List A → List Check
 each checks values = flat_map (λ entry. checks entry.0 entry.1) (enumerate_from 0 values)
 
--- the checks of each of the values, by those that stand before it
+-- the checks of each of the values, which depend on the values before it
 abbrev pub along_from : {A : Type 0} → (List A → A → List Check) → List A → List A → List Check
 along_from checks before [] = []
 along_from checks before (value ∷ values) = checks before value ++ along_from checks (before ++ value ∷ []) values
@@ -35,44 +35,44 @@ abbrev pub is_group : Option Items → Data → Bool
 is_group (Some items) entry = not (list_any is_nameless (items_in items))
 is_group None entry = not (is_nameless entry)
 
--- An entry of a project list: a text, an object with a list `projects` of texts and objects of one key, or an object of
--- one key.
+-- The entry of a project list names projects: it is a text, an object of one key, or an object with a list `projects` of texts
+-- and objects of one key.
 abbrev pub is_entry : Data → Bool
 is_entry entry = is_group (group entry) entry
 
 abbrev pub project_checks : List Step → ℕ → Data → List Check
 project_checks place position entry = Asks (is_entry entry) (Shape (nth place position)) ∷ []
 
--- a project list of what stands at a connection
+-- the checks of the project list at a key of a source, which is optional
 abbrev pub list_checks : List Step → Option Data → List ℕ → List Check
 list_checks place source key =
     Asks (is_fine is_list (optional_in key source)) (Shape (below place key))
     ∷ each (project_checks (below place key)) (items_of (optional_in key source))
 
--- what a tenant lists at a connection: an object or null, with project lists
+-- the checks of what a tenant lists under a connection: an object or null, with optional project lists
 abbrev pub listing_checks : List Step → Option Data → List Check
 listing_checks here source =
     Asks (is_fine is_object source) (Shape here)
     ∷ (list_checks here source (codes "config-projects") ++ list_checks here source (codes "untrusted-projects"))
 
--- A connection among the sources: with those that earlier tenants list and those before it there are at most
--- `most_connections` names.
+-- The checks of a connection among a tenant's sources. Together with the connections of earlier tenants (`known`) and those
+-- before it there may be at most `most_connections` names.
 abbrev pub source_checks : List (List ℕ) → List Step → Option Data → List (List ℕ) → List ℕ → List Check
 source_checks known place sources before key =
     Asks (nat_le (length (with_name key (with_names known before))) most_connections) (Limit (below place key))
     ∷ listing_checks (below place key) (optional_in key sources)
 
--- the connections that a tenant lists, in byte order
+-- the checks of the connections that a tenant lists, in byte order
 abbrev pub sources_checks : List (List ℕ) → List Step → Data → List Check
 sources_checks known here tenant =
     Asks (is_fine is_object (optional (codes "source") tenant)) (Shape (below here (codes "source")))
     ∷ along (source_checks known (below here (codes "source")) (optional (codes "source") tenant)) (sources_of tenant)
 
--- an earlier tenant has the name
+-- An earlier tenant has the name.
 abbrev pub is_taken : List (ℕ × Data) → List ℕ → Bool
 is_taken before name = list_any (λ (entry : ℕ × Data). bytes_eq (tenant_name entry.1) name) before
 
--- a tenant at this place: it has a name of its own, and perhaps sources
+-- the checks of a tenant at this place: its name, which no earlier tenant may have, and its optional sources
 abbrev pub named_checks : List (ℕ × Data) → List Step → Data → List Check
 named_checks before here tenant =
     Asks (is_there is_text (get (codes "name") tenant)) (Shape (below here (codes "name")))
@@ -83,27 +83,28 @@ named_checks before here tenant =
 abbrev pub tenant_place : List Step → Data → List Step
 tenant_place here entry = if is_some (optional (codes "tenant") entry) then below here (codes "tenant") else here
 
--- an entry at this place: an object, of which `tenant` is an object if it is there
+-- the checks of an entry of `tenants` at this place: it is an object, and `tenant` in it is an object or absent
 abbrev pub tenant_checks_at : List (ℕ × Data) → List Step → Data → List Check
 tenant_checks_at before here entry =
     Asks (is_object entry) (Shape here)
     ∷ Asks (is_fine is_object (optional (codes "tenant") entry)) (Shape here)
     ∷ named_checks before (tenant_place here entry) (tenant_of entry)
 
--- an entry of `tenants`, behind those before it
+-- the checks of an entry of `tenants`; `before` are the entries before it
 abbrev pub tenant_checks : List (ℕ × Data) → ℕ × Data → List Check
 tenant_checks before entry = tenant_checks_at before (nth (below whole (codes "tenants")) entry.0) entry.1
 
 -- ---- rules
 
--- the keys of an entry that is an object
+-- the keys that an entry may have which is an object
 abbrev pub entry_keys : List (List ℕ)
 entry_keys = codes "negate" ∷ codes "regex" ∷ []
 
 abbrev pub entry_key_checks : List Step → List ℕ → List Check
 entry_key_checks here key = Asks (list_any (bytes_eq key) entry_keys) (Shape (below here key)) ∷ []
 
--- an object, whose keys are taken in byte order, with a text `regex` that is built as a pattern, and perhaps `negate`
+-- the checks of an entry that isn't a text: it is an object, whose keys are checked in byte order, with a text `regex` that is
+-- built as a pattern, and an optional `negate`
 abbrev pub regex_checks : List Step → Data → List Check
 regex_checks here value =
     Asks (is_object value) (Shape here)
@@ -113,7 +114,7 @@ regex_checks here value =
     ∷ Builds (text_of_member (codes "regex") value) (below here (codes "regex"))
     ∷ [])
 
--- an entry of an attribute of patterns: a text that is built as a pattern, or an object
+-- the checks of an entry of an attribute that lists patterns: a text that is built as a pattern, or an object
 abbrev pub text_or_object_checks : List Step → Option (List ℕ) → Data → List Check
 text_or_object_checks here (Some text) value = Builds text here ∷ []
 text_or_object_checks here None value = regex_checks here value
@@ -121,49 +122,49 @@ text_or_object_checks here None value = regex_checks here value
 abbrev pub entry_checks_at : List Step → Data → List Check
 entry_checks_at here value = text_or_object_checks here (as_str value) value
 
--- an entry of a list, of which at most `most_entries` stand in an attribute
+-- the checks of an entry of a list; an attribute has at most `most_entries`
 abbrev pub entry_checks : List Step → ℕ → Data → List Check
 entry_checks place position value = Asks (nat_lt position most_entries) (Limit place) ∷ entry_checks_at (nth place position) value
 
--- an attribute of patterns: an entry or a list of entries, if it is there
+-- the checks of an attribute that lists patterns: one entry or a list of entries, if it is there
 abbrev pub pattern_checks : List Step → Option Data → List Check
 pattern_checks place None = []
 pattern_checks place (Some value) = one_or_list (each (entry_checks place)) (entry_checks_at place) value
 
--- The vote at a key of an object of approvals: at most `most_entries` stand in an attribute, and it is a number. `rank` votes
--- stand before it.
+-- The checks of the vote at a key of an object of approvals: it is a number, and an attribute has at most `most_entries` votes.
+-- `rank` votes come before it.
 abbrev pub vote_checks : List Step → List Step → Data → ℕ → List ℕ → List Check
 vote_checks place here labels rank key =
     Asks (nat_lt rank most_entries) (Limit place) ∷ Asks (is_some (vote_at labels key)) (Shape here) ∷ []
 
--- an object of approvals, whose keys are taken in byte order; `count` votes stand before it
+-- the checks of an object of approvals, whose keys are taken in byte order; `count` votes come before it
 abbrev pub votes_checks : List Step → List Step → ℕ → Data → List Check
 votes_checks place here count labels =
     Asks (is_object labels) (Shape here)
     ∷ each (λ index. vote_checks place here labels (count + index)) (keys_of (Some labels))
 
--- a list of objects of approvals from a position on
+-- the checks of a list of objects of approvals, of which the first is at `position`; `count` votes come before it
 abbrev pub objects_checks : List Step → ℕ → ℕ → List Data → List Check
 objects_checks place position count [] = []
 objects_checks place position count (labels ∷ others) =
     votes_checks place (nth place position) count labels
     ++ objects_checks place (position + 1) (count + length (votes_of labels)) others
 
--- approvals: one object or a list of objects, if it is there
+-- the checks of `approval`: one object or a list of objects, if it is there
 abbrev pub approval_checks : List Step → Option Data → List Check
 approval_checks place None = []
 approval_checks place (Some value) = one_or_list (objects_checks place 0 0) (votes_checks place place 0) value
 
--- true or false, if it is there
+-- the checks of `true` or `false`, if it is there
 abbrev pub flag_checks : List Step → Option Data → List Check
 flag_checks place value = Asks (is_fine is_flag value) (Shape place) ∷ []
 
--- the attributes whose values are patterns
+-- the attributes that list patterns
 abbrev pub pattern_attributes : List (List ℕ)
 pattern_attributes =
     codes "event" ∷ codes "branch" ∷ codes "ref" ∷ codes "username" ∷ codes "email" ∷ codes "comment" ∷ []
 
--- what stands at a key of a rule; a key that is no attribute is refused
+-- the checks of the value at a key of a rule; a key that is no attribute is refused
 abbrev pub attribute_checks : List Step → Data → List ℕ → List Check
 attribute_checks place rule key =
     if list_any (bytes_eq key) pattern_attributes then pattern_checks (below place key) (optional key rule)
@@ -171,11 +172,11 @@ attribute_checks place rule key =
     else (if bytes_eq key (codes "ignore-deletes") then flag_checks (below place key) (optional key rule)
     else Asks false (Attribute (below place key)) ∷ []))
 
--- the value asks for something: it is no empty list
+-- The value asks for something: it isn't an empty list.
 abbrev pub is_asking : Data → Bool
 is_asking value = one_or_list (λ items. nat_lt 0 (length items)) (λ other. true) value
 
--- a rule at this place: an object of attributes, whose keys are taken in byte order; `event` is required
+-- the checks of a rule at this place: an object of attributes, whose keys are taken in byte order; `event` is required
 abbrev pub rule_checks_at : List Step → Data → List Check
 rule_checks_at here rule =
     Asks (is_object rule) (Shape here)
@@ -185,16 +186,16 @@ rule_checks_at here rule =
 abbrev pub rule_checks : List Step → ℕ → Data → List Check
 rule_checks place position rule = rule_checks_at (nth place position) rule
 
--- a list of at most `most_rules` rules
+-- the checks of a list of rules, of which there are at most `most_rules`
 abbrev pub rule_list_checks : List Step → List Data → List Check
 rule_list_checks here rules = Asks (nat_le (length rules) most_rules) (Limit here) ∷ each (rule_checks here) rules
 
--- a list of rules or one rule, if it is there
+-- the checks of a list of rules or one rule, if it is there
 abbrev pub rules_checks : List Step → Option Data → List Check
 rules_checks here None = []
 rules_checks here (Some value) = one_or_list (rule_list_checks here) (rule_checks_at here) value
 
--- the rules of a trigger for a connection. What stands at other keys isn't looked into.
+-- The checks of a trigger's rules for a connection. Values at keys that are no connection aren't checked.
 abbrev pub connection_checks : List Step → Option Data → List ℕ → List Check
 connection_checks place trigger connection = rules_checks (below place connection) (optional_in connection trigger)
 
@@ -206,17 +207,17 @@ manager_checks here pipeline =
     ∷ Asks (is_some (manager_named (text_of_member (codes "manager") pipeline))) (Manager (below here (codes "manager")))
     ∷ []
 
--- the trigger: an object, of which the connections are read in byte order, which is that of their numbers
+-- the checks of a trigger: an object, whose connections are checked in byte order, which is the order of their numbers
 abbrev pub trigger_checks : List (List ℕ) → List Step → Data → List Check
 trigger_checks connections here pipeline =
     Asks (is_fine is_object (optional (codes "trigger") pipeline)) (Shape (below here (codes "trigger")))
     ∷ flat_map (connection_checks (below here (codes "trigger")) (optional (codes "trigger") pipeline)) connections
 
--- an earlier pipeline has the name
+-- An earlier pipeline has the name.
 abbrev pub is_named : List (ℕ × Data) → List ℕ → Bool
 is_named before name = list_any (λ (entry : ℕ × Data). bytes_eq (name_of entry.1) name) before
 
--- a pipeline in the item at this place, behind those before it
+-- the checks of a pipeline at place `here`, in the item at place `item`; `before` are the pipelines before it
 abbrev pub pipeline_checks_at : List (List ℕ) → List Step → List Step → List (ℕ × Data) → Data → List Check
 pipeline_checks_at connections item here before pipeline =
     Asks (is_object pipeline) (Shape here)
@@ -229,25 +230,25 @@ abbrev pub pipeline_checks : List (List ℕ) → List Step → List (ℕ × Data
 pipeline_checks connections place before entry =
     pipeline_checks_at connections (nth place entry.0) (below (nth place entry.0) (codes "pipeline")) before entry.1
 
--- an item of a tenant's list in `config`
+-- the checks of an item of a tenant's list in `config`
 abbrev pub item_checks : List Step → ℕ → Data → List Check
 item_checks place position item = Asks (is_object item) (Shape (nth place position)) ∷ []
 
--- the items of a tenant's list in `config`: each is an object, and then the pipelines among them
+-- the checks of the items of a tenant's list in `config`: each is an object; after that come the pipelines among them
 abbrev pub items_checks : List (List ℕ) → List Step → List Data → List Check
 items_checks connections place items =
     each (item_checks place) items ++ along (pipeline_checks connections place) (pipeline_items items)
 
 -- ---- projects' jobs
 
--- an entry of a list of jobs: a name
+-- the checks of an item of a list of jobs: it gives a name
 abbrev pub job_checks : List Step → ℕ → Data → List Check
 job_checks place position job = Asks (is_some (name_in job)) (Shape (nth place position)) ∷ []
 
 abbrev pub jobs_checks : List Step → Option Data → List Check
 jobs_checks place jobs = Asks (is_fine is_list jobs) (Shape place) ∷ each (job_checks place) (items_of jobs)
 
--- what a stanza has for the pipeline of this name: an object with a list of jobs, both optional
+-- the checks of the part of a stanza for the pipeline of this name: an object with a list of jobs, both optional
 abbrev pub part_checks : List Step → Data → List ℕ → List Check
 part_checks here stanza pipeline =
     Asks (is_fine is_object (optional pipeline stanza)) (Shape (below here pipeline))
@@ -256,27 +257,27 @@ part_checks here stanza pipeline =
 abbrev pub parts_checks : List (List ℕ) → List Step → Data → List Check
 parts_checks pipelines here stanza = if is_stanza stanza then flat_map (part_checks here stanza) pipelines else []
 
--- A project item at this place, for pipelines of these names: an object. What it has for them is looked into where it is
--- a stanza of a project.
+-- The checks of a project item at this place, for pipelines of these names: it is an object. Its parts for the pipelines are
+-- checked only if it names a project.
 abbrev pub stanza_checks_at : List (List ℕ) → List Step → Data → List Check
 stanza_checks_at pipelines here stanza = Asks (is_object stanza) (Shape here) ∷ parts_checks pipelines here stanza
 
 abbrev pub stanza_checks : List (List ℕ) → List Step → ℕ × Data → List Check
 stanza_checks pipelines place entry = stanza_checks_at pipelines (below (nth place entry.0) (codes "project")) entry.1
 
--- the project items among the items of a tenant's list in `config`
+-- the checks of the project items among the items of a tenant's list in `config`
 abbrev pub stanzas_checks : List Step → List Data → List Check
 stanzas_checks place items = flat_map (stanza_checks (pipeline_names items) place) (project_items items)
 
--- the items of a tenant's list in `config`: all pipelines are read before the project items
+-- the checks of the items of a tenant's list in `config`: all pipelines come before the project items
 abbrev pub all_items_checks : List (List ℕ) → List Step → List Data → List Check
 all_items_checks connections place items = items_checks connections place items ++ stanzas_checks place items
 
--- the place of the list of this tenant in `config`
+-- the place of this tenant's list in `config`
 abbrev pub list_place : List ℕ → List Step
 list_place tenant = below (below whole (codes "config")) tenant
 
--- a tenant's list in `config`
+-- the checks of a tenant's list in `config`
 abbrev pub config_checks : Option Data → List (List ℕ) → ℕ × Data → List Check
 config_checks config connections entry =
     Asks (is_fine is_list (optional_in (tenant_name entry.1) config)) (Shape (list_place (tenant_name entry.1)))
@@ -284,7 +285,7 @@ config_checks config connections entry =
 
 -- ---- the document
 
--- all tenants are read before their lists in `config`
+-- the checks of the entries of `tenants`: all tenants come before their lists in `config`
 abbrev pub entries_checks : Option Data → List (ℕ × Data) → List Check
 entries_checks config entries =
     Asks (nat_le (length entries) most_tenants) (Limit (below whole (codes "tenants")))
@@ -301,6 +302,6 @@ abbrev pub checks_of_json : Option Data → List Check
 checks_of_json None = Asks false NotJson ∷ []
 checks_of_json (Some document) = document_checks document
 
--- the checks of a document's bytes
+-- the checks of a document, by its bytes
 abbrev pub checks_of : List ℕ → List Check
 checks_of bytes = checks_of_json (json_of bytes)

@@ -1,4 +1,4 @@
--- What a document says, once it was checked.
+-- What a document says, if it passes its checks.
 use Rattle.std.specs.Prelude.{ℕ, ℤ, List, [], ◌∷◌, ◌++◌, Bool, true, false, ◌&&◌, nat_eq, Option, Some, None, is_none, is_some, slice_get, unwrap_or, option_map, option_and_then, option_to_list, map, codes, if◌then◌else◌}
 use Rattle.std.specs.List.{filter_map, flat_map, enumerate_from}
 use Rattle.std.specs.Str.{bytes_eq}
@@ -12,7 +12,7 @@ use Rattle.gate_record.specs.declared.ids.ManagerKind.TheVariants.{Independent, 
 use Rattle.gate_config.specs.Names.{is_among, with_names}
 use Rattle.gate_config.specs.Parts.{by_kind, is_object, is_text, items_of, keys_of, one_or_list, optional, optional_in, text_of_member}
 
--- what is picked of the values, each with the position of the value that it was picked of
+-- the values that `pick` finds in the items of a list, each with the position of its item
 abbrev pub picked : (Data → Option Data) → List Data → List (ℕ × Data)
 picked pick values = filter_map (λ (entry : ℕ × Data). option_map (λ found. (entry.0, found)) (pick entry.1)) (enumerate_from 0 values)
 
@@ -29,7 +29,7 @@ name_in value = if is_text value then as_str value else only (keys_of (Some valu
 
 -- ---- tenants
 
--- an object that has neither `tenant` nor `name` is no tenant
+-- An object that has neither `tenant` nor `name` is no tenant, and is ignored.
 abbrev pub is_ignored : Data → Bool
 is_ignored entry = is_object entry && (is_none (optional (codes "tenant") entry) && is_none (get (codes "name") entry))
 
@@ -40,7 +40,7 @@ tenant_at entry = if is_ignored entry then None else Some entry
 abbrev pub tenant_entries : Data → List (ℕ × Data)
 tenant_entries document = picked tenant_at (items_of (get (codes "tenants") document))
 
--- the tenant of an entry: what stands at `tenant`, or else the entry itself
+-- the tenant of an entry: the value at `tenant`, or else the entry itself
 abbrev pub tenant_of : Data → Data
 tenant_of entry = unwrap_or (optional (codes "tenant") entry) entry
 
@@ -54,7 +54,7 @@ tenant_name entry = name_of (tenant_of entry)
 abbrev pub sources_of : Data → List (List ℕ)
 sources_of tenant = keys_of (optional (codes "source") tenant)
 
--- the names of the connections that entries list, each once and in byte order
+-- the names of the connections that these entries list, each once and in byte order
 abbrev pub names_in : List (ℕ × Data) → List (List ℕ)
 names_in entries = with_names [] (flat_map (λ (entry : ℕ × Data). sources_of (tenant_of entry.1)) entries)
 
@@ -64,15 +64,15 @@ connection_names document = names_in (tenant_entries document)
 
 -- ---- projects
 
--- the list `projects` of an entry of a project list
+-- the list `projects` of an entry of a project list, if the entry has one
 abbrev pub group : Data → Option Items
 group entry = option_and_then as_array (optional (codes "projects") entry)
 
--- the projects of an entry: those of its list `projects`, or the one that it names
+-- the projects of an entry: those in its list `projects`, or else the one that the entry names
 abbrev pub entry_projects : Data → List (List ℕ)
 entry_projects entry = by_kind (filter_map name_in) (λ value. option_to_list (name_in value)) (group entry) entry
 
--- the projects of a project list
+-- the projects of the project list at this key
 abbrev pub listed_at : List ℕ → Data → List (List ℕ)
 listed_at key source = flat_map entry_projects (items_of (optional key source))
 
@@ -80,7 +80,7 @@ listed_at key source = flat_map entry_projects (items_of (optional key source))
 abbrev pub projects_in : Data → List (List ℕ)
 projects_in source = listed_at (codes "config-projects") source ++ listed_at (codes "untrusted-projects") source
 
--- whether a tenant lists a project under the connection of this name, if it lists the connection
+-- which projects a tenant lists under the connection of this name, if it lists the connection
 abbrev pub projects_under : Data → List ℕ → Option (List ℕ → Bool)
 projects_under tenant connection =
     option_map (λ source. is_among (projects_in source)) (option_and_then (get connection) (optional (codes "source") tenant))
@@ -91,7 +91,7 @@ projects_under tenant connection =
 abbrev pub config_items : Option Data → List ℕ → List Data
 config_items config tenant = items_of (optional_in tenant config)
 
--- the pipelines among items, with the positions of these
+-- the pipelines among these items, with the positions of their items
 abbrev pub pipeline_items : List Data → List (ℕ × Data)
 pipeline_items items = picked (optional (codes "pipeline")) items
 
@@ -101,16 +101,16 @@ manager_named text =
     if bytes_eq text (codes "independent") then Some Independent
     else (if bytes_eq text (codes "dependent") then Some Dependent else None)
 
--- an entry of an attribute of patterns: the pattern's text, and whether it is negated
+-- An entry of an attribute that lists patterns: the text of its pattern, and whether the entry is negated.
 pub record EntryTexts : Type 0 where
   pub text : List ℕ
   pub negate : Bool
 
--- false where it isn't there
+-- whether an entry is negated; without `negate` it isn't
 abbrev pub negates : Data → Bool
 negates value = unwrap_or (option_and_then as_bool (optional (codes "negate") value)) false
 
--- a text, or an object with a text `regex`, and perhaps `negate`
+-- what an entry says: it is a text, or an object with a text `regex` and an optional `negate`
 abbrev pub entry_said : Option (List ℕ) → Data → EntryTexts
 entry_said (Some text) value = record { text = text; negate = false }
 entry_said None value = record { text = text_of_member (codes "regex") value; negate = negates value }
@@ -118,7 +118,7 @@ entry_said None value = record { text = text_of_member (codes "regex") value; ne
 abbrev pub entry_in : Data → EntryTexts
 entry_in value = entry_said (as_str value) value
 
--- the entries of an attribute of patterns: those of a list, or the one entry
+-- the entries of an attribute that lists patterns: those of a list, or the one entry
 abbrev pub pattern_texts : Option Data → List EntryTexts
 pattern_texts None = []
 pattern_texts (Some value) = one_or_list (map entry_in) (λ one. entry_in one ∷ []) value
@@ -136,11 +136,11 @@ abbrev pub votes : Option Data → List (List ℕ × ℤ)
 votes None = []
 votes (Some value) = one_or_list (flat_map votes_of) votes_of value
 
--- true where it isn't there
+-- the value of an optional flag, which is true if it is absent
 abbrev pub flag : Option Data → Bool
 flag value = unwrap_or (option_and_then as_bool value) true
 
--- a rule as the document has it, by attribute
+-- A rule as the document has it, by attribute.
 pub record RuleTexts : Type 0 where
   pub event : List EntryTexts
   pub branch : List EntryTexts
@@ -172,7 +172,7 @@ rules_at (Some value) = one_or_list (map rule_texts) (λ rule. rule_texts rule �
 abbrev pub rules_under : Option Data → List ℕ → List RuleTexts
 rules_under trigger connection = rules_at (optional_in connection trigger)
 
--- a pipeline as the document has it, with its rules by connection number
+-- A pipeline as the document has it, with its rules by connection number.
 pub record PipelineTexts : Type 0 where
   pub name : List ℕ
   pub manager : Option ManagerKind
@@ -187,23 +187,23 @@ pipeline_texts connections entry = record {
 
 -- ---- projects' jobs
 
--- the project items among items, with the positions of these
+-- the project items among these items, with their positions
 abbrev pub project_items : List Data → List (ℕ × Data)
 project_items items = picked (optional (codes "project")) items
 
--- a name that begins with `^` is a regular expression, and names no project
+-- the name, unless it begins with `^`: that is a regular expression, which names no project
 abbrev pub plain_name : List ℕ → Option (List ℕ)
 plain_name [] = Some []
 plain_name (first ∷ rest) = if nat_eq first 94 then None else Some (first ∷ rest)
 
--- the project that a stanza is of; one without such a name is ignored
+-- the project that a stanza is about; a stanza that names none is ignored
 abbrev pub project_of : Data → Option (List ℕ)
 project_of stanza = option_and_then plain_name (option_and_then as_str (get (codes "name") stanza))
 
 abbrev pub is_stanza : Data → Bool
 is_stanza stanza = is_some (project_of stanza)
 
--- the stanza is of the project of this name
+-- The name is that of this project.
 abbrev pub is_of : List ℕ → Option (List ℕ) → Bool
 is_of project None = false
 is_of project (Some name) = bytes_eq name project
@@ -212,7 +212,7 @@ is_of project (Some name) = bytes_eq name project
 abbrev pub job_list : List ℕ → Data → Option Data
 job_list pipeline stanza = optional_in (codes "jobs") (optional pipeline stanza)
 
--- the jobs that an item names for a project in a pipeline, by their names
+-- the names of the jobs that a stanza has for a project in a pipeline
 abbrev pub jobs_for : List ℕ → List ℕ → Data → List (List ℕ)
 jobs_for pipeline project stanza =
     if is_of project (project_of stanza) then filter_map name_in (items_of (job_list pipeline stanza)) else []
@@ -221,12 +221,12 @@ jobs_for pipeline project stanza =
 abbrev pub jobs_in : List (ℕ × Data) → List ℕ → List ℕ → List (List ℕ)
 jobs_in stanzas pipeline project = each_once bytes_eq (flat_map (λ (entry : ℕ × Data). jobs_for pipeline project entry.1) stanzas)
 
--- the names of the pipelines among items, in order
+-- the names of the pipelines among these items, in order
 abbrev pub pipeline_names : List Data → List (List ℕ)
 pipeline_names items = map (λ (entry : ℕ × Data). name_of entry.1) (pipeline_items items)
 
--- a tenant as the document has it, with the projects that it lists by connection number and the jobs of a project by
--- pipeline number
+-- A tenant as the document has it, with the projects that it lists by connection number, and the jobs of each project by pipeline
+-- number.
 pub record TenantTexts : Type 0 where
   pub name : List ℕ
   pub sources : List (Option (List ℕ → Bool))
@@ -245,7 +245,7 @@ tenant_texts config connections entry = record {
 abbrev pub tenants_in : Data → List TenantTexts
 tenants_in document = map (tenant_texts (get (codes "config") document) (connection_names document)) (tenant_entries document)
 
--- ---- the same by the numbers of connections, tenants and pipelines; out of range there is nothing
+-- ---- what tenants have, by the numbers of connections, tenants and pipelines; a number out of range has nothing
 
 -- the projects that a tenant lists under a connection, if it lists the connection
 abbrev pub sources_among : List TenantTexts → ℕ → ℕ → Option (List ℕ → Bool)

@@ -1,4 +1,4 @@
--- The first fault of a list of checks, in reading order.
+-- The first fault of a document, by the list of its checks in reading order.
 use Rattle.std.specs.Prelude.{◌≡◌, ◌⊎◌, ℕ, List, [], ◌∷◌, Bool, true, false}
 use Rattle.gate_rule.specs.declared.pattern.Pattern.{Pattern}
 use Rattle.gate_rule.specs.Built.{IsRefused}
@@ -7,20 +7,20 @@ use Rattle.gate_config.specs.declared.path.Step.{Step}
 use Rattle.gate_config.specs.declared.fault.ConfigFault.{ConfigFault}
 use Rattle.gate_config.specs.declared.fault.ConfigFault.TheVariants as fault
 
--- what a document is checked for
+-- A check of a document.
 pub data Check : Type 0 where
-  -- a test, and the fault where it doesn't hold
+  -- a test, and the fault if it doesn't hold
   Asks : (holds : Bool) → (fault : ConfigFault) → Check
-  -- a text that is built as a pattern, and its place
+  -- a text that must be built as a pattern, and its place
   Builds : (text : List ℕ) (place : List Step) → Check
 
--- the test holds; the text was built as a pattern
+-- The test holds; the text was built as a pattern.
 abbrev pub Passes : Check → Type 0
 Passes (Asks holds fault) = holds ≡ true
 Passes (Builds text place) = (pattern : Pattern) × (text_of pattern ≡ text)
 
--- This is the fault of a test that doesn't hold, or of a text that `regex` refuses. Which texts are too large for it no
--- definition says, so a refusal may stand at any text that its grammar reads.
+-- The check fails with this fault: the test doesn't hold, or `regex` refuses the text. No definition says which texts are too
+-- large for `regex`, so any text may be refused that its grammar reads.
 abbrev pub Fails : Check → ConfigFault → Type 0
 Fails (Asks holds fault) found = (holds ≡ false) × (found ≡ fault)
 Fails (Builds text place) found = (found ≡ fault.Pattern place) × IsRefused text
@@ -29,11 +29,11 @@ abbrev pub AllPass : List Check → Type 0
 AllPass [] = Unit {0}
 AllPass (check ∷ checks) = Passes check × AllPass checks
 
--- each check before the one that fails with this fault passes
+-- This is the fault of the first check that fails: each check before it passes.
 abbrev pub IsFirstFault : List Check → ConfigFault → Type 0
 IsFirstFault [] found = ⊥
 IsFirstFault (check ∷ checks) found = Fails check found ⊎ (Passes check × IsFirstFault checks found)
 
--- Memory may be refused at whichever point; each other fault is the first.
+-- Memory may be refused at any point; each other fault is the first.
 abbrev pub IsFaultOf : List Check → ConfigFault → Type 0
 IsFaultOf checks found = (found ≡ fault.Memory) ⊎ IsFirstFault checks found

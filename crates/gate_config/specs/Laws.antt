@@ -1,4 +1,4 @@
--- What holds of all configurations that were read.
+-- Laws about configurations that were read from documents.
 use Rattle.std.specs.Prelude.{◌≡◌, ℕ, List, Bool, false, is_some, map, option_map, unwrap_or}
 use Rattle.serde_json.specs.Data.{Data}
 use Rattle.gate_record.specs.declared.record.Record.{Record}
@@ -8,7 +8,7 @@ use Rattle.gate_config.specs.Lookups as lookups
 use Rattle.gate_config.specs.Selection.{selects}
 use Rattle.gate_config.specs.Texts.{IsReadFrom, texts_of_pipeline, texts_of_rule}
 
--- Each look-up of the configuration is what the document says there.
+-- Each look-up of the configuration answers what the document says there.
 pub record AnswersFor (document : Data) (config : Config) : Type 0 where
   pub lists : (t c : ℕ) → lookups.lists config t c ≡ is_some (sources_among (tenants_in document) t c)
   pub belongs : (t c : ℕ) (project : List ℕ) → lookups.belongs config t c project ≡ unwrap_or (option_map (λ (has : List ℕ → Bool). has project) (sources_among (tenants_in document) t c)) false

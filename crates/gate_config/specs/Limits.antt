@@ -1,26 +1,26 @@
--- The numbers that the standard gives: how much a configuration may have.
+-- The numbers that limit a configuration.
 use Rattle.std.specs.Prelude.{ℕ}
 
--- the generations of a configuration
+-- how many generations a configuration has at most
 abbrev pub most_generations : ℕ
 most_generations = 16
 
--- the tenants of a configuration
+-- how many tenants a configuration has at most
 abbrev pub most_tenants : ℕ
 most_tenants = 16
 
--- the connections of a configuration
+-- how many connections a configuration has at most
 abbrev pub most_connections : ℕ
 most_connections = 64
 
--- the pipelines of a tenant
+-- how many pipelines a tenant has at most
 abbrev pub most_pipelines : ℕ
 most_pipelines = 64
 
--- the rules that a pipeline has for a connection
+-- how many rules a pipeline has at most for one connection
 abbrev pub most_rules : ℕ
 most_rules = 64
 
--- the entries of an attribute of patterns, and the votes that a rule asks for
+-- how many entries an attribute that lists patterns has at most, and how many votes `approval` asks for at most
 abbrev pub most_entries : ℕ
 most_entries = 32

@@ -19,7 +19,7 @@ tenants_of config = config.tenants
 abbrev pub pipelines_of : Config → ℕ → List PipelineSpec
 pipelines_of config t = unwrap_or (option_map (λ (tenant : TenantSpec). tenant.pipelines) (slice_get config.tenants t)) []
 
--- the project of this name is there, byte by byte
+-- The project of this name is listed. Names are compared byte by byte.
 abbrev pub has_project : ProjectSet → List ℕ → Bool
 has_project projects name = contains_text projects.names name
 
@@ -27,11 +27,11 @@ has_project projects name = contains_text projects.names name
 abbrev pub projects_of : Config → ℕ → ℕ → Option ProjectSet
 projects_of config t c = option_and_then (λ (tenant : TenantSpec). unwrap_or (slice_get tenant.sources c) None) (slice_get config.tenants t)
 
--- the tenant lists the connection
+-- The tenant lists the connection.
 abbrev pub lists : Config → ℕ → ℕ → Bool
 lists config t c = is_some (projects_of config t c)
 
--- the tenant lists the project under the connection, by the same name byte by byte
+-- The tenant lists the project under the connection. Names are compared byte by byte.
 abbrev pub belongs : Config → ℕ → ℕ → List ℕ → Bool
 belongs config t c project = unwrap_or (option_map (λ projects. has_project projects project) (projects_of config t c)) false
 
@@ -39,11 +39,11 @@ belongs config t c project = unwrap_or (option_map (λ projects. has_project pro
 abbrev pub rules_of : Config → ℕ → ℕ → ℕ → List Rule
 rules_of config t p c = unwrap_or (option_and_then (λ (pipeline : PipelineSpec). slice_get pipeline.rules c) (slice_get (pipelines_of config t) p)) []
 
--- the jobs of a project, of those of one pipeline
+-- the jobs that one pipeline runs for a project
 abbrev pub jobs_under : Jobs → List ℕ → List (List ℕ)
 jobs_under jobs project = unwrap_or (get_by_text jobs.lists project) []
 
--- the jobs of a project in the pipeline, by their names
+-- the names of the jobs that the pipeline runs for a project
 abbrev pub jobs_of : Config → ℕ → ℕ → List ℕ → List (List ℕ)
 jobs_of config t p project =
     unwrap_or (option_map (λ (jobs : Jobs). jobs_under jobs project) (option_and_then (λ (tenant : TenantSpec). slice_get tenant.jobs p) (slice_get config.tenants t))) []

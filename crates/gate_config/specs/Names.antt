@@ -6,15 +6,15 @@ use Rattle.std.specs.List.{list_any}
 use Rattle.std.specs.Ordering.{nat_cmp}
 use Rattle.std.specs.Str.{bytes_eq}
 
--- one more name, at its place in byte order unless it is there
+-- the names with one more, at its place in byte order, unless it is among them
 abbrev pub with_name : List ℕ → List (List ℕ) → List (List ℕ)
 with_name name names = insert_key (slice_cmp nat_cmp) names name
 
--- more names, each once and in byte order
+-- the names with more of them, each once and in byte order
 abbrev pub with_names : List (List ℕ) → List (List ℕ) → List (List ℕ)
 with_names names [] = names
 with_names names (name ∷ more) = with_names (with_name name names) more
 
--- the name is one of these
+-- The name is one of these.
 abbrev pub is_among : List (List ℕ) → List ℕ → Bool
 is_among names name = list_any (λ other. bytes_eq other name) names

@@ -1,4 +1,4 @@
--- What all generations of a configuration have in common, as a document says it.
+-- What all generations of a configuration must have in common, as a document says it.
 use Rattle.std.specs.Prelude.{ℕ, List, Bool, Option, is_some, map}
 use Rattle.serde_json.specs.Data.{Data}
 use Rattle.gate_record.specs.declared.ids.ManagerKind.{ManagerKind}
@@ -8,8 +8,8 @@ use Rattle.gate_config.specs.Document.{PipelineTexts, TenantTexts, connection_na
 abbrev pub pipeline_structure : PipelineTexts → List ℕ × Option ManagerKind
 pipeline_structure pipeline = (pipeline.name, pipeline.manager)
 
--- A tenant without the projects that it lists and without rules: by connection number whether it lists the connection, and
--- by pipeline number the jobs of each project.
+-- A tenant without the projects that it lists and without rules: by connection number, whether it lists the connection, and by
+-- pipeline number, the jobs of each project.
 pub record TenantStructure : Type 0 where
   pub name : List ℕ
   pub lists : List Bool

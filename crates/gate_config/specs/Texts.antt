@@ -1,4 +1,4 @@
--- A configuration's texts: what of it a document can name.
+-- What a configuration says, as texts, which can be compared with those of a document.
 use Rattle.std.specs.Prelude.{◌≡◌, Some, map, option_map}
 use Rattle.serde_json.specs.Data.{Data}
 use Rattle.gate_rule.specs.declared.entry.Entry.{Entry}
@@ -31,7 +31,7 @@ texts_of_pipeline pipeline = record { name = pipeline.name; manager = Some pipel
 abbrev pub texts_of_tenant : TenantSpec → TenantTexts
 texts_of_tenant tenant = record { name = tenant.name; sources = map (option_map has_project) tenant.sources; pipelines = map texts_of_pipeline tenant.pipelines; jobs = map jobs_under tenant.jobs }
 
--- the configuration says what the document says: the names of its connections, and its tenants with all that they have
+-- The configuration says what the document says: the names of its connections, and its tenants with all that they have.
 pub record IsReadFrom (document : Data) (config : Config) : Type 0 where
   pub connections : connections_of config ≡ connection_names document
   pub tenants : map texts_of_tenant (tenants_of config) ≡ tenants_in document

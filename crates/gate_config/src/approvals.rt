@@ -1,3 +1,4 @@
+//! Reads the attribute `approval` of a rule: the votes that an event must have.
 ghost use Rattle.std.specs.Prelude.{◌≡◌, ◌+◌, ◌++◌, Some, length, map, option_and_then, option_map, option_to_list};
 ghost use Rattle.std.specs.List.{filter_map, flat_map};
 ghost use Rattle.serde_json.specs.Find.{get};
@@ -18,7 +19,7 @@ use gate_record::{Sequence, Text, category, read_number};
 use serde_json::Value;
 use std::alloc::Global;
 
-// The votes of `approval`, if it is there: an object of categories and numbers, or a list of such objects.
+// Reads the votes of `approval`, if it is there: an object from categories to numbers, or a list of such objects.
 pub(crate) fn read_approvals(
     alloc: Global,
     place: &Place<'_>,
@@ -62,7 +63,7 @@ fn read_objects(
     Ok(votes)
 }
 
-// The object at this position of the list.
+// Reads the object at this position of the list.
 fn push_item(
     alloc: Global,
     place: &Place<'_>,
@@ -77,7 +78,7 @@ fn push_item(
     push_object(alloc, place, &here, item, votes)
 }
 
-// An object of categories and numbers, at `here`.
+// Reads an object from categories to numbers. `here` is its place, and `place` that of the attribute.
 fn push_object<'p>(
     alloc: Global,
     place: &Place<'p>,
@@ -110,8 +111,8 @@ fn push_votes(
     Ok(())
 }
 
-// The vote at a key. `Limit` at the attribute where there are as many as there may be, `Shape` at the object where it
-// is no number.
+// Reads the vote at a key. The error is `Limit` at the attribute if it has `MAX_ENTRIES` votes already, or `Shape` at the object
+// if the vote is no number.
 fn push_vote(
     alloc: Global,
     place: &Place<'_>,

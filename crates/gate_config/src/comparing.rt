@@ -1,3 +1,4 @@
+//! Compares two configurations in all that the generations of one configuration must have in common.
 ghost use Rattle.std.specs.Prelude.{◌≡◌, Bool};
 ghost use Rattle.std.specs.Bool.{Decides};
 ghost use Rattle.std.specs.Cmp.Lexicographic.{pointwise};
@@ -10,7 +11,7 @@ use crate::jobs::Jobs;
 use crate::project_set::ProjectSet;
 use gate_record::{ManagerKind, Text};
 
-// Whether two configurations have all in common but the projects that are listed and the rules. It takes no memory.
+// Returns whether two configurations differ at most in the projects that are listed and in the rules. It takes no memory.
 pub(crate) fn are_alike(first: &Config, other: &Config) -> bool
     ensures { Decides result (structure_in other.now ≡ structure_in first.now) }
 {
@@ -18,7 +19,7 @@ pub(crate) fn are_alike(first: &Config, other: &Config) -> bool
         && all_alike(first.tenants(), other.tenants())
 }
 
-// A part of a configuration, which is compared with that of another one.
+// A part of a configuration, which is compared with the same part of another one.
 trait Part {
     ghost same: { Self → Self → Bool };
 
@@ -26,7 +27,7 @@ trait Part {
         ensures { result ≡ same self.now other.now };
 }
 
-// Whether they are as many, and alike place by place.
+// Returns whether there are as many parts in both lists, and each is alike to the one at the same place.
 fn all_alike<P: Part>(first: &[P], other: &[P]) -> bool
     ensures { result ≡ pointwise P.same first.now other.now }
 {
@@ -59,7 +60,7 @@ impl Part for TenantSpec {
     }
 }
 
-// A connection is listed in both or in neither. Which projects are listed under it may differ.
+// Either both tenants list the connection, or neither does. The projects that are listed under it may differ.
 impl Part for Option<ProjectSet> {
     ghost same = { same_listing };
 
@@ -68,7 +69,7 @@ impl Part for Option<ProjectSet> {
     }
 }
 
-// The rules of a pipeline may differ.
+// The rules of the pipelines may differ.
 impl Part for PipelineSpec {
     ghost same = { same_pipeline };
 
@@ -88,7 +89,7 @@ impl Part for ManagerKind {
     }
 }
 
-// Each project that has jobs in one of them has the same in both.
+// Each project that has jobs in one of the two has the same jobs in the other.
 impl Part for Jobs {
     ghost same = { same_jobs };
 
@@ -97,7 +98,7 @@ impl Part for Jobs {
     }
 }
 
-// Whether two have the same jobs for each project that has jobs in a third.
+// Returns whether the first two have the same jobs for each project that has jobs in the third.
 fn agree_at(first: &Jobs, other: &Jobs, projects: &Jobs) -> bool
     ensures { result ≡ agree_at first.now other.now projects.now }
 {

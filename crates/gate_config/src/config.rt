@@ -1,3 +1,4 @@
+//! `Config`, a configuration that was read, and its look-ups by the numbers of connections, tenants and pipelines.
 ghost use Rattle.std.specs.Prelude.{◌≡◌, ◌≤◌, ℕ, length, IsTrue};
 ghost use Rattle.gate_config.specs.Limits.{most_connections, most_pipelines, most_tenants};
 
@@ -6,8 +7,8 @@ use crate::project_set::ProjectSet;
 use gate_record::{ConnId, ManagerKind, PipelineId, Sequence, TenantId, Text};
 use gate_rule::Rule;
 
-/// A configuration. Connections are numbered in byte order of their names, tenants and pipelines in the order of the
-/// document. A number out of range has no projects, no pipelines, no rules and no jobs.
+/// A configuration. Connections are numbered in byte order of their names, tenants and pipelines in the order of the document. A
+/// number out of range has no projects, no pipelines, no rules and no jobs.
 #[derive(Drop)]
 pub struct Config {
     pub(crate) connections: Sequence<Text>,
@@ -19,13 +20,14 @@ pub struct Config {
 /// A tenant of a configuration.
 #[derive(Drop)]
 pub struct TenantSpec {
-    /// The name, which no other tenant has.
+    /// The tenant's name. No other tenant has the same.
     pub name: Text,
-    /// By connection number: the projects that it lists there, or nothing where it doesn't list the connection.
+    /// By connection number: the projects that the tenant lists under the connection, or `None` if it doesn't list the
+    /// connection.
     pub(crate) sources: Sequence<Option<ProjectSet>>,
-    /// The pipelines, by number.
+    /// The tenant's pipelines, by number.
     pub pipelines: Sequence<PipelineSpec>,
-    /// By pipeline number: the jobs of projects.
+    /// By pipeline number: the jobs that the pipeline runs for each project.
     pub(crate) jobs: Sequence<Jobs>,
     pub ghost few_pipelines: { length pipelines ≤ most_pipelines },
 }
@@ -33,32 +35,32 @@ pub struct TenantSpec {
 /// A pipeline of a tenant (Zuul's documentation, "Pipeline Definition").
 #[derive(Drop)]
 pub struct PipelineSpec {
-    /// The name, which no other pipeline of the tenant has.
+    /// The pipeline's name. No other pipeline of the tenant has the same.
     pub name: Text,
-    /// How its items are to be ordered.
+    /// The pipeline's manager, which says whether its items leave in order.
     pub manager: ManagerKind,
-    /// By connection number: the trigger rules, of which one is to be met.
+    /// By connection number: the trigger rules. The pipeline selects an event that meets one of them.
     pub(crate) rules: Sequence<Sequence<Rule>>,
 }
 
 impl Config {
     ghost use Rattle.gate_config.specs.Lookups.{connections_of, tenants_of, pipelines_of, lists, belongs, rules_of, jobs_of};
 
-    /// The names of the connections, by number.
+    /// Returns the names of the connections, by number.
     pub fn connections(&self) -> &[Text]
         ensures { result.now ≡ connections_of self.now }
     {
         self.connections.as_slice()
     }
 
-    /// The tenants, by number.
+    /// Returns the tenants, by number.
     pub fn tenants(&self) -> &[TenantSpec]
         ensures { result.now ≡ tenants_of self.now }
     {
         self.tenants.as_slice()
     }
 
-    /// The pipelines of a tenant, by number.
+    /// Returns the pipelines of a tenant, by number.
     pub fn pipelines(&self, tenant: TenantId) -> &[PipelineSpec]
         ensures { result.now ≡ pipelines_of self.now tenant.0 }
     {
@@ -68,14 +70,14 @@ impl Config {
         }
     }
 
-    /// Whether the tenant lists the connection among its sources.
+    /// Returns whether the tenant lists the connection among its sources.
     pub fn listed(&self, tenant: TenantId, conn: ConnId) -> bool
         ensures { result ≡ lists self.now tenant.0 conn.0 }
     {
         self.projects(tenant, conn).is_some()
     }
 
-    /// Whether the tenant lists the project under the connection. Names are compared byte by byte.
+    /// Returns whether the tenant lists the project under the connection. Names are compared byte by byte.
     pub fn belongs(&self, tenant: TenantId, conn: ConnId, project: &str) -> bool
         ensures { result ≡ belongs self.now tenant.0 conn.0 project.now }
     {
@@ -85,7 +87,7 @@ impl Config {
         }
     }
 
-    /// The rules of which an event of the connection is to meet one, to be selected by the pipeline.
+    /// Returns the rules of a pipeline for a connection. The pipeline selects an event of the connection that meets one of them.
     pub fn rules(&self, tenant: TenantId, pipeline: PipelineId, conn: ConnId) -> &[Rule]
         ensures { result.now ≡ rules_of self.now tenant.0 pipeline.0 conn.0 }
     {
@@ -98,7 +100,8 @@ impl Config {
         }
     }
 
-    /// The names of the jobs of a project in the pipeline, in the order in which its stanzas name them first.
+    /// Returns the names of the jobs that a pipeline runs for a project, in the order in which the project's stanzas first name
+    /// them.
     pub fn jobs(&self, tenant: TenantId, pipeline: PipelineId, project: &str) -> &[Text]
         ensures { result.now ≡ jobs_of self.now tenant.0 pipeline.0 project.now }
     {

@@ -1,3 +1,4 @@
+//! Picks the tenants out of `tenants`, and the pipelines and projects out of a tenant's list in `config`.
 ghost use Rattle.std.specs.Prelude.{◌≡◌, ℕ, IfOk, map};
 ghost use Rattle.serde_json.specs.Data.{Data};
 ghost use Rattle.serde_json.specs.View.{view};
@@ -10,14 +11,14 @@ use gate_record::Memory;
 use serde_json::Value;
 use std::alloc::Global;
 
-// A value, with the position of the item that it was found at.
+// A value, and the position of the list's item in which it was found.
 #[derive(Clone, Copy)]
 pub(crate) struct Found<'v> {
     pub(crate) position: usize,
     pub(crate) value: &'v Value,
 }
 
-// The tenants among the items of `tenants`.
+// Picks the tenants among the items of `tenants`.
 pub(crate) fn tenant_entries(alloc: Global, items: &[Value]) -> Result<Vec<Found<'_>>, Memory>
     ensures { IfOk result (λ entries. map found_view entries.items ≡ picked tenant_at (map view items.now)) }
 {
@@ -37,14 +38,14 @@ fn is_no_tenant(entry: &Value) -> bool
     entry.is_object() && member(entry, "tenant").is_none() && entry.get("name").is_none()
 }
 
-// The tenant of an entry: what stands at `tenant`, or else the entry itself.
+// Returns the tenant of an entry: the value at `tenant`, or else the entry itself.
 pub(crate) fn tenant_of(entry: &Value) -> &Value
     ensures { view result.now ≡ tenant_of (view entry.now) }
 {
     member(entry, "tenant").unwrap_or(entry)
 }
 
-// What stands at a key of the items of a tenant's list in `config`.
+// Picks the values at a key of the items of a tenant's list in `config`.
 pub(crate) fn entries_at<'v>(
     alloc: Global,
     items: &'v [Value],

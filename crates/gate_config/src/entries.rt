@@ -1,3 +1,4 @@
+//! Reads the entries of attributes that list patterns, such as `branch`.
 ghost use Rattle.std.specs.Prelude.{◌≡◌, ◌∷◌, [], Some, codes, false, map, unwrap_or, option_and_then};
 ghost use Rattle.std.specs.List.{flat_map};
 ghost use Rattle.serde_json.specs.View.{view};
@@ -22,7 +23,7 @@ use gate_rule::{Entry, Pattern, PatternFault};
 use serde_json::Value;
 use std::alloc::Global;
 
-// An entry of an attribute of patterns: a text, or an object with a text `regex`, and perhaps `negate`.
+// Reads an entry of an attribute that lists patterns: a text, or an object with a text `regex` and an optional `negate`.
 pub(crate) fn read_entry(
     alloc: Global,
     table: &mut PatternTable,
@@ -53,7 +54,8 @@ fn read_object(
     Ok(Entry::new(pattern, negate))
 }
 
-// An object that has no other keys than those of an entry. `Shape` at the first other one.
+// Checks that an entry is an object with no other keys than those of an entry. The error is `Shape`, at the first other key if
+// there is one.
 fn check_keys(alloc: Global, here: &Place<'_>, value: &Value) -> Result<(), ConfigFault>
     ensures { Tests (Asks (is_object (view value.now)) (Shape (steps_of here.now)) ∷ flat_map (entry_key_checks (steps_of here.now)) (keys_of (Some (view value.now)))) result }
 {
@@ -80,7 +82,7 @@ fn check_key(alloc: Global, here: &Place<'_>, key: &str) -> Result<(), ConfigFau
     }
 }
 
-// Whether an entry is negated; it isn't where nothing says so.
+// Reads whether an entry is negated. An entry without `negate` isn't.
 fn read_negate(alloc: Global, here: &Place<'_>, value: &Value) -> Result<bool, ConfigFault>
     ensures { Reads (Asks (is_fine is_flag (optional (codes "negate") (view value.now))) (Shape (below (steps_of here.now) (codes "negate"))) ∷ [])
         (λ negate. negate ≡ negates (view value.now)) result }
@@ -91,7 +93,7 @@ fn read_negate(alloc: Global, here: &Place<'_>, value: &Value) -> Result<bool, C
 }
 
 impl PatternTable {
-    // The pattern of a text. `Pattern` at the place where `regex` refuses it.
+    // Builds the pattern of a text. The error is `Pattern` at the text's place if `regex` refuses the text.
     fn pattern_at(
         &mut self,
         alloc: Global,

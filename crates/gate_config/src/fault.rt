@@ -1,3 +1,4 @@
+//! `ConfigFault`, why a document is no configuration.
 ghost use Rattle.std.specs.Prelude.{◌≡◌};
 ghost use Rattle.gate_config.specs.declared.fault.ConfigFault.TheVariants.{Memory as Refused};
 
@@ -7,29 +8,29 @@ use std::alloc::{AllocError, AllocFailed};
 use std::error::Error;
 use std::fmt;
 
-/// Why a document is no configuration: the first fault in reading order, with the path that leads to it.
+/// Why a document is no configuration: its first fault in reading order, with the path to the place of the fault.
 #[derive(Debug, Drop)]
 pub enum ConfigFault {
-    /// Memory was refused, at whichever point of the reading.
+    /// Memory was refused. That may happen at any point of the reading.
     Memory,
     /// The bytes are no JSON.
     NotJson,
-    /// A required member is missing, or a value is of another kind than stated.
+    /// A required member is missing, or a value is of another kind than docs/FORMATS.md says.
     Shape(Path),
-    /// More than there may be: tenants, at `tenants`; connections, at the key; pipelines, at the item; rules, at the
-    /// connection; patterns or approvals, at the attribute.
+    /// There are more than allowed. The path leads to `tenants` for tenants, to the key for connections, to the item for
+    /// pipelines, to the connection for rules, and to the attribute for patterns and approvals.
     Limit(Path),
-    /// A manager other than `independent` and `dependent`.
+    /// The manager is neither `independent` nor `dependent`.
     Manager(Path),
-    /// A key of a rule that is none of the eight attributes.
+    /// A rule has a key that is none of the eight attributes.
     Attribute(Path),
-    /// A text that `regex` refuses.
+    /// `regex` refuses the text of a pattern.
     Pattern(Path),
-    /// The name of an earlier tenant, or of an earlier pipeline of the tenant.
+    /// An earlier tenant, or an earlier pipeline of the tenant, has the same name.
     Repeated(Path),
 }
 
-/// The word of the fault, and behind one space its path, which may be empty.
+/// Prints the word of the fault, then a space and the path, which may be empty. `memory` and `not-json` have no path.
 impl fmt::Display for ConfigFault {
     fn fmt<W: fmt::Write>(&self, f: &mut fmt::Formatter<W>) -> fmt::Result {
         match self {

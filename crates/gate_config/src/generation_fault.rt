@@ -1,3 +1,4 @@
+//! `GenerationFault`, why several documents aren't the generations of one configuration.
 ghost use Rattle.std.specs.Prelude.{◌≡◌};
 ghost use Rattle.gate_config.specs.declared.generation_fault.GenerationFault.TheVariants.{Memory as Refused};
 
@@ -6,19 +7,20 @@ use std::alloc::{AllocError, AllocFailed};
 use std::error::Error;
 use std::fmt;
 
-/// Why documents are no generations of a configuration. `Count` comes before any document is looked at, then the fault of the
-/// first document that has one.
+/// Why documents are no generations of a configuration. `Count` comes before any document is read, then the fault of the first
+/// document that has one.
 #[derive(Debug, Drop)]
 pub enum GenerationFault {
     /// There is no document, or there are more than `MAX_GENERATIONS`.
     Count,
-    /// The document of this number, from 0, has this fault, which is never `ConfigFault::Memory`.
+    /// The document of this number, counted from 0, has this fault, which is never `ConfigFault::Memory`.
     Document(u32, ConfigFault),
-    /// Memory was refused, at whichever point of the reading.
+    /// Memory was refused. That may happen at any point of the reading.
     Memory,
 }
 
-/// `generations`, `memory`, or the fault of the document: behind `generation G ` where it isn't the first.
+/// Prints `generations`, `memory`, or the fault of the document. `generation G ` stands before the fault of a document that isn't
+/// the first.
 impl fmt::Display for GenerationFault {
     fn fmt<W: fmt::Write>(&self, f: &mut fmt::Formatter<W>) -> fmt::Result {
         match self {

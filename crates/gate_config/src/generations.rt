@@ -1,3 +1,4 @@
+//! `Generations`, the configurations that come into force one after another while a run goes on.
 ghost use Rattle.std.specs.Prelude.{◌≡◌, ◌<◌, ℕ, length};
 ghost use Rattle.gate_config.specs.InForce.{AreAlike, in_force};
 ghost use Rattle.gate_config.specs.Limits.{most_generations};
@@ -6,9 +7,9 @@ use crate::config::Config;
 use gate_record::Sequence;
 use std::alloc::Global;
 
-/// The generations of a configuration, numbered from 0: at least one, and at most `MAX_GENERATIONS` (this project's profile).
-/// All have the same connections, tenants, listed connections, pipelines, managers and jobs, so what stands on these alone
-/// takes the first. The projects that are listed and the rules may differ.
+/// The generations of a configuration, numbered from 0. There are at least one and at most `MAX_GENERATIONS` (this project's
+/// profile). All have the same connections, tenants, listed connections, pipelines, managers and jobs, so code that needs only
+/// these asks the first generation. The projects that are listed and the rules may differ.
 #[derive(Drop)]
 pub struct Generations {
     pub(crate) first: Config,
@@ -20,7 +21,7 @@ pub struct Generations {
 impl Generations {
     ghost use Rattle.gate_config.specs.Generations.{config_at, count_of};
 
-    /// A configuration that stays as it is: one generation. It takes no memory.
+    /// Returns a configuration that never changes: one generation. It takes no memory.
     pub fn of(alloc: Global, config: Config) -> Generations
         ensures first { result.first ≡ config }
         ensures always { (g : ℕ) → config_at result g ≡ config }
@@ -32,21 +33,21 @@ impl Generations {
         }
     }
 
-    /// The first generation.
+    /// Returns the first generation.
     pub fn first(&self) -> &Config
         ensures { result.now ≡ self.now.first }
     {
         &self.first
     }
 
-    /// How many generations there are, at least 1.
+    /// Returns how many generations there are, at least 1.
     pub fn count(&self) -> u32
         ensures { result ≡ count_of self.now }
     {
         self.later.len() as u32 + 1
     }
 
-    /// The generation of this number, from 0. A number out of range means the first.
+    /// Returns the generation of this number, counted from 0. A number out of range means the first generation.
     pub fn generation(&self, g: u32) -> &Config
         ensures { result.now ≡ config_at self.now g }
     {

@@ -1,3 +1,4 @@
+//! `JobList`, the names of a project's jobs, each once.
 ghost use Rattle.std.specs.Prelude.{◌≡◌, ◌∷◌, ◌++◌, ℕ, List, [], IfOk, OnOk};
 ghost use Rattle.std.specs.List.{list_any};
 ghost use Rattle.std.specs.Str.{bytes_eq};
@@ -8,11 +9,11 @@ use std::alloc::Global;
 use std::collections::BTreeSet;
 use std::marker::Model;
 
-// How many names are walked to see whether one is there.
+// Up to this many names are compared one by one to see whether a name is there.
 const FEW: usize = 16;
 
-// Names of jobs, each once, which contracts see as the list of them in order. Where there are more than a few there is a set of the
-// same names, so that no long list is walked to see whether a name is there.
+// Names of jobs, each once. Contracts see them as the list in order. As soon as there are more than `FEW` names, a set of the
+// same names is kept too, so that a look-up needn't walk a long list.
 #[derive(Drop)]
 pub(crate) struct JobList {
     names: Vec<Text>,
@@ -31,7 +32,6 @@ impl Model for JobList {
 }
 
 impl JobList {
-    // No names.
     pub(crate) fn new(alloc: Global) -> JobList
         ensures { result ≡ [] }
     {
@@ -41,14 +41,14 @@ impl JobList {
         }
     }
 
-    // The names, in order.
+    // Returns the names, in order.
     pub(crate) fn as_slice(&self) -> &[Text]
         ensures { result.now ≡ self.now }
     {
         self.names.as_slice()
     }
 
-    // Adds a name at the end, unless it is there.
+    // Adds a name at the end, unless it is there already.
     pub(crate) fn add(&mut self, alloc: Global, name: &str) -> Result<(), Memory>
         ensures { OnOk result (self.new ≡ with_job self.old name.now) }
     {
@@ -77,7 +77,8 @@ fn is_among(name: &str, names: &[Text]) -> bool
     names.iter().any(|other| name == other.as_str())
 }
 
-// The set of these names, of which the last was added to those that it had, if there is to be one.
+// Returns the set that is to be kept with these names, if one is. The last of the names, `name`, was just added, and `seen` is
+// the set that was kept before.
 fn seen_behind(
     alloc: Global,
     seen: Option<BTreeSet<String>>,

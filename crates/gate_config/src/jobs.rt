@@ -1,3 +1,4 @@
+//! `Jobs`, which jobs one pipeline runs for which projects.
 ghost use Rattle.std.specs.Prelude.{◌≡◌, ℕ, List, [], OnOk, map, if◌then◌else◌};
 ghost use Rattle.std.specs.List.{filter_map};
 ghost use Rattle.std.specs.Str.{bytes_eq};
@@ -10,7 +11,7 @@ use serde_json::Value;
 use std::alloc::Global;
 use std::collections::BTreeMap;
 
-// The jobs of projects in one pipeline, by the names of the projects.
+// The jobs that one pipeline runs for projects, by the names of the projects.
 #[derive(Drop)]
 pub(crate) struct Jobs {
     pub(crate) lists: BTreeMap<String, JobList>,
@@ -21,7 +22,6 @@ impl Jobs {
     ghost use Rattle.gate_config.specs.Inner.Jobs.{with_jobs};
     ghost use Rattle.gate_config.specs.Lookups.{jobs_under};
 
-    // No jobs.
     pub(crate) fn new(alloc: Global) -> Jobs
         ensures { (project : List ℕ) → jobs_under result project ≡ [] }
     {
@@ -30,7 +30,7 @@ impl Jobs {
         }
     }
 
-    // The jobs of a project.
+    // Returns the jobs of a project, in order. A project without a list has none.
     pub(crate) fn of(&self, project: &str) -> &[Text]
         ensures { result.now ≡ jobs_under self.now project.now }
     {
@@ -40,7 +40,7 @@ impl Jobs {
         }
     }
 
-    // Adds the jobs that are named for a project. Where none is, the project has no list for it.
+    // Adds the jobs that a stanza names for a project. If it names none, no list is made for the project.
     pub(crate) fn add(&mut self, alloc: Global, project: &str, jobs: &[Value]) -> Result<(), Memory>
         ensures { OnOk result ((other : List ℕ) → jobs_under self.new other
             ≡ with_jobs (jobs_under self.old other) (if bytes_eq project.now other then filter_map name_in (map view jobs.now) else [])) }

@@ -1,5 +1,5 @@
-//! A tenant configuration, and what it says: which connections and projects a tenant lists, which events its pipelines
-//! ask for, and which jobs a project has in them.
+//! A configuration: how it is read from a JSON document, and what it says. It says which connections and projects a tenant lists,
+//! which events its pipelines select, and which jobs a pipeline runs for a project.
 #![tactic(auto)]
 
 mod approvals;

@@ -1,23 +1,25 @@
+//! `NameFilter`, a quick test that says of most names that they aren't in a set.
 ghost use Rattle.std.specs.Prelude.{◌≡◌, ◌<◌, ℕ, List, true};
 ghost use Rattle.gate_config.specs.Inner.Filters.{mark_of, passes};
 
 const MARKS: usize = 64;
 
-// Which names may be among others, as two bytes of each tell: a name that doesn't pass is none of them.
+// A filter for a set of names, which looks at the last two bytes of a name. A name that doesn't pass isn't in the set. A name
+// that passes may be.
 #[derive(Drop)]
 pub(crate) struct NameFilter {
     marks: [bool; MARKS],
 }
 
 impl NameFilter {
-    // No name passes.
+    // Returns the filter that no name passes.
     pub(crate) fn none() -> NameFilter {
         NameFilter {
             marks: [false; MARKS],
         }
     }
 
-    // Lets a name pass, and each that passes so far.
+    // Lets one more name pass.
     pub(crate) fn add(&mut self, name: &str)
         ensures added { passes self.new name.now ≡ true }
         ensures kept { (other : List ℕ) → passes self.old other ≡ true → passes self.new other ≡ true }
@@ -32,7 +34,7 @@ impl NameFilter {
     }
 }
 
-// Where the mark of a name stands, by its last two bytes.
+// Returns the place of a name's mark, by its last two bytes.
 fn mark_of(name: &str) -> usize
     ensures value { result ≡ mark_of name.now }
     ensures within { result < 64 }

@@ -1,3 +1,4 @@
+//! `NameSet`, a set of names that can tell them in byte order.
 ghost use Rattle.std.specs.Prelude.{◌≡◌, ℕ, [], List, String, string_bytes, IfOk, OnOk, length, map};
 ghost use Rattle.gate_config.specs.Names.{with_name};
 
@@ -6,7 +7,7 @@ use std::alloc::Global;
 use std::collections::BTreeSet;
 use std::marker::Model;
 
-// Names, each once, which contracts see as a list in byte order.
+// Names, each once. Contracts see them as a list in byte order.
 #[derive(Drop)]
 pub(crate) struct NameSet {
     names: BTreeSet<String>,
@@ -19,7 +20,6 @@ impl Model for NameSet {
 }
 
 impl NameSet {
-    // No names.
     pub(crate) fn new(alloc: Global) -> NameSet
         ensures { result ≡ [] }
     {
@@ -28,14 +28,13 @@ impl NameSet {
         }
     }
 
-    // How many names there are.
     pub(crate) fn len(&self) -> usize
         ensures { result ≡ length self.now }
     {
         self.names.len()
     }
 
-    // Adds a name, unless it is there.
+    // Adds a name, unless it is there already.
     pub(crate) fn insert(&mut self, alloc: Global, name: &str) -> Result<(), Memory>
         ensures { OnOk result (self.new ≡ with_name name.now self.old) }
     {
@@ -43,7 +42,7 @@ impl NameSet {
         Ok(())
     }
 
-    // The names as texts, in order.
+    // Copies the names into a list, in byte order.
     pub(crate) fn to_texts(&self, alloc: Global) -> Result<Sequence<Text>, Memory>
         ensures { IfOk result (λ texts. texts ≡ self.now) }
     {

@@ -1,3 +1,4 @@
+//! Reads the name that a value gives, since Zuul lets a project or a job be a text or an object of one key.
 ghost use Rattle.std.specs.Prelude.{◌≡◌, option_map};
 ghost use Rattle.serde_json.specs.View.{view, members_view};
 ghost use Rattle.gate_config.specs.Document.{name_in, only};
@@ -5,7 +6,7 @@ ghost use Rattle.gate_config.specs.Parts.{keys_in};
 
 use serde_json::{Map, Value};
 
-// The name that a value gives: a text, or the key of an object that has no other.
+// Returns the name that a value gives: a text, or the key of an object that has no other.
 pub(crate) fn name_in(value: &Value) -> Option<&str>
     ensures { option_map (λ name. name.now) result ≡ name_in (view value.now) }
 {

@@ -1,3 +1,4 @@
+//! Takes JSON values apart: members, items and keys, with a fault where a value is of the wrong kind.
 ghost use Rattle.std.specs.Prelude.{◌≡◌, ◌∷◌, [], IfOk, Some, map, option_and_then, option_map};
 ghost use Rattle.serde_json.specs.Find.{get, as_array, as_bool};
 ghost use Rattle.serde_json.specs.View.{view, members_view};
@@ -16,7 +17,7 @@ use gate_record::{Memory, Text};
 use serde_json::{Map, Value};
 use std::alloc::Global;
 
-// The value, if it isn't null.
+// Null counts as absent.
 fn present(value: &Value) -> Option<&Value>
     ensures { option_map (λ v. view v.now) result ≡ unless_null (view value.now) }
 {
@@ -26,7 +27,7 @@ fn present(value: &Value) -> Option<&Value>
     }
 }
 
-// An optional member.
+// Returns an optional member. Null counts as absent.
 pub(crate) fn member<'v>(value: &'v Value, key: &str) -> Option<&'v Value>
     ensures { option_map (λ v. view v.now) result ≡ optional key.now (view value.now) }
 {
@@ -36,7 +37,7 @@ pub(crate) fn member<'v>(value: &'v Value, key: &str) -> Option<&'v Value>
     }
 }
 
-// An optional member of what may be absent.
+// Returns an optional member of a value that may itself be absent.
 pub(crate) fn member_of<'v>(value: Option<&'v Value>, key: &str) -> Option<&'v Value>
     ensures { option_map (λ v. view v.now) result
         ≡ optional_in key.now (option_map (λ v. view v.now) value.entry) }
@@ -47,7 +48,7 @@ pub(crate) fn member_of<'v>(value: Option<&'v Value>, key: &str) -> Option<&'v V
     }
 }
 
-// The items, if the value is a list.
+// Returns the items of a list, or `None` for any other value.
 #[tactic(auto, using(crate::proofs::Views::items_of_view))]
 pub(crate) fn list(value: &Value) -> Option<&[Value]>
     ensures { option_map (λ items. map view items.now) result ≡ option_map items_in (as_array (view value.now)) }
@@ -58,7 +59,7 @@ pub(crate) fn list(value: &Value) -> Option<&[Value]>
     }
 }
 
-// The items of a list; none of another value.
+// Returns the items of a list, and none for any other value.
 pub(crate) fn items(value: Option<&Value>) -> &[Value]
     ensures { map view result.now ≡ items_of (option_map (λ v. view v.now) value.entry) }
 {
@@ -68,7 +69,7 @@ pub(crate) fn items(value: Option<&Value>) -> &[Value]
     }
 }
 
-// The keys of an object, in byte order; none of another value.
+// Returns the keys of an object in byte order, and none for any other value.
 pub(crate) fn keys(alloc: Global, value: Option<&Value>) -> Result<Vec<&String>, Memory>
     ensures { IfOk result (λ keys. map key_view keys.items
         ≡ keys_of (option_map (λ v. view v.now) value.entry)) }
@@ -88,7 +89,7 @@ fn keys_of_members(alloc: Global, members: &Map<String, Value>) -> Result<Vec<&S
     Ok(members.keys().collect(alloc)?)
 }
 
-// `Shape` at the place where the value is no object.
+// Checks that a value is an object. The error is `Shape` at the value's place.
 pub(crate) fn check_object(
     alloc: Global,
     place: &Place<'_>,
@@ -102,7 +103,7 @@ pub(crate) fn check_object(
     Err(ConfigFault::Shape(place.path(alloc)?))
 }
 
-// `Shape` at the place where there is a value that is no object.
+// Checks that a value is an object or absent. The error is `Shape` at the value's place.
 pub(crate) fn check_optional_object(
     alloc: Global,
     place: &Place<'_>,
@@ -117,7 +118,7 @@ pub(crate) fn check_optional_object(
     }
 }
 
-// The items of an optional list. `Shape` at the place where there is a value that is no list.
+// Returns the items of an optional list. The error is `Shape` at the value's place if it is something else.
 pub(crate) fn optional_list<'v>(
     alloc: Global,
     place: &Place<'_>,
@@ -135,7 +136,7 @@ pub(crate) fn optional_list<'v>(
     }
 }
 
-// True or false, if it is there. `Shape` at the place where the value is another.
+// Returns an optional `true` or `false`. The error is `Shape` at the value's place if it is something else.
 pub(crate) fn optional_flag(
     alloc: Global,
     place: &Place<'_>,
@@ -153,7 +154,7 @@ pub(crate) fn optional_flag(
     }
 }
 
-// The text of a required member. `Shape` at its place where it is missing or no text.
+// Returns the text of a required member. The error is `Shape` at the member's place if it is missing or no text.
 pub(crate) fn required_text<'v>(
     alloc: Global,
     place: &Place<'_>,
@@ -169,7 +170,7 @@ pub(crate) fn required_text<'v>(
     }
 }
 
-// The text of a member that was checked.
+// Returns the text of a member that was checked before.
 pub(crate) fn text_at<'v>(value: &'v Value, key: &str) -> &'v str
     ensures { result.now ≡ text_of_member key.now (view value.now) }
 {

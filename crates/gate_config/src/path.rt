@@ -1,3 +1,4 @@
+//! `Path`, where a fault stands in a document.
 ghost use Rattle.std.specs.Prelude.{◌≡◌, IfOk};
 
 use gate_record::{Sequence, Text};
@@ -7,13 +8,13 @@ use std::marker::Model;
 /// A step into a document.
 #[derive(Debug, Drop)]
 pub enum Step {
-    /// The member of an object, by its key.
+    /// The step to the member of an object, by its key.
     Member(Text),
-    /// The item of a list, by its position from 0.
+    /// The step to the item of a list, by its position, counted from 0.
     Item(usize),
 }
 
-/// Where in a document something stands: the steps to it from the whole document on.
+/// The place of a value in a document: the steps to it, beginning at the whole document.
 #[derive(Debug, Drop)]
 pub struct Path {
     steps: Sequence<Step>,
@@ -35,7 +36,7 @@ impl Path {
         Path { steps }
     }
 
-    /// The steps, of which there are none to the whole document.
+    /// Returns the steps. The path to the whole document has none.
     pub fn steps(&self) -> &[Step]
         ensures { result.now ≡ self.now }
     {
@@ -43,7 +44,8 @@ impl Path {
     }
 }
 
-/// The keys joined by `.`, as they are, with positions as `[n]`; the whole document is the empty text.
+/// Prints the keys as they are, with `.` before each but the first step, and positions as `[n]`. The path to the whole document
+/// is printed as the empty text.
 impl fmt::Display for Path {
     fn fmt<W: fmt::Write>(&self, f: &mut fmt::Formatter<W>) -> fmt::Result {
         let mut before = "";

@@ -1,3 +1,4 @@
+//! `PatternTable`, which builds each pattern of a configuration once.
 ghost use Rattle.std.specs.Prelude.{◌≡◌, IfErr, IfOk, IfSome};
 ghost use Rattle.gate_rule.specs.Built.{IsNoPattern};
 ghost use Rattle.gate_rule.specs.Pattern.{text_of};
@@ -8,7 +9,7 @@ use gate_rule::{Pattern, PatternFault};
 use std::alloc::Global;
 use std::collections::BTreeMap;
 
-// The patterns of a configuration by their texts, of which each is built once and then shared.
+// The patterns of a configuration, by their texts. A text that stands in several rules is built once, and its pattern is shared.
 #[derive(Drop)]
 pub(crate) struct PatternTable {
     patterns: BTreeMap<String, Pattern>,
@@ -16,14 +17,13 @@ pub(crate) struct PatternTable {
 }
 
 impl PatternTable {
-    // No patterns.
     pub(crate) fn new(alloc: Global) -> PatternTable {
         PatternTable {
             patterns: BTreeMap::new(alloc),
         }
     }
 
-    // The pattern of a text: the one that was built of it, or a new one. Errors are those of `Pattern::new`.
+    // Returns the pattern of a text: the one that was built of it before, or a new one. The errors are those of `Pattern::new`.
     pub(crate) fn pattern(&mut self, alloc: Global, text: &str) -> Result<Pattern, PatternFault>
         ensures built { IfOk result (λ pattern. text_of pattern ≡ text.now) }
         ensures refused { IfErr result (IsNoPattern text.now) }

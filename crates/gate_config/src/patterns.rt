@@ -1,3 +1,4 @@
+//! Reads the attributes of a rule that list patterns.
 ghost use Rattle.std.specs.Prelude.{◌≡◌, ◌∷◌, [], map, option_map};
 ghost use Rattle.serde_json.specs.View.{view};
 ghost use Rattle.gate_config.specs.Checks.{each, entry_checks, entry_checks_at, pattern_checks};
@@ -17,7 +18,7 @@ use gate_rule::Entry;
 use serde_json::Value;
 use std::alloc::Global;
 
-// The entries of an attribute of patterns, if it is there: one entry or a list of entries.
+// Reads the entries of an attribute that lists patterns, if it is there: one entry, or a list of entries.
 pub(crate) fn read_patterns(
     alloc: Global,
     table: &mut PatternTable,
@@ -36,7 +37,7 @@ pub(crate) fn read_patterns(
     }
 }
 
-// The one entry that stands in place of a list.
+// Reads the one entry that stands in place of a list.
 fn read_one(
     alloc: Global,
     table: &mut PatternTable,
@@ -68,7 +69,8 @@ fn read_items(
     Ok(Sequence::new(entries))
 }
 
-// The entry at this position of a list.
+// Reads the entry at this position of a list. The error is `Limit` at the attribute if the list has more than `MAX_ENTRIES`
+// entries.
 fn read_item(
     alloc: Global,
     table: &mut PatternTable,

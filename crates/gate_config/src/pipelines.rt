@@ -1,3 +1,4 @@
+//! Reads the tenants' lists in `config`: the pipelines of each tenant, with their managers and rules.
 ghost use Rattle.std.specs.Prelude.{◌≡◌, ◌∷◌, [], Some, length, map, nat_lt, not, codes};
 ghost use Rattle.std.specs.List.{flat_map, list_any};
 ghost use Rattle.std.specs.Str.{bytes_eq};
@@ -32,7 +33,7 @@ use gate_record::{ManagerKind, Sequence, Text};
 use serde_json::Value;
 use std::alloc::Global;
 
-// Each tenant with its list in `config`, in order.
+// Reads each tenant with its list in `config`, in order.
 pub(crate) fn read_tenants(
     alloc: Global,
     table: &mut PatternTable,
@@ -75,7 +76,7 @@ fn read_tenant(
     })
 }
 
-// The pipelines of a tenant's list in `config`, and the jobs that its project items name for each of them.
+// Reads the pipelines of a tenant's list in `config`, and then the jobs that its project items name for each pipeline.
 fn read_all_items(
     alloc: Global,
     table: &mut PatternTable,
@@ -92,7 +93,7 @@ fn read_all_items(
     Ok((pipelines, jobs))
 }
 
-// The pipelines of a tenant's list in `config`, of which each item is tested first.
+// Reads the pipelines of a tenant's list in `config`. First each item of the list is checked to be an object.
 fn read_items(
     alloc: Global,
     table: &mut PatternTable,
@@ -142,7 +143,7 @@ fn read_entry(
     read_pipeline(alloc, table, connections, &item, &here, before, entry.value)
 }
 
-// A pipeline in an item, behind those before it.
+// Reads a pipeline. `before` are the earlier pipelines of the tenant, and `item` is the place of the list's item.
 fn read_pipeline(
     alloc: Global,
     table: &mut PatternTable,
@@ -168,7 +169,7 @@ fn read_pipeline(
     })
 }
 
-// `Repeated` at a name that an earlier pipeline has.
+// Checks that no earlier pipeline has the name. The error is `Repeated` at the name.
 fn check_new(
     alloc: Global,
     before: &[Found<'_>],
@@ -191,7 +192,7 @@ fn is_named(before: &[Found<'_>], name: &str) -> bool
         .any(|entry| text_at(entry.value, "name") == name)
 }
 
-// `Limit` at the item of a pipeline that is one too many.
+// Checks that the tenant may have one more pipeline. The error is `Limit` at the item.
 fn check_room(alloc: Global, before: &[Found<'_>], item: &Place<'_>) -> Result<(), ConfigFault>
     ensures { Tests (Asks (nat_lt (length (map found_view before.now)) most_pipelines) (Limit (steps_of item.now)) ∷ []) result }
 {
@@ -201,7 +202,7 @@ fn check_room(alloc: Global, before: &[Found<'_>], item: &Place<'_>) -> Result<(
     Ok(())
 }
 
-// The manager of a pipeline.
+// Reads the manager of a pipeline. The error is `Shape` or `Manager` at `manager`.
 fn read_manager(
     alloc: Global,
     here: &Place<'_>,

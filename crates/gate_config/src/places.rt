@@ -1,3 +1,4 @@
+//! `Place`, the place of a value in a document while the document is read.
 ghost use Rattle.std.specs.Prelude.{◌≡◌, ◌++◌, IfOk, OnOk};
 ghost use Rattle.gate_config.specs.Inner.Steps.{steps_of};
 ghost use Rattle.gate_config.specs.Places.{below, nth};
@@ -6,7 +7,8 @@ use crate::path::{Path, Step};
 use gate_record::{Memory, Sequence, Text};
 use std::alloc::Global;
 
-// Where in a document something stands, while it is read: one step behind a place, so that no place takes memory.
+// The place of a value in a document while it is read. Each place borrows the one above it, so that places take no memory. Only a
+// fault makes a `Path` of its place.
 #[derive(Clone, Copy)]
 pub(crate) enum Place<'p> {
     Document,
@@ -27,7 +29,7 @@ impl<'p> Place<'p> {
         Place::Item(self, position)
     }
 
-    // Its path, for a fault.
+    // Returns the path to this place, for a fault.
     pub(crate) fn path(&self, alloc: Global) -> Result<Path, Memory>
         ensures { IfOk result (λ path. path ≡ steps_of self.now) }
     {

@@ -1,3 +1,4 @@
+//! `ProjectSet`, the projects that a tenant lists under one connection.
 ghost use Rattle.std.specs.Prelude.{◌≡◌, ℕ, List, true};
 
 use crate::name_filter::NameFilter;
@@ -5,8 +6,8 @@ use gate_record::Memory;
 use std::alloc::Global;
 use std::collections::BTreeSet;
 
-// The projects that a tenant lists under a connection, by name. Most names that are looked for aren't there, and the filter mostly says
-// so before the names are searched.
+// The projects that a tenant lists under a connection, by name. Most names that are looked up aren't there, and for most of these
+// the filter says so before the names are searched.
 #[derive(Drop)]
 pub(crate) struct ProjectSet {
     pub(crate) names: BTreeSet<String>,
@@ -21,7 +22,7 @@ impl ProjectSet {
     ghost use Rattle.gate_config.specs.Lookups.{has_project};
     ghost use Rattle.gate_config.specs.Names.{is_among};
 
-    // The projects of these names, some of which may stand there more than once. They are sorted once.
+    // Returns the set of these names, in which a name may stand more than once. The names are sorted once.
     pub(crate) fn new(alloc: Global, names: Vec<String>) -> Result<ProjectSet, Memory>
         ensures { IfOk result (λ projects. (name : List ℕ) → has_project projects name ≡ is_among (map string_bytes names.items) name) }
     {
@@ -32,7 +33,7 @@ impl ProjectSet {
         })
     }
 
-    // Whether a project is there, by its name, byte by byte.
+    // Returns whether a project is listed. Names are compared byte by byte.
     pub(crate) fn contains(&self, name: &str) -> bool
         ensures { result ≡ has_project self.now name.now }
     {
@@ -44,7 +45,7 @@ ghost use Rattle.std.specs.Prelude.{map, string_bytes};
 ghost use Rattle.gate_config.specs.Names.{is_among};
 ghost use Rattle.gate_config.specs.Inner.Filters.{passes};
 
-// The filter that these names pass.
+// Returns a filter that all these names pass.
 fn filter_of(names: &[String]) -> NameFilter
     ensures { (name : List ℕ) → is_among (map string_bytes names.now) name ≡ true → passes result name ≡ true }
 {

@@ -1,3 +1,4 @@
+//! Reads the lists `config-projects` and `untrusted-projects` of a tenant.
 ghost use Rattle.std.specs.Prelude.{◌≡◌, ◌++◌, OnOk, map, option_map, option_to_list, string_bytes};
 ghost use Rattle.std.specs.List.{filter_map, flat_map, list_any};
 ghost use Rattle.serde_json.specs.View.{view};
@@ -11,7 +12,7 @@ use gate_record::Memory;
 use serde_json::Value;
 use std::alloc::Global;
 
-// The list `projects` of an entry of a project list.
+// Returns the list `projects` of an entry of a project list, if the entry is such a group.
 fn group(entry: &Value) -> Option<&[Value]>
     ensures { option_map (λ items. map view items.now) result ≡ option_map items_in (group (view entry.now)) }
 {
@@ -21,7 +22,7 @@ fn group(entry: &Value) -> Option<&[Value]>
     }
 }
 
-// Whether an entry of a project list names projects.
+// Returns whether an entry of a project list is right: whether it names a project or is a group that names projects only.
 #[tactic(auto, using(crate::proofs::Listed::nameless_seen))]
 pub(crate) fn is_entry(entry: &Value) -> bool
     ensures { result ≡ is_entry (view entry.now) }

@@ -1,3 +1,4 @@
+//! `read_config`, which reads a configuration from a document.
 ghost use Rattle.std.specs.Prelude.{◌≡◌, ◌∷◌, [], Some, IfOk, IfErr, OnOk, length, map, nat_le, codes};
 ghost use Rattle.serde_json.specs.Data.{Data};
 ghost use Rattle.serde_json.specs.Find.{get};
@@ -28,13 +29,13 @@ use serde_json::Value;
 use serde_json::error::Category;
 use std::alloc::Global;
 
-/// Reads a configuration from the bytes of a document: a JSON object with `tenants`, a list, and `config`, an object
-/// from the name of a tenant to the list of its items (Zuul's documentation, "Tenant Configuration" and "Pipeline
+/// Reads a configuration from the bytes of a document. The document is a JSON object with `tenants`, a list, and `config`, an
+/// object from the names of tenants to the lists of their items (Zuul's documentation, "Tenant Configuration" and "Pipeline
 /// Definition", in this project's profile).
 ///
-/// A fault is the first in reading order: the document; then each tenant with its connections in byte order; then for each
-/// tenant its list in `config`: that every item is an object, the pipelines with their rules, the projects with their
-/// jobs. `Memory` comes where memory was refused, at whichever point.
+/// The error is the first fault in reading order. The document comes first, then each tenant with its connections in byte order.
+/// After these comes, for each tenant, its list in `config`: that every item is an object, the pipelines with their rules, and
+/// the projects with their jobs. `Memory` means that memory was refused, at any point of the reading.
 pub fn read_config(alloc: Global, bytes: &[u8]) -> Result<Config, ConfigFault>
     ensures read { IfOk result (λ config. (d : Data) × (json_of bytes.now ≡ Some d) × IsReadFrom d config) }
     ensures passed { OnOk result (AllPass (checks_of bytes.now)) }
@@ -44,7 +45,7 @@ pub fn read_config(alloc: Global, bytes: &[u8]) -> Result<Config, ConfigFault>
     read_sharing(alloc, &mut table, bytes)
 }
 
-// The same with patterns that other documents share.
+// Does as `read_config`, with a table of patterns that several documents share.
 pub(crate) fn read_sharing(
     alloc: Global,
     table: &mut PatternTable,
@@ -80,7 +81,7 @@ fn read_document(
     read_entries(alloc, table, config, entries.as_slice())
 }
 
-// The list of tenants. `Shape` at its place where it is missing or no list.
+// Returns the list of tenants. The error is `Shape` at `tenants` if it is missing or no list.
 fn tenants_list<'v>(
     alloc: Global,
     place: &Place<'_>,
@@ -95,7 +96,7 @@ fn tenants_list<'v>(
     }
 }
 
-// The object of the tenants' lists. `Shape` at its place where it is missing or no object.
+// Returns the object of the tenants' lists. The error is `Shape` at `config` if it is missing or no object.
 fn config_object<'v>(
     alloc: Global,
     place: &Place<'_>,
@@ -110,7 +111,7 @@ fn config_object<'v>(
     }
 }
 
-// All tenants, and then their lists in `config`.
+// Checks all tenants, and then reads their lists in `config`.
 fn read_entries(
     alloc: Global,
     table: &mut PatternTable,
@@ -131,7 +132,7 @@ fn read_entries(
     })
 }
 
-// `Limit` where there are too many tenants.
+// Checks that there are at most `MAX_TENANTS` tenants. The error is `Limit` at `tenants`.
 fn check_count(alloc: Global, entries: &[Found<'_>]) -> Result<(), ConfigFault>
     ensures { Tests (Asks (nat_le (length (map found_view entries.now)) most_tenants) (Limit (below whole (codes "tenants"))) ∷ []) result }
 {

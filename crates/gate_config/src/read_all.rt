@@ -1,3 +1,4 @@
+//! `read_generations`, which reads the generations of a configuration from several documents.
 ghost use Rattle.std.specs.Prelude.{◌≡◌, ◌∷◌, ◌+◌, ◌<◌, Some, IfErr, IfOk, OnOk, length, map};
 ghost use Rattle.std.specs.List.{All, AllZip};
 ghost use Rattle.gate_config.specs.Generations.{AreReadFrom, IsFaultAmong, IsReadFromBytes, PassesBeside, bytes_of, common_of, count_of};
@@ -18,13 +19,14 @@ use gate_record::Sequence;
 use std::alloc::Global;
 
 /// Reads the generations of a configuration from the bytes of their documents, each as `read_config` reads it. A later document
-/// has to have the connections, tenants, listed connections, pipelines, managers and jobs of the first one (this project's
-/// profile); the jobs of a project count in order, and no stanza is the same as one without jobs. The projects that are listed
-/// and the rules may differ. A pattern that several documents have is built once.
+/// must have the connections, tenants, listed connections, pipelines, managers and jobs of the first one (this project's
+/// profile). Of a project's jobs the order counts too, and a project without a stanza is the same as one whose stanza names no
+/// jobs. The projects that are listed and the rules may differ. A pattern that several documents have is built once.
 ///
-/// `Count` comes where there is no document or there are more than `MAX_GENERATIONS`, then `Document` for the first that has a
-/// fault: one of its own checks, and behind these `Shape` at the empty place for a later document that isn't alike. `Memory`
-/// comes where memory was refused, at whichever point, and never stands inside `Document`.
+/// The error is `Count` if there is no document or there are more than `MAX_GENERATIONS`. Else it is `Document` for the first
+/// document that has a fault: the first fault of its own, or, if it has none but differs from the first document in what must be
+/// the same, `Shape` with the empty path. `Memory` means that memory was refused, at any point of the reading, and never stands
+/// inside `Document`.
 pub fn read_generations(
     alloc: Global,
     documents: &[Vec<u8>],
@@ -43,7 +45,7 @@ pub fn read_generations(
     }
 }
 
-// The first document, and then the later ones, with the patterns of all of them.
+// Reads the first document, and then the later ones, with one table of patterns for all of them.
 fn read_in_order(
     alloc: Global,
     first: &[u8],
@@ -62,7 +64,7 @@ fn read_in_order(
     }
 }
 
-// The first configuration with those of the later documents.
+// Reads the later documents, and puts their configurations after the first one.
 fn read_behind(
     alloc: Global,
     table: &mut PatternTable,
@@ -79,7 +81,7 @@ fn read_behind(
     Ok(Generations { first, later })
 }
 
-// The later documents, numbered from 1.
+// Reads the later documents, numbered from 1.
 fn read_later(
     alloc: Global,
     table: &mut PatternTable,
@@ -101,7 +103,7 @@ fn read_later(
     Ok(Sequence::new(later))
 }
 
-// A later document: its own checks, and last that it is alike.
+// Reads a later document. Whether it has what all generations must have in common is checked after its own faults.
 fn read_alike(
     alloc: Global,
     table: &mut PatternTable,
@@ -119,7 +121,7 @@ fn read_alike(
     Err(ConfigFault::Shape(Path::new(Sequence::empty(alloc))))
 }
 
-// The fault of the document of this number. Want of memory is of none.
+// Returns the fault of the document of this number. A refusal of memory is no document's.
 fn of_document(number: u32, fault: ConfigFault) -> GenerationFault
     ensures { result ≡ fault_of number fault }
 {

@@ -1,3 +1,4 @@
+//! Reads the trigger of a pipeline: its rules for each connection, attribute by attribute.
 ghost use Rattle.std.specs.Prelude.{◌≡◌, ◌∷◌, [], Some, map, option_map, codes};
 ghost use Rattle.std.specs.List.{flat_map};
 ghost use Rattle.serde_json.specs.View.{view};
@@ -27,7 +28,7 @@ use gate_rule::Rule;
 use serde_json::Value;
 use std::alloc::Global;
 
-// The trigger of a pipeline: its rules by connection number.
+// Reads the trigger of a pipeline: its rules, by connection number.
 pub(crate) fn read_trigger(
     alloc: Global,
     table: &mut PatternTable,
@@ -61,7 +62,7 @@ fn read_connections(
     Ok(Sequence::new(rules))
 }
 
-// The rules for one connection.
+// Reads the rules for one connection.
 fn read_connection(
     alloc: Global,
     table: &mut PatternTable,
@@ -76,7 +77,7 @@ fn read_connection(
     read_value(alloc, table, &here, member_of(trigger, connection))
 }
 
-// A list of rules or one rule, if it is there.
+// Reads a list of rules or one rule, if it is there.
 fn read_value(
     alloc: Global,
     table: &mut PatternTable,
@@ -95,7 +96,7 @@ fn read_value(
     }
 }
 
-// The one rule that stands in place of a list.
+// Reads the one rule that stands in place of a list.
 fn read_lone(
     alloc: Global,
     table: &mut PatternTable,
@@ -111,7 +112,7 @@ fn read_lone(
     Ok(Sequence::new(rules))
 }
 
-// A list of rules. `Limit` at its place where there are too many.
+// Reads a list of rules. The error is `Limit` at the list if it has more than `MAX_RULES` rules.
 fn read_rules(
     alloc: Global,
     table: &mut PatternTable,
@@ -143,7 +144,7 @@ fn read_items(
     Ok(Sequence::new(rules))
 }
 
-// The rule at this position of a list.
+// Reads the rule at this position of a list.
 fn read_item(
     alloc: Global,
     table: &mut PatternTable,
@@ -157,7 +158,7 @@ fn read_item(
     read_rule(alloc, table, &here, item)
 }
 
-// A rule: an object of attributes, of which `event` is required.
+// Reads a rule: an object of attributes, of which `event` is required.
 fn read_rule(
     alloc: Global,
     table: &mut PatternTable,
@@ -173,7 +174,7 @@ fn read_rule(
     Ok(read)
 }
 
-// The attributes, in byte order.
+// Reads the attributes of a rule, in byte order of their keys.
 fn read_attributes(
     alloc: Global,
     table: &mut PatternTable,
@@ -192,7 +193,7 @@ fn read_attributes(
     Ok(read)
 }
 
-// The rule that lists no attribute.
+// Returns a rule that lists no attribute. Deletions are ignored unless the rule says otherwise.
 fn unlisted(alloc: Global) -> Rule
     ensures { texts_of_rule result ≡ unlisted }
 {
@@ -208,7 +209,7 @@ fn unlisted(alloc: Global) -> Rule
     }
 }
 
-// The attribute at this key. `Attribute` at a key that is none.
+// Reads the attribute at this key into the rule. The error is `Attribute` at a key that is no attribute of rules.
 fn read_attribute(
     alloc: Global,
     table: &mut PatternTable,
@@ -236,7 +237,7 @@ fn read_attribute(
     Ok(())
 }
 
-// True or false; true where it isn't there.
+// Reads an optional `true` or `false`, which is `true` if it is absent.
 fn read_flag(alloc: Global, place: &Place<'_>, value: Option<&Value>) -> Result<bool, ConfigFault>
     ensures { Reads (flag_checks (steps_of place.now) (option_map (λ v. view v.now) value.entry))
         (λ read. read ≡ flag (option_map (λ v. view v.now) value.entry)) result }
@@ -244,7 +245,7 @@ fn read_flag(alloc: Global, place: &Place<'_>, value: Option<&Value>) -> Result<
     Ok(optional_flag(alloc, place, value)?.unwrap_or(true))
 }
 
-// `Shape` at an `event` that is missing, null or an empty list.
+// Checks that a rule lists `event`. The error is `Shape` at an `event` that is missing, null or an empty list.
 fn check_listed(alloc: Global, here: &Place<'_>, rule: &Value) -> Result<(), ConfigFault>
     ensures { Tests (Asks (is_there is_asking (optional (codes "event") (view rule.now))) (Shape (below (steps_of here.now) (codes "event"))) ∷ []) result }
 {

@@ -1,3 +1,4 @@
+//! Reads the sources of a tenant: which projects it lists under which connection.
 ghost use Rattle.std.specs.Prelude.{◌≡◌, IfOk, map, option_map, option_and_then, codes, string_bytes};
 ghost use Rattle.serde_json.specs.Find.{get};
 ghost use Rattle.serde_json.specs.View.{view};
@@ -13,7 +14,7 @@ use gate_record::{Memory, Sequence, Text};
 use serde_json::Value;
 use std::alloc::Global;
 
-// What a tenant lists, by connection number.
+// Reads the projects that a tenant lists, by connection number.
 pub(crate) fn read_sources(
     alloc: Global,
     tenant: &Value,
@@ -28,7 +29,7 @@ pub(crate) fn read_sources(
     Ok(Sequence::new(sources))
 }
 
-// The projects that a tenant lists under a connection, if it lists the connection.
+// Reads the projects that a tenant lists under a connection, if it lists the connection.
 fn projects_at(
     alloc: Global,
     tenant: &Value,

@@ -1,3 +1,4 @@
+//! Reads the project items of a tenant's list in `config`: which jobs each pipeline runs for a project.
 ghost use Rattle.std.specs.Prelude.{◌≡◌, ◌∷◌, [], ℕ, List, IfOk, OnOk, map, option_map, is_some};
 ghost use Rattle.std.specs.List.{flat_map};
 ghost use Rattle.serde_json.specs.View.{view};
@@ -21,7 +22,7 @@ use gate_record::{Memory, Sequence};
 use serde_json::Value;
 use std::alloc::Global;
 
-// The jobs of projects in each pipeline, of the project items in a tenant's list in `config`.
+// Reads the jobs of projects in each pipeline from the project items of a tenant's list in `config`.
 pub(crate) fn read_stanzas(
     alloc: Global,
     pipelines: &[PipelineSpec],
@@ -36,7 +37,7 @@ pub(crate) fn read_stanzas(
     Ok(read_jobs(alloc, pipelines, entries.as_slice())?)
 }
 
-// Each project item, for these pipelines.
+// Checks each project item, for these pipelines.
 fn check_stanzas(
     alloc: Global,
     pipelines: &[PipelineSpec],
@@ -51,7 +52,7 @@ fn check_stanzas(
     Ok(())
 }
 
-// A project item: an object. What it has for the pipelines is looked into where it is of a project.
+// Checks a project item, which must be an object. The parts that it has for pipelines are checked only if it names a project.
 fn check_entry(
     alloc: Global,
     pipelines: &[PipelineSpec],
@@ -83,7 +84,7 @@ fn check_each_part(
     Ok(())
 }
 
-// What a stanza has for a pipeline: an object with a list of jobs, both optional.
+// Checks the part of a stanza for a pipeline: an object with a list of jobs, both optional.
 fn check_part(
     alloc: Global,
     pipeline: &str,
@@ -99,7 +100,7 @@ fn check_part(
     check_jobs(alloc, &list, member_of(part, "jobs"))
 }
 
-// A list of jobs, if it is there.
+// Checks an optional list of jobs.
 fn check_jobs(alloc: Global, place: &Place<'_>, jobs: Option<&Value>) -> Result<(), ConfigFault>
     ensures { Tests (jobs_checks (steps_of place.now) (option_map (λ v. view v.now) jobs.entry)) result }
 {
@@ -107,7 +108,7 @@ fn check_jobs(alloc: Global, place: &Place<'_>, jobs: Option<&Value>) -> Result<
     check_each(alloc, Wanted::Job, place, jobs)
 }
 
-// The project that a stanza is of; one without such a name is ignored.
+// Returns the project that a stanza is about. A stanza that names none is ignored.
 fn project_of(stanza: &Value) -> Option<&str>
     ensures { option_map (λ name. name.now) result ≡ project_of (view stanza.now) }
 {
@@ -117,7 +118,7 @@ fn project_of(stanza: &Value) -> Option<&str>
     }
 }
 
-// The name, unless it is a regular expression.
+// Returns the name, unless it begins with `^`: that is a regular expression, which names no project.
 fn plain_name(name: &str) -> Option<&str>
     ensures { option_map (λ name. name.now) result ≡ plain_name name.now }
 {
@@ -127,7 +128,7 @@ fn plain_name(name: &str) -> Option<&str>
     }
 }
 
-// The jobs of each pipeline, once the project items were checked.
+// Reads the jobs of each pipeline, after the project items were checked.
 fn read_jobs(
     alloc: Global,
     pipelines: &[PipelineSpec],

@@ -1,3 +1,4 @@
+//! Checks the tenants of a document, and collects the names of the connections that they list.
 ghost use Rattle.std.specs.Prelude.{◌≡◌, ◌∷◌, [], IfOk, not, map, option_map, codes};
 ghost use Rattle.std.specs.List.{list_any};
 ghost use Rattle.std.specs.Str.{bytes_eq};
@@ -26,7 +27,7 @@ use crate::wanted::{Wanted, check_each};
 use serde_json::Value;
 use std::alloc::Global;
 
-// Each tenant, in order. Gives the names of the connections that they list.
+// Checks each tenant, in order, and returns the names of the connections that they list.
 pub(crate) fn check_tenants(alloc: Global, entries: &[Found<'_>]) -> Result<NameSet, ConfigFault>
     ensures { Reads (along tenant_checks (map found_view entries.now)) (λ names. names ≡ names_in (map found_view entries.now)) result }
 {
@@ -37,7 +38,7 @@ pub(crate) fn check_tenants(alloc: Global, entries: &[Found<'_>]) -> Result<Name
     Ok(names)
 }
 
-// An entry behind those before it, which list the connections of these names.
+// Checks one entry. `before` are the earlier entries, and `names` the connections that these list.
 fn check_entry(
     alloc: Global,
     before: &[Found<'_>],
@@ -56,7 +57,7 @@ fn check_entry(
     check_tenant(alloc, before, &place, tenant_of(entry.value), names)
 }
 
-// `Shape` at an entry that is no object, or whose `tenant` is none.
+// Checks that an entry is an object, and that its `tenant` is an object or absent. The error is `Shape` at the entry.
 fn check_wrapper(alloc: Global, here: &Place<'_>, entry: &Value) -> Result<(), ConfigFault>
     ensures { Tests (Asks (is_object (view entry.now)) (Shape (steps_of here.now)) ∷ Asks (is_fine is_object (optional (codes "tenant") (view entry.now))) (Shape (steps_of here.now)) ∷ []) result }
 {
@@ -64,7 +65,7 @@ fn check_wrapper(alloc: Global, here: &Place<'_>, entry: &Value) -> Result<(), C
     check_optional_object(alloc, here, member(entry, "tenant"))
 }
 
-// The place of the tenant of an entry.
+// Returns the place of an entry's tenant.
 fn tenant_place<'p>(here: &'p Place<'p>, entry: &Value) -> Place<'p>
     ensures { steps_of result ≡ tenant_place (steps_of here.now) (view entry.now) }
 {
@@ -74,7 +75,7 @@ fn tenant_place<'p>(here: &'p Place<'p>, entry: &Value) -> Place<'p>
     }
 }
 
-// A tenant: it has a name of its own, and perhaps sources.
+// Checks a tenant: its name, which no earlier tenant may have, and its optional sources.
 fn check_tenant(
     alloc: Global,
     before: &[Found<'_>],
@@ -91,7 +92,7 @@ fn check_tenant(
     check_sources(alloc, here, tenant, names)
 }
 
-// `Repeated` at a name that an earlier tenant has.
+// Checks that no earlier tenant has the name. The error is `Repeated` at the name.
 fn check_new(
     alloc: Global,
     before: &[Found<'_>],
@@ -112,14 +113,14 @@ fn is_taken(before: &[Found<'_>], name: &str) -> bool
     before.iter().any(|entry| tenant_name(entry.value) == name)
 }
 
-// The name of a tenant that was checked.
+// Returns the name of a tenant that was checked before.
 pub(crate) fn tenant_name(entry: &Value) -> &str
     ensures { result.now ≡ tenant_name (view entry.now) }
 {
     text_at(tenant_of(entry), "name")
 }
 
-// The connections of a tenant, in byte order.
+// Checks the connections that a tenant lists, in byte order.
 fn check_sources(
     alloc: Global,
     here: &Place<'_>,
@@ -151,7 +152,8 @@ fn check_each_source(
     Ok(())
 }
 
-// A connection among the sources. `Limit` at its key where it is one too many.
+// Checks one connection that a tenant lists. The error is `Limit` at its key if all tenants so far list more than
+// `MAX_CONNECTIONS` connections.
 fn check_source(
     alloc: Global,
     place: &Place<'_>,
@@ -170,7 +172,7 @@ fn check_source(
     check_listing(alloc, &here, member_of(sources, key))
 }
 
-// What a tenant lists at a connection: an object or null, with project lists.
+// Checks what a tenant lists under a connection: an object or null, with optional project lists.
 fn check_listing(alloc: Global, here: &Place<'_>, source: Option<&Value>) -> Result<(), ConfigFault>
     ensures { Tests (listing_checks (steps_of here.now) (option_map (λ v. view v.now) source.entry)) result }
 {
@@ -179,7 +181,7 @@ fn check_listing(alloc: Global, here: &Place<'_>, source: Option<&Value>) -> Res
     check_projects(alloc, here, source, "untrusted-projects")
 }
 
-// A list of projects.
+// Checks an optional project list.
 fn check_projects(
     alloc: Global,
     place: &Place<'_>,

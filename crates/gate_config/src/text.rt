@@ -1,3 +1,4 @@
+//! `check_text`, what `gate check` prints of a configuration.
 ghost use Rattle.std.specs.Prelude.{◌≡◌, ◌++◌, string_bytes, IfOk, OnOk};
 ghost use Rattle.std.specs.List.{enumerate_from, flat_map};
 ghost use Rattle.gate_config.specs.CheckText.{check_text, connection_line, manager_word, pipeline_line, pipeline_start, rules_count, tenant_line, tenant_lines};
@@ -7,8 +8,8 @@ use crate::config::{Config, PipelineSpec, TenantSpec};
 use gate_record::{ConnId, ManagerKind, Memory, PipelineId, TenantId, name_text};
 use std::alloc::Global;
 
-/// What a configuration says, as text: a line for each connection, by number, then for each tenant a line and one more
-/// for each of its pipelines, with its manager and the number of its rules. `Memory` where the text finds no room.
+/// Returns what a configuration says, as text: a line for each connection, by number, then for each tenant one line for itself
+/// and one for each of its pipelines, with the pipeline's manager and the number of its rules.
 pub fn check_text(alloc: Global, config: &Config) -> Result<String, Memory>
     ensures { IfOk result (λ text. string_bytes text ≡ check_text config.now) }
 {
@@ -53,7 +54,7 @@ fn push_tenants(out: &mut String, alloc: Global, config: &Config) -> Result<(), 
     Ok(())
 }
 
-// A tenant, and behind it its pipelines.
+// Adds the line of a tenant, and then those of its pipelines.
 fn push_tenant(
     out: &mut String,
     alloc: Global,
@@ -134,7 +135,7 @@ fn manager_word(manager: ManagerKind) -> &'static str
     }
 }
 
-// A u128 holds the sum whatever the lists are: there are fewer than 2^32 of them, each shorter than 2^64.
+// A `u128` holds the sum whatever the lists are: there are fewer than 2^32 of them, each shorter than 2^64.
 fn rules_count(config: &Config, tenant: TenantId, pipeline: PipelineId) -> u128
     ensures { result ≡ rules_count config.now tenant.0 pipeline.0 }
 {

@@ -1,3 +1,4 @@
+//! Checks that each item of a list is of the wanted kind.
 ghost use Rattle.std.specs.Prelude.{◌≡◌, map};
 ghost use Rattle.serde_json.specs.View.{view};
 ghost use Rattle.gate_config.specs.Checks.{each};
@@ -12,18 +13,18 @@ use crate::projects::is_entry;
 use serde_json::Value;
 use std::alloc::Global;
 
-// What each item of a list is to be.
+// What each item of a list must be.
 #[derive(Clone, Copy)]
 pub(crate) enum Wanted {
-    // In a tenant's list in `config`: an object.
+    // An item of a tenant's list in `config` must be an object.
     Object,
-    // In a list of jobs: it has a name.
+    // An item of a list of jobs must give a name.
     Job,
-    // In a list of projects: it names projects.
+    // An item of a project list must name projects.
     Project,
 }
 
-// `Shape` at the first item that isn't what is wanted.
+// Checks each item of a list. The error is `Shape` at the first item that isn't of the wanted kind.
 pub(crate) fn check_each(
     alloc: Global,
     wanted: Wanted,

@@ -1,3 +1,5 @@
+//! Tests what documents say as configurations. It has documents with a hole, and plays scripts that fill the hole and ask questions.
+
 pub(crate) mod asked;
 mod generations;
 mod jobs;

@@ -1,4 +1,4 @@
--- What a step that may be refused memory does.
+-- What a step does to which memory may be refused.
 use Rattle.std.specs.Prelude.{◌≡◌, Result, Ok, Err}
 use Rattle.gate_record.specs.declared.memory.Memory.{Memory}
 use Rattle.gate_core.specs.declared.answer.Answer.{Answer}
@@ -11,8 +11,8 @@ Changes Moved = Unit {0}
 Changes (Turned stamp action outcome) = Unit {0}
 Changes other = ⊥
 
--- It leaves and answers what is given; or it would change something, memory was refused, and what is left is as it was, save
--- that a turn may hold what it took.
+-- Either the step leaves and answers what is given. Or memory was refused: then the step would have changed something, and the state that
+-- it leaves is the first argument, which is the old one save that a turn may hold what it took.
 abbrev pub Does : {S : Type 0} → S → S × Answer → S → Result Answer Memory → Type 0
 Does left given new (Ok answer) = (new, answer) ≡ given
 Does left given new (Err memory) = (new ≡ left) × Changes given.1

@@ -14,11 +14,11 @@ use Rattle.gate_core.specs.Reports.{report_after, report_of}
 use Rattle.gate_core.specs.States.{State, pipeline_at}
 use Rattle.gate_core.specs.Steps.{first, refused_step, step_of}
 
--- a step with its answer, or the refusal of memory, and the state that it left
+-- a step, its answer or the refusal of memory, and the state that it left
 abbrev pub Attempt : Type 0
 Attempt = Step × Result Answer Memory × State
 
--- it left and answered what the step says, or what is left where memory is refused
+-- the step left and answered what its definition says, or memory was refused and it left the state that a refusal leaves
 abbrev pub Attempts : Generations → State → Step → Result Answer Memory → State → Type 0
 Attempts gens state s (Ok answer) next = (next, answer) ≡ step_of gens state s
 Attempts gens state s (Err memory) next = next ≡ refused_step state s
@@ -28,7 +28,7 @@ abbrev pub IsChain : Generations → State → List Attempt → Type 0
 IsChain gens state [] = Unit {0}
 IsChain gens state ((s, result, next) ∷ attempts) = Attempts gens state s result next × IsChain gens next attempts
 
--- the history of those that were answered; what was refused memory adds nothing to it
+-- the history of the steps that were answered: one that was refused memory adds nothing to it
 abbrev pub answered_by : Step → Result Answer Memory → Option (Step × Answer)
 answered_by s (Ok answer) = Some (s, answer)
 answered_by s (Err memory) = None
@@ -39,18 +39,18 @@ answered attempt = answered_by attempt.0 attempt.1
 abbrev pub answered_history : List Attempt → History
 answered_history attempts = filter_map answered attempts
 
--- the state that they leave
+-- the state that the attempts leave
 abbrev pub left_behind : State → List Attempt → State
 left_behind state [] = state
 left_behind state ((s, result, next) ∷ attempts) = left_behind next attempts
 
--- This was processed first; or nothing was, and it is still held.
+-- This was processed first, or nothing was processed and this is still held.
 abbrev pub IsNext : Held → Processed → List Processed → Option Pipeline → Type 0
 IsNext waits one [] pipe = option_and_then (λ (left : Pipeline). left.worker.held) pipe ≡ Some waits
 IsNext waits one (first ∷ more) pipe = first ≡ one
 
--- For all generations of a configuration and every chain of attempts from the first state on, all that is promised of a run holds of those
--- that were answered; and what a pipeline holds is the next that it processes, whatever else is done or refused.
+-- For all generations of a configuration and every chain of attempts from the first state on, all that is promised of a run holds of the
+-- steps that were answered. What a pipeline holds is what it processes next, whatever else is done or refused.
 pub record EveryChainDelivers : Type 0 where
   pub delivers : (gens : Generations) (attempts : List Attempt) → IsChain gens (first gens) attempts → Delivers gens (answered_history attempts)
   pub rightly : (gens : Generations) (attempts : List Attempt) → IsChain gens (first gens) attempts → AnswersRightly gens [] (answered_history attempts)

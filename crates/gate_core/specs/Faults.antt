@@ -4,7 +4,7 @@ use Rattle.gate_core.specs.declared.script.ScriptFault.{ScriptFault}
 use Rattle.gate_core.specs.declared.script.ScriptFault.TheVariants.{Memory, Script}
 use Rattle.gate_core.specs.declared.script.Scripted.{Scripted}
 
--- Memory may be refused at whichever point; each other fault is the script's own.
+-- Memory may be refused at any point. Every other fault is the script's own.
 abbrev pub FailsScript : Result (List Scripted) ℕ → ScriptFault → Type 0
 FailsScript said Memory = Unit {0}
 FailsScript said (Script line) = said ≡ Err line

@@ -1,4 +1,4 @@
--- What a history of steps and answers says: which records were accepted, what was posted to the pipelines, and what they have
+-- What a history of steps and answers says: which records were accepted, what was posted to the pipelines, and what the pipelines have
 -- processed.
 use Rattle.std.specs.Prelude.{◌≡◌, ℕ, suc, ◌+◌, ◌-◌, ◌==◌, ◌&&◌, ◌||◌, List, [], ◌∷◌, ◌++◌, Bool, true, false, length, map, Option, Some, None, option_map, count_by, if◌then◌else◌}
 use Rattle.std.specs.List.{cons_option, filter_map, list_any}
@@ -35,7 +35,7 @@ abbrev pub is_moved : Answer → Bool
 is_moved Moved = true
 is_moved other = false
 
--- what was processed: an action, the stamp of a trigger event's, and the outcome
+-- what a turn processed: an action, the stamp of a trigger event, and the outcome
 abbrev pub processed_of : Answer → Option Processed
 processed_of (Turned stamp action outcome) = Some (stamp, action, outcome)
 processed_of other = None
@@ -61,7 +61,7 @@ abbrev pub is_take : ℕ → Step → Bool
 is_take c (Take d) = d.0 == c
 is_take c other = false
 
--- the tenant and the pipeline of which the step is a turn
+-- the tenant and the pipeline whose turn the step is
 abbrev pub turn_of : Step → Option (TenantId × PipelineId)
 turn_of (Turn t p) = Some (t, p)
 turn_of other = None
@@ -104,17 +104,17 @@ renewals_from c n (event ∷ history) =
 abbrev pub renewals : ℕ → History → List ℕ
 renewals c history = renewals_from c 0 history
 
--- the records that connection c accepted, each beside how many renewals came before it, where there were g before all of these
+-- the records that connection c accepted, each with the number of renewals before it, where g renewals came before this history
 abbrev pub accepted_behind : ℕ → ℕ → History → List (ℕ × Record)
 accepted_behind c g [] = []
 accepted_behind c g (event ∷ history) =
     cons_option (option_map (λ line. (g, line)) (accepted_in c event)) (accepted_behind c (if renewed_in c event then suc g else g) history)
 
--- the same by the places of the renewals: each record beside the generation in force at its number
+-- the same, computed from the places of the renewals: each record with the generation in force at its number
 abbrev pub accepted_in_force : ℕ → History → List (ℕ × Record)
 accepted_in_force c history = beside (renewals c history) (accepted_records c history)
 
--- both are one
+-- the two ways agree: the generation of each record follows from the places of the renewals
 abbrev pub EachHasItsGeneration : Type 0
 EachHasItsGeneration = (c : ℕ) (history : History) → accepted_behind c 0 history ≡ accepted_in_force c history
 
@@ -127,18 +127,18 @@ processed_in t p event = if is_turn t p event.0 then processed_of event.1 else N
 abbrev pub processed_by : ℕ → ℕ → History → List Processed
 processed_by t p history = filter_map (processed_in t p) history
 
--- the actions that it has processed, and the same with their outcomes
+-- the actions that pipeline p of tenant t has processed, and below the same with their outcomes
 abbrev pub actions : ℕ → ℕ → History → List Action
 actions t p history = map action_of (processed_by t p history)
 
 abbrev pub outcomes : ℕ → ℕ → History → List (Action × Outcome)
 outcomes t p history = map outcome_of (processed_by t p history)
 
--- the stamps of the trigger events that it has processed
+-- the stamps of the trigger events that pipeline p of tenant t has processed
 abbrev pub done : ℕ → ℕ → History → List Stamp
 done t p history = filter_map stamp_of (processed_by t p history)
 
--- the triggers among the actions that it has processed, each with its stamp
+-- the triggers among the processed actions, each with its stamp
 abbrev pub processed_triggers : ℕ → ℕ → History → List (Option Stamp × Action)
 processed_triggers t p history = filter_map triggering (processed_by t p history)
 
@@ -148,14 +148,14 @@ stamp_with trigger = trigger.0
 abbrev pub asked_by : Config → ℕ → ℕ → History → Option Stamp → Option Action
 asked_by config t p history stamp = asked_among config t p (λ c. accepted_records c history) stamp
 
--- the management events and the results among them
+-- the management events among the processed actions, and below the results
 abbrev pub processed_management : ℕ → ℕ → History → List Manage
 processed_management t p history = filter_map managing (actions t p history)
 
 abbrev pub processed_results : ℕ → ℕ → History → List JobResult
 processed_results t p history = filter_map resulting (actions t p history)
 
--- those that were posted to pipeline p of tenant t
+-- the management events and results that were posted to pipeline p of tenant t
 abbrev pub manage_posted_in : ℕ → ℕ → Step × Answer → Option Manage
 manage_posted_in t p event = if is_moved event.1 then posted_manage t p event.0 else None
 

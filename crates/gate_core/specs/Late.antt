@@ -1,4 +1,4 @@
--- Results that come late: of a build set that was cancelled.
+-- Late results: those of a build set that was cancelled before.
 use Rattle.std.specs.Prelude.{◌≡◌, List, [], ◌∷◌, ◌++◌, map}
 use Rattle.gate_record.specs.declared.ids.ManagerKind.{ManagerKind}
 use Rattle.gate_items.specs.declared.action.Action.{Action}
@@ -9,12 +9,12 @@ use Rattle.gate_items.specs.declared.action.Outcome.{Outcome}
 use Rattle.gate_items.specs.declared.action.Outcome.TheVariants.{Discarded}
 use Rattle.gate_items.specs.History.{IsCancelled, after, start}
 
--- actions that were processed, each with its outcome, without the outcomes
+-- the actions of a history, without their outcomes
 abbrev pub actions_in : List (Action × Outcome) → List Action
 actions_in history = map (λ (event : Action × Outcome). event.0) history
 
--- Whatever came between the actions that cancelled a build set and a result of it: the result is discarded, and the items
--- and reports are behind it as they were before it.
+-- A result of a build set is discarded if the build set was cancelled before it, whatever came between. The items and reports after the
+-- result are those before it.
 abbrev pub LateIsDiscarded : ManagerKind → List (Action × Outcome) → Type 0
 LateIsDiscarded manager history = (before between behind : List (Action × Outcome)) (ended : JobResult) (outcome : Outcome) →
     history ≡ before ++ (between ++ (action.Result ended, outcome) ∷ behind) → IsCancelled manager 0 (actions_in before) ended.set →

@@ -12,12 +12,12 @@ use Rattle.gate_core.specs.declared.step.Step.TheVariants as step
 use Rattle.gate_core.specs.Pipelines.{Found, Nothing, Emptiness, Something, found}
 use Rattle.gate_core.specs.States.{ConnectionState, State, TenantState, pipeline_at}
 
--- it is there, and this is true of it
+-- there is a value, and P is true of it
 abbrev pub IsThere : {X : Type 0} → (X → Type 0) → Option X → Type 0
 IsThere P None = ⊥
 IsThere P (Some x) = P x
 
--- the first entry is a line, which is to be read; neither a mark nor a record that is too long needs memory
+-- The first entry is a line, which is to be read. Neither a mark nor a record that is too long needs memory
 abbrev pub NeedsOf : List ConnEntry → Type 0
 NeedsOf [] = ⊥
 NeedsOf (entry.Numbered n line ∷ queue) = IsLine line
@@ -27,11 +27,11 @@ NeedsOf (entry.End ∷ queue) = ⊥
 abbrev pub TakeNeeds : ConnectionState → Type 0
 TakeNeeds conn = NeedsOf conn.queue
 
--- there is an event to be matched, or the end marks of the pipelines are due
+-- there is an event to be matched, or the pipelines are to get their end marks
 abbrev pub MatchNeeds : Config → ℕ → TenantState → Type 0
 MatchNeeds config t tenant = needs_memory config t tenant.dispatch ≡ true
 
--- the worker may be refused memory for what is to be processed: a trigger event, or a reset of an independent pipeline
+-- the worker may be refused memory for what it is to process: a trigger event, or a reset of an independent pipeline
 abbrev pub NeedsFor : Found → Pipeline → Type 0
 NeedsFor Nothing pipe = ⊥
 NeedsFor Emptiness pipe = ⊥

@@ -1,4 +1,4 @@
--- What a world reports.
+-- The report of a history of steps, and that of a state.
 use Rattle.std.specs.Prelude.{ℕ, List, Bool, length, map, if◌then◌else◌}
 use Rattle.std.specs.List.{enumerate_from}
 use Rattle.gate_config.specs.declared.config.Config.{Config}
@@ -20,7 +20,7 @@ cause_of closing = if closing then Ended else Unclosed
 
 -- ---- the report of a history
 
--- how many records connection c accepted, for each renewal how many before it, and whether it was closed
+-- how many records connection c accepted, how many of them before each renewal, and whether it was closed
 abbrev pub connection_after : History → ℕ → ConnectionReport
 connection_after history c = record { accepted = length (accepted_records c history); renewals = renewals c history; cause = cause_of (closed c history) }
 
@@ -28,12 +28,12 @@ connection_after history c = record { accepted = length (accepted_records c hist
 abbrev pub pipeline_after : History → ℕ → ℕ → PipelineReport
 pipeline_after history t p = record { done = done t p history; finished = finished t p history }
 
--- one for each of the pipelines of tenant t
+-- the reports of the pipelines of tenant t
 abbrev pub pipelines_after : Config → History → ℕ → List PipelineReport
 pipelines_after config history t =
     map (λ (pipeline : ℕ × PipelineSpec). pipeline_after history t pipeline.0) (enumerate_from 0 (pipelines_of config t))
 
--- one for each connection, and for each tenant those of its pipelines
+-- a report for each connection, and for each tenant those of its pipelines
 abbrev pub report_after : Config → History → RunReport
 report_after config history = record {
   connections = map (λ (entry : ℕ × List ℕ). connection_after history entry.0) (enumerate_from 0 (connections_of config));

@@ -1,4 +1,4 @@
--- What a script's bytes say.
+-- What the bytes of a script stand for.
 use Rattle.std.specs.Prelude.{ℕ, ◌+◌, ◌^◌, List, [], ◌∷◌, ◌++◌, Bool, true, false, Option, Some, None, Result, Ok, Err, codes, if◌then◌else◌}
 use Rattle.std.specs.Str.{bytes_eq}
 use Rattle.std.specs.Str.Lines.{lines}
@@ -22,7 +22,7 @@ use Rattle.gate_core.specs.declared.step.Step.TheVariants.{Offer, Close, Renew, 
 
 -- ---- lines
 
--- a number that ends the line, and two numbers
+-- one number, and two numbers, that end the line
 abbrev pub one_of : Field → Rest → Result ℕ LineFault
 one_of expected rest = do
   number ← number_field (2 ^ 32) expected rest
@@ -35,7 +35,7 @@ two_of first second rest = do
   other ← one_of second one.1
   Ok (one.0, other)
 
--- the number of a connection, and the record that it is offered: at least one byte
+-- the number of a connection, and the record that it is offered, which has at least one byte
 abbrev pub offer_of : Rest → Result Step LineFault
 offer_of rest = do
   conn ← number_field (2 ^ 32) field.Connection rest
@@ -62,7 +62,7 @@ turn_of rest = do
   numbers ← two_of field.Tenant field.Pipeline rest
   Ok (Turn (record { 0 = numbers.0 }) (record { 0 = numbers.1 }))
 
--- what is posted to a pipeline
+-- the step that posts this to a pipeline
 abbrev pub posted : Post → Step
 posted (post.Manage tenant pipeline manage) = PostManage tenant pipeline manage
 posted (post.Result tenant pipeline ended) = PostResult tenant pipeline ended
@@ -77,7 +77,7 @@ posted_of (Some kind) rest = do
 abbrev pub bringing_named : List ℕ → Rest → Result Step LineFault
 bringing_named word rest = if bytes_eq word (codes "offer") then offer_of rest else posted_of (kind_of word) rest
 
--- the other steps of a connection, and behind them those that bring something
+-- the other steps of a connection, and after them those that bring something
 abbrev pub connection_named : List ℕ → Rest → Result Step LineFault
 connection_named word rest =
     if bytes_eq word (codes "send") then to_connection Send rest
@@ -87,7 +87,7 @@ connection_named word rest =
     else (if bytes_eq word (codes "oversize") then to_connection (λ c. Offer c Oversize) rest
     else bringing_named word rest))))
 
--- the step that a line's first word and the rest of the line stand for: those of a pipeline and of a tenant first
+-- the step that a line's first word and its other fields stand for: those of a pipeline and of a tenant come first
 abbrev pub step_named : List ℕ → Rest → Result Step LineFault
 step_named word rest =
     if bytes_eq word (codes "turn") then turn_of rest
@@ -106,11 +106,11 @@ stepped_of word rest = do
   step ← step_named word rest
   Ok (scripted.Step step)
 
--- what a line stands for, or its fault: the items of a pipeline are to be shown, or it is a step
+-- What a line stands for, or its fault: either the items of a pipeline are to be shown, or a step is to be taken
 abbrev pub scripted_of : List ℕ → Result Scripted LineFault
 scripted_of line = if bytes_eq (word_of line) (codes "show") then show_of (rest_of line) else stepped_of (word_of line) (rest_of line)
 
--- bytes are copied for a record, for a key of a ref, and for a result
+-- a step has bytes to copy where it brings a record, a key of a ref, or a result
 abbrev pub step_has_bytes : Step → Bool
 step_has_bytes (Offer conn (Line bytes)) = true
 step_has_bytes (PostManage tenant pipeline manage) = manage_has_texts manage
@@ -125,13 +125,13 @@ abbrev pub added : Result Scripted LineFault → Option (List Scripted)
 added (Ok one) = Some (one ∷ [])
 added (Err fault) = None
 
--- what a line adds: nothing where it is skipped, else what it stands for
+-- what a line adds: nothing where it is skipped, otherwise what it stands for
 abbrev pub line_adds : List ℕ → Option (List Scripted)
 line_adds line = if is_skipped line then Some [] else added (scripted_of line)
 
 -- ---- scripts
 
--- lines with more behind them
+-- lines, and more after them
 abbrev pub followed_by : List Scripted → Result (List Scripted) ℕ → Result (List Scripted) ℕ
 followed_by lines (Ok more) = Ok (lines ++ more)
 followed_by lines (Err line) = Err line
@@ -141,11 +141,11 @@ abbrev pub with_line : Option (List Scripted) → ℕ → Result (List Scripted)
 with_line None number rest = Err number
 with_line (Some lines) number rest = followed_by lines rest
 
--- what lines stand for that are numbered from here, or the number of the first that stands for nothing
+-- what the lines stand for, numbered from `number`, or the number of the first that stands for nothing
 abbrev pub lines_from : ℕ → List (List ℕ) → Result (List Scripted) ℕ
 lines_from number [] = Ok []
 lines_from number (line ∷ rest) = with_line (line_adds line) number (lines_from (number + 1) rest)
 
--- what a script stands for; its lines count from 1
+-- what a script stands for, where its lines are numbered from 1
 abbrev pub script_of : List ℕ → Result (List Scripted) ℕ
 script_of bytes = lines_from 1 (lines bytes)

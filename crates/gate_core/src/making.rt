@@ -1,3 +1,4 @@
+//! Makes the connections and tenants of a new world.
 ghost use Rattle.std.specs.Prelude.{◌≡◌, IfOk, length, map};
 ghost use Rattle.std.specs.List.{range_with_len};
 ghost use Rattle.gate_config.specs.Lookups.{connections_of, tenants_of};
@@ -11,7 +12,7 @@ use gate_config::Generations;
 use gate_record::{ConnId, Memory, TenantId};
 use std::alloc::Global;
 
-/// The connections of a configuration at work, by number, before any record came.
+/// The connections of a configuration, by number, before any record came.
 pub(crate) fn new_connections<'c>(
     alloc: Global,
     gens: &'c Generations,
@@ -26,7 +27,7 @@ pub(crate) fn new_connections<'c>(
     Ok(connections)
 }
 
-/// The tenants of a configuration at work, by number, before anything came.
+/// The tenants of a configuration, by number, with their pipelines, before anything came.
 pub(crate) fn new_tenants<'c>(
     alloc: Global,
     gens: &'c Generations,

@@ -1,3 +1,4 @@
+//! Plays a script on a world: takes the step of each line and prints its answer.
 ghost use Rattle.std.specs.Prelude.{◌≡◌, ◌+◌, ◌<◌, ◌^◌, IfErr, IfOk, Ok, string_bytes};
 ghost use Rattle.gate_core.specs.Faults.{FailsScript};
 ghost use Rattle.gate_core.specs.Script.{script_of};
@@ -16,9 +17,9 @@ use gate_line::{LineFault, first_line, is_skipped};
 use gate_record::{Memory, PipelineId, TenantId};
 use std::alloc::Global;
 
-/// Takes the steps of a script line by line, from the world in which nothing was offered yet, and gives the world that they leave.
-/// What each line prints goes to the end of a text. Each line is read when its turn comes, so the script takes no memory; where one
-/// stands for nothing, those before it were played.
+/// Takes the steps of a script line by line, from the world in which nothing was offered yet, and gives the world that the last one leaves.
+/// What each line prints is added to `out`. Each line is read when its turn comes, so the script takes no memory. Where a line stands for
+/// nothing, the lines before it were played.
 pub(crate) fn play_script<'c>(
     alloc: Global,
     gens: &'c Generations,
@@ -46,7 +47,7 @@ pub(crate) fn play_script<'c>(
 ghost use Rattle.gate_core.specs.Inner.Replays.{PlaysLine};
 ghost use Rattle.gate_core.specs.Script.{line_adds};
 
-// Plays the line that stands behind so many.
+// Plays one line, after `before` lines of the script.
 fn play_line(
     alloc: Global,
     world: &mut World<'_>,
@@ -74,7 +75,7 @@ ghost use Rattle.gate_core.specs.Replays.{script_lines, steps_in};
 ghost use Rattle.gate_core.specs.Steps.{left_by};
 ghost use Rattle.gate_core.specs.declared.step.Step.TheVariants.{Turn};
 
-// Takes the turn of a pipeline, whose answer goes to the end of a text.
+// Takes the turn of a pipeline, and adds its answer to a text.
 fn play_turn(
     world: &mut World<'_>,
     tenant: TenantId,
@@ -92,7 +93,7 @@ fn play_turn(
     play_step(world, Step::Turn(tenant, pipeline), out)
 }
 
-// Plays a line that stands behind so many.
+// Plays a line that isn't a turn, after `before` lines of the script.
 #[inline(never)]
 fn play_other(
     alloc: Global,
@@ -120,7 +121,7 @@ fn play_other(
     }
 }
 
-// Plays what a line stands for. So many lines stood before it.
+// Takes the step of a line, or shows the items that it asks for, after `before` lines of the script.
 fn play(
     alloc: Global,
     world: &mut World<'_>,
@@ -148,7 +149,7 @@ ghost use Rattle.gate_core.specs.Output.{answer_line};
 ghost use Rattle.gate_core.specs.Steps.{step_of};
 ghost use Rattle.gate_core.specs.Worlds.{HasNumber};
 
-// Takes a step, whose answer goes to the end of a text.
+// Takes a step, and adds its answer to a text.
 fn play_step(world: &mut World<'_>, step: Step, out: &mut String) -> Result<(), Memory>
     requires numbers { HasNumber (state_of world.old) step }
     ensures gens { gens_of world.new ≡ gens_of world.old }

@@ -1,3 +1,4 @@
+//! The report of a world: what its connections accepted and what its pipelines processed.
 ghost use Rattle.std.specs.Prelude.{◌≡◌, IfOk, map};
 ghost use Rattle.gate_core.specs.Reports.{cause_of, connection_report, pipeline_report, tenant_report};
 ghost use Rattle.gate_core.specs.Views.{connection_view, tenant_view};
@@ -9,7 +10,7 @@ use gate_record::{Memory, Sequence};
 use gate_report::{ConnectionReport, EndCause, PipelineReport};
 use std::alloc::Global;
 
-/// What each connection accepted, when it was renewed, and whether it was closed.
+/// For each connection, by number: how many records it accepted, when it was renewed, and whether it was closed.
 pub(crate) fn report_connections(
     alloc: Global,
     connections: &[Connection<'_>],
@@ -44,7 +45,7 @@ fn cause_of(closed: bool) -> EndCause
     }
 }
 
-/// For each tenant, what its pipelines have processed.
+/// For each tenant, by number: what each of its pipelines has processed.
 pub(crate) fn report_tenants(
     alloc: Global,
     tenants: &[Tenant<'_>],

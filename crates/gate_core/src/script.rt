@@ -1,3 +1,4 @@
+//! Reads a script: a step, or a request to show items, on each line.
 ghost use Rattle.gate_core.specs.Faults.{GivesScript};
 ghost use Rattle.gate_core.specs.Script.{script_of};
 
@@ -9,7 +10,7 @@ use std::alloc::Global;
 use std::error::Error;
 use std::fmt;
 
-/// Why a script wasn't read.
+/// Why a script couldn't be read or played.
 #[derive(Clone, Copy, Debug, PartialEq, Eq)]
 pub enum ScriptFault {
     /// Memory was refused.
@@ -29,17 +30,17 @@ impl fmt::Display for ScriptFault {
 
 impl Error for ScriptFault {}
 
-/// A line of a script.
+/// What a line of a script asks for.
 #[derive(Debug, Drop)]
 pub enum Scripted {
-    /// A step is taken, and its answer printed.
+    /// A step is to be taken, and its answer printed.
     Step(Step),
-    /// No step: the queue items of a pipeline, by the numbers of its tenant and its own, are printed, and what it reported.
+    /// The queue items and reports of a pipeline are to be printed. The numbers are those of its tenant and its own. No step is taken.
     Show(u32, u32),
 }
 
-/// Reads a script: a step or a show a line. An empty line, and one that begins with `#`, is skipped. `Script` for the first
-/// line that is none of these; `Memory` where it is refused.
+/// Reads a script, one `Scripted` for each line. An empty line, and one that begins with `#`, is skipped. `Script` names the first line
+/// that is none of these.
 pub fn read_script(alloc: Global, script: &[u8]) -> Result<Queue<Scripted>, ScriptFault>
     ensures { GivesScript (script_of script.now) result }
 {
@@ -58,7 +59,7 @@ pub fn read_script(alloc: Global, script: &[u8]) -> Result<Queue<Scripted>, Scri
 ghost use Rattle.gate_core.specs.Script.{line_adds};
 ghost use Rattle.gate_core.specs.Inner.Faults.{AddsLine};
 
-// Adds what the line of this number stands for.
+// Adds what the line of this number asks for, if it isn't skipped.
 fn add_line(
     alloc: Global,
     line: &[u8],

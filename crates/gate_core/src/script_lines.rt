@@ -1,4 +1,4 @@
-//! The lines of a script.
+//! Reads one line of a script: its first word names the step, and the fields after it say for whom and with what.
 ghost use Rattle.std.specs.Prelude.{◌≡◌, ◌++◌, ◌∷◌, [], IfErr, IfSome, Some, codes, option_copied};
 ghost use Rattle.gate_line.specs.Fields.{Answers, IsOwn};
 ghost use Rattle.gate_core.specs.Script.{has_bytes, line_adds, scripted_of, show_of, step_has_bytes, step_named};
@@ -12,9 +12,8 @@ use gate_line::{
 use gate_record::{ConnId, PipelineId, Record, Sequence, TenantId};
 use std::alloc::Global;
 
-/// What a line of a script stands for that isn't skipped, without its line end; or the first field from the left that is missing or
-/// wrong. `Memory` only where a line that stands for something has bytes to copy: a record, the texts of a ref's key, or the name of
-/// a job.
+/// Reads a line of a script that isn't skipped, without its line end. The fault is the first field from the left that is missing or wrong.
+/// `Memory` comes only where the line is right and has bytes to copy: a record, the texts of a ref's key, or the name of a job.
 pub fn read_script_line(alloc: Global, line: &[u8]) -> Result<Scripted, LineFault>
     ensures { Answers has_bytes (scripted_of line.now) result }
 {
@@ -26,7 +25,7 @@ pub fn read_script_line(alloc: Global, line: &[u8]) -> Result<Scripted, LineFaul
     Ok(Scripted::Step(step))
 }
 
-/// The turn that a line stands for, if it is one: its tenant and pipeline. Most lines of a long script are turns, and no step is made
+/// The tenant and pipeline of a line that is a turn. Most lines of a long script are turns, so they are found first and no `Step` is made
 /// for them.
 pub(crate) fn turn_in(line: &[u8]) -> Option<(TenantId, PipelineId)>
     ensures { IfSome result (λ turn. line_adds line.now ≡ Some (Scripted.Step (Turn turn.0 turn.1) ∷ [])) }
@@ -37,7 +36,7 @@ pub(crate) fn turn_in(line: &[u8]) -> Option<(TenantId, PipelineId)>
     }
 }
 
-// What stands behind the word of a turn, if a line begins with it.
+// The bytes after the word `turn`, if a line begins with it.
 fn behind_turn(line: &[u8]) -> Option<&[u8]>
     ensures { IfSome result (λ rest. line.now ≡ codes "turn " ++ rest.now) }
 {
@@ -54,7 +53,7 @@ fn show_of(rest: Option<&[u8]>) -> Result<Scripted, LineFault>
 
 ghost use Rattle.gate_core.specs.Script.{one_of, two_of};
 
-// A number that ends the line.
+// Reads a number that ends the line.
 fn one_of(expected: Field, rest: Option<&[u8]>) -> Result<u32, LineFault>
     ensures value { result ≡ one_of expected (option_copied rest.entry) }
     ensures own { IfErr result IsOwn }
@@ -64,7 +63,7 @@ fn one_of(expected: Field, rest: Option<&[u8]>) -> Result<u32, LineFault>
     Ok(number)
 }
 
-// Two numbers that end the line.
+// Reads two numbers that end the line.
 fn two_of(first: Field, second: Field, rest: Option<&[u8]>) -> Result<(u32, u32), LineFault>
     ensures value { result ≡ two_of first second (option_copied rest.entry) }
     ensures own { IfErr result IsOwn }
@@ -74,7 +73,7 @@ fn two_of(first: Field, second: Field, rest: Option<&[u8]>) -> Result<(u32, u32)
     Ok((one, other))
 }
 
-// The step of a line: those of pipelines and tenants come first, which most lines are.
+// Reads the step of a line. The steps of pipelines and tenants are tried first, because most lines are among them.
 fn step_named(alloc: Global, word: &[u8], rest: Option<&[u8]>) -> Result<Step, LineFault>
     ensures { Answers step_has_bytes (step_named word.now (option_copied rest.entry)) result }
 {
@@ -97,7 +96,7 @@ fn step_named(alloc: Global, word: &[u8], rest: Option<&[u8]>) -> Result<Step, L
 
 ghost use Rattle.gate_core.specs.Script.{connection_named};
 
-// The steps of a connection that bring nothing with them, and behind them those that do.
+// Reads a step of a connection without a record, and otherwise tries the steps that bring something with them.
 fn connection_step(alloc: Global, word: &[u8], rest: Option<&[u8]>) -> Result<Step, LineFault>
     ensures { Answers step_has_bytes (connection_named word.now (option_copied rest.entry)) result }
 {
@@ -122,7 +121,7 @@ fn connection_step(alloc: Global, word: &[u8], rest: Option<&[u8]>) -> Result<St
 
 ghost use Rattle.gate_core.specs.Script.{bringing_named};
 
-// The steps that bring something with them: a record, or what is posted to a pipeline.
+// Reads a step that brings something with it: a record, or what is posted to a pipeline.
 #[inline(never)]
 fn bringing_step(alloc: Global, word: &[u8], rest: Option<&[u8]>) -> Result<Step, LineFault>
     ensures { Answers step_has_bytes (bringing_named word.now (option_copied rest.entry)) result }

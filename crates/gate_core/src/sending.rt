@@ -1,3 +1,4 @@
+//! The step that moves an item from a connection's forwarder to a tenant.
 ghost use Rattle.std.specs.Prelude.{◌≡◌, map};
 ghost use Rattle.gate_config.specs.declared.generations.Generations.{Generations};
 ghost use Rattle.gate_core.specs.Inner.Sends.{Sends};
@@ -9,8 +10,7 @@ use crate::connection::Connection;
 use crate::tenant::Tenant;
 use gate_record::Memory;
 
-/// Sends the next item of a connection's forwarder to the tenant that is to get it. Where memory is refused, all is as
-/// before.
+/// Sends the next item of a connection's forwarder to the tenant that is to get it.
 pub(crate) fn send<'c>(
     connection: &mut Connection<'c>,
     tenants: &mut Vec<Tenant<'c>>,

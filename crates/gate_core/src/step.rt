@@ -1,25 +1,26 @@
+//! The steps of the core, of which a run of `replay` consists.
 ghost use Rattle.std.specs.Prelude.{◌≡◌, IfOk};
 
 use gate_items::{JobResult, Manage};
 use gate_record::{ConnId, Memory, PipelineId, Record, TenantId, Text};
 use std::alloc::Global;
 
-/// One step of the core.
+/// One step of the core. Each one is a move of one thread of `serve`, or of somebody who posts from outside.
 #[derive(Debug, Drop)]
 pub enum Step {
     /// The reader of a connection offers a record.
     Offer(ConnId, Record),
-    /// The reader of a connection closes it: its end mark is put behind its records.
+    /// The reader of a connection closes it: it puts the end mark after the records.
     Close(ConnId),
-    /// The reader of a connection puts the next generation of the configuration in force for what it offers from then on.
+    /// The reader of a connection puts the next generation of the configuration in force for the records that follow.
     Renew(ConnId),
     /// The forwarder of a connection takes the next entry of its queue.
     Take(ConnId),
-    /// The forwarder of a connection sends what it holds to the next tenant.
+    /// The forwarder of a connection sends the first item that it holds to its tenant.
     Send(ConnId),
-    /// The worker of a tenant gathers so many items of its queue.
+    /// The worker of a tenant gathers at most this many items of its queue.
     Fetch(TenantId, u32),
-    /// The worker of a tenant matches what it gathered against the rules of the tenant's pipelines.
+    /// The worker of a tenant matches the gathered events with the rules of the tenant's pipelines.
     Match(TenantId),
     /// The worker of a tenant gives the next matched item to its pipeline.
     Give(TenantId),
@@ -32,7 +33,7 @@ pub enum Step {
 }
 
 impl Step {
-    /// A copy of the step, with what it brings. `Memory` where that finds no room.
+    /// A copy of the step, with the record or the post that it brings.
     pub fn copy(&self, alloc: Global) -> Result<Step, Memory>
         ensures { IfOk result (λ copy. copy ≡ self.now) }
     {

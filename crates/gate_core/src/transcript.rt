@@ -1,3 +1,4 @@
+//! Runs a whole list of steps, for callers that want all answers and the world at the end.
 ghost use Rattle.std.specs.Prelude.{◌≡◌, ◌++◌, ◌<◌, ◌^◌, IfOk, [], length, take};
 ghost use Rattle.std.specs.List.{zip};
 ghost use Rattle.gate_core.specs.Promises.{AnswersRightly, Delivers, Keeps, Processes};
@@ -18,30 +19,30 @@ use std::alloc::Global;
 pub struct Transcript<'c> {
     /// One answer for each step, in order.
     pub answers: Sequence<Answer>,
-    /// The world behind the last step.
+    /// The world after the last step.
     pub world: World<'c>,
 }
 
 ghost use Rattle.gate_core.specs.Worlds.{gens_of, state_of};
 
-/// Takes steps in order, from the world in which nothing was offered yet. `Memory` where it is refused at any step.
+/// Takes steps in order, from the world in which nothing was offered yet. Where memory is refused to any step, there is no transcript.
 pub fn run<'c>(
     alloc: Global,
     gens: &'c Generations,
     steps: &[Step],
 ) -> Result<Transcript<'c>, Memory>
-    // The answers are those of the steps one after another, one for each, and the world is what they leave.
+    // The answers are those of the steps, one for each in order, and the world is what the steps leave.
     ensures answers { IfOk result (λ t. t.answers ≡ answers_to gens.entry.now (first gens.entry.now) steps.now) }
     ensures each { IfOk result (λ t. length t.answers ≡ length steps.now) }
     ensures left { IfOk result (λ t. state_of t.world ≡ left_by gens.entry.now (first gens.entry.now) steps.now) }
     ensures gens { IfOk result (λ t. gens_of t.world ≡ gens.entry.now) }
 
-    // What was processed is what was wanted, in order, and all of it where the end mark was met.
+    // What was processed is what the rules select, in order, and all of that where the end mark was met.
     ensures delivers { IfOk result (λ t. Delivers gens.entry.now (zip steps.now t.answers)) }
     ensures rightly { IfOk result (λ t. AnswersRightly gens.entry.now [] (zip steps.now t.answers)) }
     ensures report { IfOk result (λ t. report_of (state_of t.world) ≡ report_after gens.entry.now.first (zip steps.now t.answers)) }
 
-    // Queue items are what came of the actions that were processed, and those are what was asked.
+    // The queue items are what the processed actions made of them, and those actions are the ones that were asked for.
     ensures processes { IfOk result (λ t. Processes gens.entry.now.first (zip steps.now t.answers)) }
     ensures keeps { IfOk result (λ t. Keeps gens.entry.now.first (zip steps.now t.answers) (state_of t.world)) }
 {
@@ -52,7 +53,7 @@ pub fn run<'c>(
     play(alloc, gens, queue)
 }
 
-/// The same for steps that are handed over, without a copy.
+/// Does the same as `run` with steps that are handed over, so that none is copied.
 pub fn play<'c>(
     alloc: Global,
     gens: &'c Generations,
@@ -68,13 +69,13 @@ pub fn play<'c>(
     ensures processes { IfOk result (λ t. Processes gens.entry.now.first (zip steps t.answers)) }
     ensures keeps { IfOk result (λ t. Keeps gens.entry.now.first (zip steps t.answers) (state_of t.world)) }
 {
-    // What is promised of every history, and what a forwarder sends, are laws of the definitions.
+    // These laws say what every history promises and what a forwarder sends.
     every_run_delivers();
     each_tenant_gets_its_own();
     entries_have_generations();
     records_have_generations();
     let mut steps = steps;
-    // The proof counts by it: fewer than 2^64 records are accepted, since there are no more steps.
+    // The proof needs this count: no more records are accepted than there are steps, so their numbers don't overflow.
     let _total = steps.len();
     let mut world = World::new(alloc, gens)?;
     let mut answers = Sequence::empty(alloc);

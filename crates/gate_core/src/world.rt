@@ -1,3 +1,4 @@
+//! The world of the core: all connections, tenants and pipelines at one moment, and the step that moves it on.
 ghost use Rattle.std.specs.Prelude.{◌≡◌, ◌+◌, ℕ, IfOk, OnErr, Some, false, option_map, slice_get, true};
 ghost use Rattle.gate_core.specs.Inner.Views.{AreConnections, AreTenants};
 
@@ -40,7 +41,7 @@ impl<'c> World<'c> {
     ghost use Rattle.gate_core.specs.Inner.Views.{HasNumberLeft};
     ghost use Rattle.gate_core.specs.Worlds.{AcceptedAtMost, HasNumber, gens_of, state_of};
 
-    /// The world in which nothing was offered yet. `Memory` where its connections and tenants find no room.
+    /// The world in which nothing was offered yet.
     pub fn new(alloc: Global, gens: &'c Generations) -> Result<World<'c>, Memory>
         ensures gens { IfOk result (λ world. gens_of world ≡ gens.entry.now) }
         ensures first { IfOk result (λ world. state_of world ≡ first gens.entry.now) }
@@ -56,13 +57,13 @@ impl<'c> World<'c> {
         })
     }
 
-    /// Takes one step. An id out of range, or a step that finds nothing to do, is answered `Idle`. A connection that is
-    /// offered a record has accepted fewer than 2^64 - 1.
+    /// Takes one step. A step with an id out of range, or one that finds nothing to do, is answered `Idle`. A connection that is offered a
+    /// record must have accepted fewer than 2^64 - 1 records before.
     ///
-    /// `Memory` comes only to a step that would change something: of takings only to one of a record, of matchings only to one of
-    /// an event or of the last end mark that the tenant waits for, and of turns only to one that processes a trigger event, or a
-    /// reset of an independent pipeline. Then all is as before, save that a turn holds what it took: that is what the pipeline
-    /// processes next.
+    /// `Memory` comes only to a step that would change something. Among the steps that take from a connection's queue, only one that takes
+    /// a record is refused; among matchings, only one of an event or of the last end mark that the tenant waits for; and among turns, only
+    /// one that processes a trigger event or a reset of an independent pipeline. A turn that is refused holds what it took from its queue,
+    /// and the pipeline processes that next.
     #[tactic(auto, using(crate::proofs::Counting::one_more))]
     pub fn step(&mut self, step: Step) -> Result<Answer, Memory>
         requires { HasNumber (state_of self.old) step }
@@ -95,7 +96,7 @@ impl<'c> World<'c> {
         }
     }
 
-    /// What has come of the steps so far. `Memory` where the report finds no room.
+    /// The report of the steps so far.
     pub fn report(&self) -> Result<RunReport, Memory>
         ensures { IfOk result (λ report. report ≡ report_of (state_of self.now)) }
     {
@@ -105,7 +106,7 @@ impl<'c> World<'c> {
         })
     }
 
-    /// The queue items of a pipeline and what it reported, if it is there.
+    /// The queue items and reports of a pipeline, if there is such a pipeline.
     pub(crate) fn items(&self, tenant: TenantId, pipeline: PipelineId) -> Option<&Items>
         ensures { option_map (λ items. items.now) result ≡ items_at tenant.0 pipeline.0 (state_of self.now) }
     {
@@ -117,8 +118,8 @@ impl<'c> World<'c> {
     ghost use Rattle.gate_core.specs.declared.answer.Answer.TheVariants.{Passed};
     ghost use Rattle.gate_core.specs.declared.step.Step.TheVariants.{Turn};
 
-    /// Takes the turn of a pipeline that finds its queue empty, and says whether it is one. Most turns of a script are, and no
-    /// answer is made for them.
+    /// Takes the turn of a pipeline if it finds its queue empty. The answer is whether it did. Most turns of a script do, and no `Answer`
+    /// is made for them.
     pub(crate) fn passes(&mut self, tenant: TenantId, pipeline: PipelineId) -> bool
         ensures gens { gens_of self.new ≡ gens_of self.old }
         ensures passes { result ≡ true → (state_of self.new, Passed) ≡ step_of (gens_of self.old) (state_of self.old) (Turn tenant pipeline) }
@@ -133,7 +134,7 @@ impl<'c> World<'c> {
         }
     }
 
-    // What a connection does by itself: `Idle` where there is none of that number.
+    // Takes a connection's step. The answer is `Idle` where there is no connection of that number.
     fn connection_step(&mut self, conn: ConnId, step: ConnectionStep) -> Result<Answer, Memory>
         requires { (connection : ConnectionState) → slice_get (state_of self.old).connections conn.0 ≡ Some connection → HasNumberLeft step connection }
         ensures gens { gens_of self.new ≡ gens_of self.old }
@@ -156,7 +157,7 @@ impl<'c> World<'c> {
         }
     }
 
-    // What a tenant's worker does by itself: `Idle` where there is no tenant of that number.
+    // Takes a step of a tenant's worker. The answer is `Idle` where there is no tenant of that number.
     fn tenant_step(&mut self, tenant: TenantId, step: TenantStep) -> Result<Answer, Memory>
         ensures gens { gens_of self.new ≡ gens_of self.old }
         ensures moves { Does (state_of self.old) (on_tenant (tenant_step (gens_of self.old) tenant.0 step) tenant.0 (state_of self.old)) (state_of self.new) result }
@@ -168,7 +169,7 @@ impl<'c> World<'c> {
         }
     }
 
-    // A post to a pipeline, or a turn of it: `Idle` where it isn't there.
+    // Posts to a pipeline, or takes a turn of it. The answer is `Idle` where there is no such pipeline.
     fn pipeline_step(
         &mut self,
         tenant: TenantId,

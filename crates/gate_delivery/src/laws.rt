@@ -1,20 +1,22 @@
+//! Laws that a pipeline gets exactly the records that it wants: nothing is lost, doubled or reordered on the way.
 ghost use Rattle.gate_delivery.specs.Ways.{EachWayDelivers, WantedArrive};
 
 use gate_record::entries_have_generations;
 
-/// Of a connection's entries, its records numbered from 0 in order and marks of renewals among them, exactly the wanted numbers
-/// arrive at a pipeline once the entries were forwarded to its tenant and matched there; and so they do of each prefix of the
-/// entries, with or without the end mark behind them.
+/// A connection's entries are records, numbered from 0 in order, with renewals among them. When they are forwarded to a tenant
+/// and matched there, exactly the wanted numbers arrive at a pipeline. The same holds of each prefix of the entries, with or
+/// without an end mark.
 pub fn what_is_wanted_arrives()
     ensures { WantedArrive }
 {
     entries_have_generations()
 }
 
-/// The way of a connection's records to a pipeline, wherever its parts are: where what the pipeline has taken and still gets is
-/// what is chosen of what its tenant matched, and where of what the tenant got the connection's part, followed by what wasn't
-/// sent, is what is forwarded of the records, the numbers of what was taken are a prefix of the wanted ones, and all of them
-/// once the end mark was taken; and where it was taken, each connection that the tenant lists had its own end mark put.
+/// A law about the way of a connection's records to a pipeline, in whichever queues and outboxes its parts are. It has two
+/// conditions. What the pipeline has taken, followed by what it is still to get, is what it selects of what its tenant matched.
+/// Of the items that the tenant got, those of the connection, followed by those that weren't sent yet, are what is forwarded to
+/// it. Then the numbers of the events that the pipeline has taken are a prefix of the wanted ones, and all of them once it has
+/// taken the end mark. If it has taken the end mark, each connection that the tenant lists was closed.
 pub fn each_way_delivers()
     ensures { EachWayDelivers }
 {

@@ -1,4 +1,4 @@
-//! The ways of a connection's records to the pipelines, wherever their parts are: laws.
+//! Laws about the way of a connection's records to a pipeline, which the core and the threads of a run have in common.
 #![tactic(auto)]
 
 mod laws;

@@ -1,4 +1,4 @@
-//! What is different in two documents of one configuration.
+//! Says in words what is different in two documents of one configuration.
 use crate::document::{Document, Tenant, Texts, items, manager_word, member_of};
 use crate::names::{Added, Quoted, QuotedList};
 use crate::sentences::RuleSentence;
@@ -8,8 +8,8 @@ use serde_json::Value;
 use std::alloc::Global;
 use std::collections::BTreeSet;
 
-/// Adds what a document has that one before hasn't, and the other way round, a line each. Rules are compared by what they ask for, in
-/// words: their order doesn't matter, and one that stands twice says it once.
+/// Adds what each of two documents says and the other doesn't, a line each. Rules are compared by their sentences, so their order doesn't
+/// matter, and a rule that stands twice counts once.
 pub fn push_changes(out: &mut String, before: &Document<'_>, after: &Document<'_>) -> Added {
     let alloc = *out.allocator();
     let (old, new) = (facts(alloc, before)?, facts(alloc, after)?);
@@ -31,7 +31,7 @@ fn push_beyond(out: &mut String, since: &str, these: &Texts, others: &Texts) -> 
     Ok(())
 }
 
-/// The same of two documents that are no generations of one configuration, though each of them is one.
+/// Adds why two documents, each of which is a configuration, aren't generations of one configuration.
 pub fn push_unlike(out: &mut String, first: &[u8], later: &[u8]) -> Added {
     let alloc = *out.allocator();
     match (read_config(alloc, first), read_config(alloc, later)) {
@@ -43,7 +43,7 @@ pub fn push_unlike(out: &mut String, first: &[u8], later: &[u8]) -> Added {
     }
 }
 
-// What a document says, a fact each.
+// The facts that a document states, as sentences.
 fn facts(alloc: Global, document: &Document<'_>) -> Result<Texts, Memory> {
     let mut facts = BTreeSet::new(alloc);
     for (number, connection) in document.config.connections().iter().enumerate() {

@@ -1,5 +1,5 @@
-//! A document that is a generation of a configuration, with its tenants; and the parts of JSON values, of which an optional member that
-//! is null counts as absent.
+//! A document of a configuration with its tenants, as `explain` looks at it, and access to the parts of JSON values. An optional member
+//! that is null counts as absent.
 use crate::names::Added;
 use gate_config::{Config, PipelineSpec};
 use gate_record::{ConnId, ManagerKind, Memory, PipelineId, TenantId, Text};
@@ -9,10 +9,10 @@ use std::alloc::Global;
 use std::collections::BTreeSet;
 use std::slice;
 
-/// Texts, each once, in order.
+/// A set of texts, in order.
 pub type Texts = BTreeSet<String>;
 
-/// A document, and what it says.
+/// A document as a JSON value, and its tenants.
 #[derive(Drop)]
 pub struct Document<'c> {
     pub value: Value,
@@ -20,7 +20,7 @@ pub struct Document<'c> {
     pub tenants: Vec<Tenant<'c>>,
 }
 
-/// A tenant.
+/// A tenant, with its part of the document.
 #[derive(Drop)]
 pub struct Tenant<'c> {
     config: &'c Config,
@@ -29,7 +29,7 @@ pub struct Tenant<'c> {
     pub listings: Vec<Listing<'c>>,
 }
 
-/// What a tenant lists under a connection.
+/// The projects that a tenant lists under one connection.
 #[derive(Drop)]
 pub struct Listing<'c> {
     pub connection: ConnId,
@@ -38,7 +38,7 @@ pub struct Listing<'c> {
 }
 
 impl<'c> Document<'c> {
-    /// The document that this configuration was read of.
+    /// Reads the document from which this configuration was made.
     pub fn read(alloc: Global, config: &'c Config, file: &[u8]) -> Result<Document<'c>, Memory> {
         match Value::from_slice(alloc, file) {
             Ok(value) => Ok(Document {
@@ -61,19 +61,19 @@ impl<'c> Tenant<'c> {
         self.config.pipelines(self.number)
     }
 
-    /// The rules for a connection of the pipeline at this place.
+    /// The rules of the pipeline at this place for the connection of a listing.
     pub fn rules(&self, place: usize, listing: &Listing<'_>) -> &'c [Rule] {
         let pipeline = PipelineId(number_of(place));
         self.config.rules(self.number, pipeline, listing.connection)
     }
 
-    /// The jobs of a project in the pipeline at this place.
+    /// The jobs that the pipeline at this place runs for a project.
     pub fn jobs(&self, place: usize, project: &str) -> &'c [Text] {
         self.config
             .jobs(self.number, PipelineId(number_of(place)), project)
     }
 
-    /// Whether it lists a project under any connection.
+    /// Whether the tenant lists a project under any connection.
     pub fn has_project(&self, project: &str) -> bool {
         self.listings.iter().any(|it| it.projects.contains(project))
     }
@@ -87,7 +87,7 @@ pub fn manager_word(manager: ManagerKind) -> &'static str {
     }
 }
 
-/// A place in a list as a number. There are at most 16 tenants, 64 pipelines of a tenant and 64 connections.
+/// A place in a list as a number. It always fits: there are at most 16 tenants, 64 pipelines of a tenant and 64 connections.
 pub fn number_of(place: usize) -> u32 {
     u32::try_from(place).unwrap_or(u32::MAX)
 }
@@ -111,7 +111,7 @@ fn tenants_of<'c>(
     Ok(tenants)
 }
 
-// The member `source` of the tenant of this name.
+// The member `source` of the tenant with this name.
 fn sources_of<'v>(document: &'v Value, name: &str) -> Option<&'v Value> {
     for entry in items(document.get("tenants")) {
         let tenant = member(entry, "tenant").unwrap_or(entry);
@@ -156,7 +156,7 @@ fn add_entries(alloc: Global, projects: &mut Texts, entries: &[Value]) -> Added 
     Ok(())
 }
 
-// Adds the name that an entry gives: a text, or the one key of an object.
+// Adds the project that an entry names: the entry is a text, or an object with one key.
 fn add_name(alloc: Global, projects: &mut Texts, entry: &Value) -> Added {
     let name = match entry {
         Value::String(name) => Some(name),
@@ -174,7 +174,7 @@ pub fn group_of(entry: &Value) -> Option<&[Value]> {
     Some(entry.get("projects")?.as_array()?.as_slice())
 }
 
-/// An optional member.
+/// A member of an object, unless it is absent or null.
 pub fn member<'v>(value: &'v Value, key: &str) -> Option<&'v Value> {
     match value.get(key) {
         Some(Value::Null) => None,
@@ -182,12 +182,12 @@ pub fn member<'v>(value: &'v Value, key: &str) -> Option<&'v Value> {
     }
 }
 
-/// An optional member of what may be absent.
+/// A member of an object that may itself be absent.
 pub fn member_of<'v>(value: Option<&'v Value>, key: &str) -> Option<&'v Value> {
     member(value?, key)
 }
 
-/// The items of a list; none of another value.
+/// The items of a list. Any other value has none.
 pub fn items(value: Option<&Value>) -> &[Value] {
     match value {
         Some(Value::Array(items)) => items.as_slice(),
@@ -195,7 +195,7 @@ pub fn items(value: Option<&Value>) -> &[Value] {
     }
 }
 
-/// The text of a member, if it is one.
+/// The text at a key of an object, if there is a text.
 pub fn text_at<'v>(value: &'v Value, key: &str) -> Option<&'v str> {
     value.get(key)?.as_str()
 }

@@ -1,4 +1,4 @@
-//! Faults of a configuration: what is expected where one stands, and what was found.
+//! Says what was expected at the place of a configuration's fault, and what was found there.
 use crate::document::items;
 use crate::kind::Kind;
 use crate::names::{Added, Meant, Quoted, front, nearest};
@@ -7,7 +7,7 @@ use gate_config::{ConfigFault, Path, Step};
 use gate_record::Memory;
 use serde_json::Value;
 
-/// Adds what is expected where a document has this fault, and what was found.
+/// Adds what is expected at the place of this fault in a document, and what was found there.
 pub fn push_expected(out: &mut String, document: &Value, fault: &ConfigFault) -> Added {
     match fault {
         ConfigFault::Memory => Err(Memory),
@@ -31,7 +31,7 @@ const PATTERN: &str =
 
 const NEW_NAME: &str = "a name that none before it has";
 
-/// What was come to along a path.
+/// What is found at the end of a path through a document.
 #[derive(Clone, Copy)]
 struct Seen<'v> {
     kind: Kind,
@@ -42,7 +42,7 @@ struct Seen<'v> {
 }
 
 impl<'v> Seen<'v> {
-    // What stands at a path of a document.
+    // Follows a path through a document.
     fn at(document: &'v Value, path: &'v Path) -> Seen<'v> {
         let mut seen = Seen {
             kind: Kind::Document,
@@ -72,7 +72,7 @@ impl<'v> Seen<'v> {
     }
 }
 
-// A value of another kind, or none; or a key that an entry of patterns doesn't have.
+// Adds what is expected where the value is absent or of another kind, or where an entry of patterns has an unknown key.
 fn push_shape(out: &mut String, seen: Seen<'_>) -> Added {
     if seen.kind != Kind::Other {
         return push_value(out, seen.kind.expected(), seen);
@@ -95,10 +95,10 @@ fn push_key(out: &mut String, kind: Kind, known: &str, found: &str) -> Added {
     Ok(write!(out, "Expected one of the {known}; found {found}{meant}.")?)
 }
 
-// How many letters of what was found are written.
+// How many letters of the found value are printed.
 const LETTERS: usize = 200;
 
-// Adds what is expected, and the front of what was found, as JSON text.
+// Adds what is expected, and the first letters of the found value as JSON text.
 fn push_value(out: &mut String, expected: &str, seen: Seen<'_>) -> Added {
     write!(out, "Expected {expected}; found ")?;
     let Some(value) = seen.value else {

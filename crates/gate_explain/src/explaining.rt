@@ -1,3 +1,5 @@
+//! Puts together what `explain` prints of the documents of a configuration.
+
 use crate::changes::{push_changes, push_unlike};
 use crate::document::{Document, number_of};
 use crate::expected::push_expected;
@@ -12,19 +14,19 @@ use gate_record::Memory;
 use serde_json::Value;
 use std::alloc::Global;
 
-/// What is wanted of a configuration.
+/// What `explain` is to print of a configuration.
 #[derive(Clone, Copy)]
 pub enum Wanted<'s> {
-    /// What each document says, and what of it isn't applied.
+    /// What each document says, and which parts of it aren't applied.
     Words,
-    /// The same, and what comes of this script.
+    /// The same, and what this script does.
     Script(&'s [u8]),
-    /// The last document, as a graph for Graphviz.
+    /// The last document as a graph for Graphviz.
     Picture,
 }
 
-/// What is wanted of the documents of a configuration, a generation each. `Faulty` where they are no generations of one, or the
-/// script has a line that stands for nothing.
+/// What `explain` prints of the documents of a configuration, one for each generation. `Faulty` says that the documents are no generations
+/// of one configuration, or that the script has a line that stands for nothing.
 pub fn explain(alloc: Global, files: &[Vec<u8>], wanted: Wanted<'_>) -> Result<String, Fault> {
     match read_generations(alloc, files) {
         Ok(gens) => explain_generations(alloc, files, &gens, wanted),
@@ -64,7 +66,7 @@ fn explain_documents(
     Ok(out)
 }
 
-// Adds what each document says, below a heading where there are several, and before that what it changes.
+// Adds what each document says. Where there are several, each has a heading and begins with what it changes.
 fn push_documents(out: &mut String, documents: &[Document<'_>]) -> Added {
     if documents.len() > 1 {
         out.push_str("Generation 0\n\n")?;
@@ -81,7 +83,7 @@ fn push_documents(out: &mut String, documents: &[Document<'_>]) -> Added {
     Ok(())
 }
 
-// What is to be said of documents that are no generations of a configuration.
+// The text about documents that are no generations of one configuration.
 fn refused(alloc: Global, files: &[Vec<u8>], fault: &GenerationFault) -> Result<String, Memory> {
     let mut out = String::new(alloc);
     writeln!(out, "{fault}")?;
@@ -99,7 +101,8 @@ fn refused(alloc: Global, files: &[Vec<u8>], fault: &GenerationFault) -> Result<
     Ok(out)
 }
 
-// Adds why a document is no configuration, or none beside the first: where the fault stands at the whole of it and it is an object.
+// Adds why a document is no configuration, or why it can't be a generation beside the first. A fault at the whole of an object means the
+// second.
 fn push_reason(out: &mut String, first: &[u8], file: &[u8], fault: &ConfigFault) -> Added {
     match (Value::from_slice(*out.allocator(), file), fault) {
         (Ok(Value::Object(_)), ConfigFault::Shape(path)) if path.steps().is_empty() => {

@@ -1,20 +1,22 @@
+//! Why `gate_explain` fails, with the exit status of each fault.
+
 use gate_record::Memory;
 use std::alloc::{AllocError, AllocFailed};
 use std::fmt;
 
-/// Why nothing is explained. Its text stands on standard error behind `fault: `.
+/// Why nothing is explained. The text is printed on standard error after `fault: `.
 #[derive(Debug, Drop)]
 pub enum Fault {
     /// Memory was refused.
     Memory,
-    /// A file that can't be read.
+    /// A file at this path can't be read.
     File(String),
     /// Standard output can't be written.
     Write,
-    /// The words are no form that is known.
+    /// The words of the command line are none of the forms that the program knows.
     Usage,
-    /// The configuration or the script is faulty: the fault's line as `check` and `replay` have it, and lines behind it that
-    /// say what is expected and what was found.
+    /// The configuration or the script is faulty. The text is the fault's line as `check` and `replay` print it, followed by lines that say
+    /// what was expected and what was found.
     Faulty(String),
 }
 

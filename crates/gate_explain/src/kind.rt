@@ -1,7 +1,9 @@
+//! The kinds of values that a configuration has, by the place where they stand.
+
 use crate::document::{group_of, member};
 use serde_json::Value;
 
-/// A kind of value that stands in a configuration.
+/// A kind of value in a configuration.
 #[derive(Clone, Copy, Debug, PartialEq, Eq)]
 pub enum Kind {
     Document,
@@ -16,9 +18,9 @@ pub enum Kind {
     /// An entry that has a list `projects`.
     ListedGroup,
     GroupProjects,
-    /// A text, or an object with one key, the name of a project.
+    /// The name of a project: a text, or an object with one key.
     ProjectName,
-    /// The settings of a project that is listed.
+    /// The settings of a project in a tenant's list.
     ListedProject,
     Lists,
     Items,
@@ -27,7 +29,7 @@ pub enum Kind {
     PipelineName,
     Manager,
     Trigger,
-    /// The rules for a connection, or the one rule that stands there.
+    /// The rules of a pipeline for one connection: a list, or a single rule.
     Rules,
     Rule,
     Patterns,
@@ -37,18 +39,18 @@ pub enum Kind {
     Approvals,
     Approval,
     Project,
-    /// What a project has for a pipeline.
+    /// The settings of a project for one pipeline.
     ProjectPipeline,
     Jobs,
     Job,
-    /// What a project says of a job.
+    /// The settings of a job in a project.
     ProjectJob,
-    /// What nothing reads.
+    /// A value that nothing reads.
     Other,
 }
 
 impl Kind {
-    /// The same, or which one it is by the value, where there are several.
+    /// The kind of this value: where several kinds may stand at a place, the value decides.
     pub fn of(self, value: &Value) -> Kind {
         match self {
             Kind::TenantEntry if member(value, "tenant").is_none() => Kind::Tenant,
@@ -60,7 +62,7 @@ impl Kind {
         }
     }
 
-    /// What is to stand there.
+    /// What should stand at a place of this kind, in words.
     pub fn expected(self) -> &'static str {
         match self {
             Kind::Document => "an object with `tenants` and `config`",
@@ -102,7 +104,7 @@ impl Kind {
         }
     }
 
-    /// How much of it there may be.
+    /// How many values of this kind there may be, in words.
     pub fn most(self) -> &'static str {
         match self {
             Kind::Tenants => "16 tenants",

@@ -35,7 +35,7 @@ fn main(rt: HostRuntime) -> ExitCode {
     }
 }
 
-// Nothing is written where there is a fault before.
+// Writes nothing to standard output if there is a fault.
 fn run(rt: &(impl Env + Files + AllocGlobal), output: &mut impl Write) -> Result<(), Fault> {
     let text = match words_of(rt) {
         Ok(words) => told(rt, words.as_slice())?,
@@ -50,7 +50,7 @@ fn run(rt: &(impl Env + Files + AllocGlobal), output: &mut impl Write) -> Result
     }
 }
 
-// Words that aren't UTF-8 are an error.
+// Reads the words of the command line. Words that aren't UTF-8 are an error.
 fn words_of(rt: &(impl Env + AllocGlobal)) -> io::Result<Vec<String>> {
     Ok(env::args(rt)?.collect(rt.alloc())?)
 }

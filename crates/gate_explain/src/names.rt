@@ -1,11 +1,11 @@
-//! Names and texts as they are printed, and names that are nearly right.
+//! How names and texts are printed, and which known name is close to one that was written.
 use gate_record::{Memory, Text};
 use std::fmt;
 
-/// What comes of adding to a text.
+/// The answer of a function that adds to a text.
 pub type Added = Result<(), Memory>;
 
-/// A text on one line: quotes, backslashes and control characters are escaped as in compact JSON text.
+/// A text on one line, with quotes, backslashes and control characters escaped as in JSON text.
 #[derive(Clone, Copy)]
 pub struct Escaped<'n>(pub &'n str);
 
@@ -32,7 +32,7 @@ fn write_letter<W: fmt::Write>(f: &mut fmt::Formatter<W>, letter: char) -> fmt::
     }
 }
 
-/// A name as it is printed: in quotes.
+/// A name in quotes.
 #[derive(Clone, Copy)]
 pub struct Quoted<'n>(pub &'n str);
 
@@ -42,7 +42,7 @@ impl fmt::Display for Quoted<'_> {
     }
 }
 
-/// Names one after another, each in quotes, with a comma between them.
+/// Names in quotes, with commas between them.
 #[derive(Clone, Copy)]
 pub struct QuotedList<'n>(pub &'n [Text]);
 
@@ -57,7 +57,7 @@ impl fmt::Display for QuotedList<'_> {
     }
 }
 
-/// A name as it stands where all of its letters are visible ASCII ones, and else in quotes.
+/// A name without quotes if all of its letters are visible ASCII, and in quotes otherwise.
 #[derive(Clone, Copy)]
 pub struct Named<'n>(pub &'n str);
 
@@ -75,13 +75,13 @@ fn is_plain(byte: u8) -> bool {
     byte > b' ' && byte < 127 && byte != b'"'
 }
 
-/// The first letters of a text, so many, where it has more.
+/// The first `letters` letters of a text that has more. `None` says that the text isn't longer.
 pub fn front(text: &str, letters: usize) -> Option<&str> {
     let (end, _) = text.char_indices().nth(letters)?;
     text.get(..end)
 }
 
-/// The name that was meant, behind one that was found, if there is one.
+/// A question whether this known name was meant, if there is one. It follows a name that was found.
 #[derive(Clone, Copy)]
 pub struct Meant<'n>(pub Option<&'n str>);
 
@@ -94,13 +94,13 @@ impl fmt::Display for Meant<'_> {
     }
 }
 
-/// The first of these names that was nearly written. They have spaces between them.
+/// The first of these names, which have spaces between them, to which the written one is close.
 pub fn nearest<'n>(written: &str, names: &'n str) -> Option<&'n str> {
     names.split(' ').find(|name| is_near(written, *name))
 }
 
-/// Whether a name that was written is this one but for one letter: a letter more, a letter less or another letter. Each `_` is read
-/// as `-`.
+/// Whether a written name is this one but for one letter: one more, one less or another one. A `_` counts as `-`. Names are compared byte by
+/// byte, so a letter beyond ASCII counts as several.
 pub fn is_near(written: &str, known: &str) -> bool {
     let place = first_difference(written.as_bytes(), known.as_bytes());
     let written = behind(written.as_bytes(), place);
@@ -110,7 +110,7 @@ pub fn is_near(written: &str, known: &str) -> bool {
         || are_same(written, behind(known, 1))
 }
 
-// What stands from a place on; past the end there is nothing.
+// The bytes from a place on, of which there are none past the end.
 fn behind(text: &[u8], place: usize) -> &[u8] {
     text.get(place..).unwrap_or(&[])
 }
@@ -119,7 +119,7 @@ fn are_same(one: &[u8], other: &[u8]) -> bool {
     one.len() == other.len() && first_difference(one, other) == one.len()
 }
 
-// The first place at which they differ, or the length of the shorter one.
+// The first place at which two texts differ, or the length of the shorter one.
 fn first_difference(one: &[u8], other: &[u8]) -> usize {
     let mut place: usize = 0;
     for (mine, its) in one.iter().zip(other) {

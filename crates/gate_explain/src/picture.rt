@@ -1,5 +1,5 @@
-//! A configuration as a graph in Graphviz's language DOT: connections, tenants around their pipelines, and the rules in words on edges
-//! between these.
+//! Draws a configuration as a graph in Graphviz's language DOT: connections, tenants as boxes around their pipelines, and the rules in
+//! words on the edges between.
 mod label;
 
 use crate::document::{Document, Listing, Tenant, manager_word};
@@ -8,7 +8,7 @@ use crate::picture::label::{Line, push_line, push_lines};
 use crate::sentences::RuleSentence;
 use gate_record::ConnId;
 
-// How all is drawn.
+// The settings of the graph: how all of it is drawn.
 const HEAD: &str = "digraph gate {
     rankdir=LR;
     nodesep=0.4;
@@ -51,19 +51,19 @@ fn push_document(out: &mut String, document: &Document<'_>) -> Added {
     Ok(())
 }
 
-// The color of the connection of this number, and of its edges; the scheme has eight.
+// The color of the connection of this number and of its edges. The color scheme has eight colors.
 fn color_of(number: usize) -> usize {
     number % 8 + 1
 }
 
-// Begins a label with a name, in quotes where it isn't plain.
+// Begins a label with a name, which is in quotes where it isn't plain.
 fn push_name(out: &mut String, name: &str) -> Added {
     let alloc = *out.allocator();
     let name = format!(in alloc; "{}", Named(name))?;
     Ok(write!(out, "label=\"{}", Line(name.as_str()))?)
 }
 
-// A tenant is a box around its pipelines. One without pipelines says so, since a box around nothing isn't drawn.
+// Draws a tenant as a box around its pipelines. A tenant without pipelines gets a node that says so, because Graphviz draws no empty box.
 fn push_cluster(out: &mut String, number: usize, tenant: &Tenant<'_>) -> Added {
     write!(out, "\n    subgraph cluster_{number} {{\n        label=\"")?;
     push_heading(out, tenant)?;
@@ -80,7 +80,7 @@ fn push_cluster(out: &mut String, number: usize, tenant: &Tenant<'_>) -> Added {
     Ok(out.push_str("    }\n")?)
 }
 
-// The tenant's name, and how many projects it lists under which connection.
+// Adds the tenant's name, and how many projects it lists under each connection.
 fn push_heading(out: &mut String, tenant: &Tenant<'_>) -> Added {
     let alloc = *out.allocator();
     let heading = format!(in alloc; "Tenant {}", Named(tenant.name))?;
@@ -109,7 +109,7 @@ fn push_edges(out: &mut String, number: usize, tenant: &Tenant<'_>) -> Added {
     Ok(())
 }
 
-// Adds an edge for each rule. Nothing enters from a connection under which no project is listed.
+// Adds an edge for each rule. A connection under which the tenant lists no project gets none, because no event of it enters.
 fn push_edges_between(
     out: &mut String,
     number: usize,

@@ -1,4 +1,4 @@
-//! What the program's words ask for, and what is told for them.
+//! Reads the words of the command line and the files that they name.
 use crate::explaining::{Wanted, explain};
 use crate::fault::Fault;
 use crate::table::push_settings;
@@ -6,7 +6,8 @@ use std::fs;
 use std::io::ErrorKind;
 use std::rt::Files;
 
-/// What is told for the program's words, its name first. All files are read before any is looked into.
+/// The text that the program prints for these words, of which the first is the program's name. All files are read before any is looked
+/// into.
 pub fn told(rt: &(impl Files + AllocGlobal), words: &[String]) -> Result<String, Fault> {
     let alloc = rt.alloc();
     match words_in(words) {
@@ -30,8 +31,8 @@ pub fn told(rt: &(impl Files + AllocGlobal), words: &[String]) -> Result<String,
     }
 }
 
-// An option, if there is one, and the paths of a configuration and a script. A word that begins with `-` is an option, unless it is `-`
-// alone or stands behind `--`.
+// An option, the path of a configuration and the path of a script, each if there is one. A word that begins with `-` is an option, unless
+// it is `-` alone or follows `--`.
 type Words<'w> = (&'w str, Option<&'w str>, Option<&'w str>);
 
 fn words_in(words: &[String]) -> Option<Words<'_>> {
@@ -54,7 +55,7 @@ fn words_in(words: &[String]) -> Option<Words<'_>> {
     Some(found)
 }
 
-// The files at paths that are joined by commas.
+// Reads the files at these paths, which are joined by commas.
 fn files(rt: &(impl Files + AllocGlobal), paths: &str) -> Result<Vec<Vec<u8>>, Fault> {
     let mut files = Vec::new(rt.alloc());
     for path in paths.split(',') {

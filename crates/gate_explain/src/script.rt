@@ -1,4 +1,4 @@
-//! A script, line by line: what each line answered, with names in place of numbers.
+//! Tells what a script does, line by line, with names in place of numbers.
 mod answers;
 mod part;
 mod player;
@@ -12,7 +12,7 @@ use gate_config::Generations;
 use gate_core::read_script_line;
 use gate_line::{first_line, is_skipped};
 
-/// Adds what comes of a script. `Faulty` where a line of it stands for nothing.
+/// Adds what each line of a script did. `Faulty` says that a line stands for nothing.
 pub fn push_script(out: &mut String, gens: &Generations, script: &[u8]) -> Result<(), Fault> {
     out.push_str("\nThe script, line by line:\n")?;
     let mut player = Player::new(*out.allocator(), gens)?;
@@ -49,7 +49,7 @@ fn push_line(
     }
 }
 
-// Adds the number of a line, and as much of it as there is room for, with spaces for control characters.
+// Adds the number of a line and as much of the line as there is room for, with spaces in place of control characters.
 fn push_front(out: &mut String, number: u64, line: &[u8]) -> Added {
     let alloc = *out.allocator();
     let mut text = String::new(alloc);

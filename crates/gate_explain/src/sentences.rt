@@ -1,10 +1,10 @@
-//! What rules ask for, in words.
+//! Says in words what rules ask of an event.
 use crate::names::Quoted;
 use gate_record::Text;
 use gate_rule::{Entry, Rule};
 use std::fmt;
 
-/// What a rule asks of an event: each attribute that it lists, one behind the other.
+/// What a rule asks of an event, as a sentence: each attribute that the rule lists, in turn.
 #[derive(Clone, Copy)]
 pub struct RuleSentence<'r>(pub &'r Rule);
 
@@ -23,14 +23,15 @@ impl fmt::Display for RuleSentence<'_> {
     }
 }
 
-// What is said of a pattern that is to match, and of one that isn't.
+// The words for a pattern that should match, and for a negated one.
 type Words = (&'static str, &'static str);
 
 const AT_FRONT: Words = ("begins with a match of ", "doesn't begin with a match of ");
 
 const WITHIN: Words = ("has a match of ", "has no match of ");
 
-// An attribute that isn't listed asks nothing. What isn't there meets no entry, which goes without saying where none is negated.
+// Writes what an attribute asks. An attribute without entries asks nothing. Where no entry is negated, it goes without saying that an event
+// without the field meets none.
 fn write_attribute<W: fmt::Write>(
     f: &mut fmt::Formatter<W>,
     field: &str,
@@ -47,8 +48,8 @@ fn write_attribute<W: fmt::Write>(
     write_entries(f, words, entries)
 }
 
-// The entries of an attribute, of which one is to be met: patterns together, then each negated one by itself, since "no match of one or
-// of another" would ask for more.
+// Writes the entries of an attribute, of which one is to be met. Patterns stand together, but each negated one stands by itself, because
+// "no match of one or of another" would ask for more.
 fn write_entries<W: fmt::Write>(
     f: &mut fmt::Formatter<W>,
     words: Words,
@@ -72,7 +73,7 @@ fn write_entries<W: fmt::Write>(
     Ok(())
 }
 
-// The approvals, all of which are asked for.
+// Writes the approvals, all of which are asked for.
 fn write_approvals<W: fmt::Write>(
     f: &mut fmt::Formatter<W>,
     approvals: &[(Text, i64)],
@@ -85,7 +86,7 @@ fn write_approvals<W: fmt::Write>(
     Ok(())
 }
 
-// What the rule says of deletions, where it may ask for updates of refs at all.
+// Writes what the rule says of deletions, where it may match updates of refs at all.
 fn write_deletes<W: fmt::Write>(f: &mut fmt::Formatter<W>, rule: &Rule) -> fmt::Result {
     if !rule.event.as_slice().iter().any(may_mean_refs) {
         return Ok(());
@@ -97,8 +98,8 @@ fn write_deletes<W: fmt::Write>(f: &mut fmt::Formatter<W>, rule: &Rule) -> fmt::
     })
 }
 
-// Whether an entry may be met by the type of the updates of refs. A plain word matches at the front of a type where the type
-// begins with it, and its negation is met where it doesn't; any other pattern may match or not.
+// Whether an entry may be met by the type of ref updates. A plain word matches where the type begins with it, and its negation where the
+// type doesn't. Any other pattern may match or not.
 fn may_mean_refs(entry: &Entry) -> bool {
     let pattern = entry.pattern.text();
     !pattern.as_bytes().iter().all(|byte| is_plain(*byte))

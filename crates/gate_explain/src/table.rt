@@ -1,20 +1,20 @@
-//! The table of what stands in a configuration, and of what Zuul reads there and this program doesn't (Zuul's documentation, "Tenant
-//! Configuration", "Pipeline Definition" and "Project").
+//! The table of the keys in a configuration: those that are read, and those that Zuul reads and this program ignores (Zuul's documentation,
+//! "Tenant Configuration", "Pipeline Definition" and "Project").
 use crate::kind::Kind;
 use crate::names::{Added, nearest};
 
-/// A row of the table, about an object or a list of the first kind. Keys have spaces between them.
+/// A row of the table. Its first kind is that of an object or a list. Keys have spaces between them.
 #[derive(Clone, Copy)]
 pub enum Row {
-    /// These keys are read, each with a value of the other kind.
+    /// These keys are read, and their values are of the second kind.
     Read(Kind, &'static str, Kind),
-    /// Any key is read.
+    /// Every key is read, and the values are of the second kind.
     Any(Kind, Kind),
-    /// The items of the list.
+    /// The items of the list are of the second kind.
     Items(Kind, Kind),
-    /// Zuul reads these keys. Here they are ignored, and this follows.
+    /// Zuul reads these keys. This program ignores them, and the text says what follows from that.
     Ignored(Kind, &'static str, &'static str),
-    /// Any other key is ignored, and this follows.
+    /// Any other key is ignored, and the text says what follows from that.
     Others(Kind, &'static str),
 }
 
@@ -49,7 +49,7 @@ macro_rules! rows {
     ($($kind:ident $keys:tt $is:ident $what:tt;)*) => { &[$(row!($kind $keys $is $what)),*] };
 }
 
-/// The table. Of several rows for a key the first counts.
+/// The table. Where several rows have a key, the first counts.
 pub const ROWS: &[Row] = rows! {
     Document "tenants" read Tenants;
     Document "config" read Lists;
@@ -133,7 +133,7 @@ pub const ROWS: &[Row] = rows! {
     ProjectJob any ignored "a job is known by its name alone, and is in each build set of the project";
 };
 
-/// The kind of the value at a key of an object of this kind, if it is read.
+/// The kind of the value at a key of an object of this kind, if the key is read.
 pub fn read_kind(kind: Kind, key: &str) -> Option<Kind> {
     for row in ROWS {
         if let Some(found) = row.read(kind, key) {
@@ -143,7 +143,7 @@ pub fn read_kind(kind: Kind, key: &str) -> Option<Kind> {
     None
 }
 
-/// What follows from a key in an object of this kind, if it is ignored.
+/// What follows from a key in an object of this kind, if the key is ignored.
 pub fn follows_from(kind: Kind, key: &str) -> Option<&'static str> {
     for row in ROWS {
         if let Some(text) = row.ignored(kind, key) {
@@ -177,7 +177,7 @@ fn has(keys: &str, key: &str) -> bool {
     keys.split(' ').any(|name| name == key)
 }
 
-/// The key of an object of this kind that was nearly written.
+/// The known key of an object of this kind to which the written one is close.
 pub fn nearest_key(kind: Kind, written: &str) -> Option<&'static str> {
     for row in ROWS {
         let meant = match row {

@@ -1,4 +1,4 @@
-//! What a configuration says: what each tenant lists, and what each of its pipelines asks for and runs.
+//! Says in words what a configuration says: the projects that each tenant lists, and what each of its pipelines asks for and runs.
 use crate::document::{Document, Listing, Tenant};
 use crate::names::{Added, Quoted, QuotedList};
 use crate::sentences::RuleSentence;
@@ -67,7 +67,7 @@ fn push_pipeline(out: &mut String, tenant: &Tenant<'_>, place: usize) -> Added {
     Ok(())
 }
 
-// The rules for a connection, and the jobs of its projects where there is a rule.
+// Adds the rules of a pipeline for a connection and, where there is a rule, the jobs of the connection's projects.
 fn push_connection(
     out: &mut String,
     tenant: &Tenant<'_>,

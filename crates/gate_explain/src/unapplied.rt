@@ -1,4 +1,4 @@
-//! What a document has that isn't applied, or isn't read at all: a line for each, by its place, with what follows from it.
+//! Finds what a document has that isn't applied or isn't read at all. It prints a line for each, with the place and what follows.
 use crate::document::{Document, Tenant, text_at};
 use crate::kind::Kind;
 use crate::names::{Added, Escaped, Meant, is_near};
@@ -15,7 +15,7 @@ const NO_CONNECTION: &str =
 
 const NO_PIPELINE: &str = "the tenant has no pipeline of this name, so its jobs never run";
 
-/// Adds what of a document isn't applied.
+/// Adds a line for each part of a document that isn't applied.
 pub fn push_unapplied(out: &mut String, document: &Document<'_>) -> Added {
     let mut walk = Walk {
         document,
@@ -30,29 +30,29 @@ pub fn push_unapplied(out: &mut String, document: &Document<'_>) -> Added {
     Ok(write!(out, "What isn't applied, and what follows:\n{lines}")?)
 }
 
-/// A way through a document along the table.
+/// A walk through a document, guided by the table.
 #[derive(Drop)]
 struct Walk<'d, 'v> {
     document: &'d Document<'v>,
-    /// The tenant whose list is gone through.
+    /// The tenant in whose list the walk is.
     tenant: Option<&'d Tenant<'v>>,
-    /// The lines so far.
+    /// The lines printed so far.
     out: String,
 }
 
-/// What is done about a member.
+/// What the walk does about a member of an object.
 #[derive(Clone, Copy)]
 enum Next<'n> {
-    /// Its value is gone through, which is of this kind.
+    /// It goes into the member's value, which is of this kind.
     Enter(Kind),
-    /// This is said of it, with the name that was nearly written.
+    /// It prints this text, with the known name to which the written one is close.
     Tell(&'static str, Option<&'n str>),
-    /// Nothing is to be said.
+    /// It does nothing.
     Skip,
 }
 
 impl<'d, 'v> Walk<'d, 'v> {
-    // Goes through a value of this kind at this place.
+    // Walks through a value of this kind at this place.
     #[cycle(walk)]
     fn value(&mut self, value: &Value, kind: Kind, place: &str) -> Added {
         let kind = kind.of(value);
@@ -93,12 +93,12 @@ impl<'d, 'v> Walk<'d, 'v> {
         Ok(())
     }
 
-    // Adds a line about what stands at a place.
+    // Adds a line about the value at a place.
     fn push(&mut self, place: &str, follows: &str, meant: Option<&str>) -> Added {
         Ok(writeln!(self.out, "  {}: {follows}{}", Escaped(place), Meant(meant))?)
     }
 
-    // What is to be said of a value as a whole, where there is no more to say of what is in it.
+    // The text about a value as a whole, if the walk is not to go into it.
     fn whole(&self, value: &Value, kind: Kind) -> Option<&'static str> {
         match kind {
             Kind::Tenant if text_at(value, "name").is_none() => Some(NO_TENANT_HERE),
@@ -133,7 +133,7 @@ impl<'d, 'v> Walk<'d, 'v> {
         }
     }
 
-    // The rules for a connection.
+    // Decides about the rules for a connection of this name.
     fn connection(&self, name: &str) -> Next<'d> {
         match self.tenant {
             Some(tenant) if !tenant.listings.iter().any(|it| it.name == name) => {
@@ -143,7 +143,7 @@ impl<'d, 'v> Walk<'d, 'v> {
         }
     }
 
-    // What a project has for a pipeline, or a setting of it.
+    // Decides about a key of a project: it names a pipeline or a setting.
     fn part(&self, key: &str) -> Next<'d> {
         let pipelines = match self.tenant {
             Some(tenant) => tenant.pipelines(),
@@ -174,7 +174,7 @@ const PATTERN: &str =
 
 const UNLISTED: &str = "the tenant lists no project of this name, so no event of it enters";
 
-// What is to be said of a project of this name in the list of a tenant.
+// The text about a project of this name in a tenant's list, if there is something to say.
 fn stanza(name: Option<&str>, tenant: Option<&Tenant<'_>>) -> Option<&'static str> {
     match (name, tenant) {
         (None, _) => Some(NAMELESS),
@@ -186,7 +186,7 @@ fn stanza(name: Option<&str>, tenant: Option<&Tenant<'_>>) -> Option<&'static st
 
 const UNKNOWN: &str = "no member of this name is known here, so it is ignored";
 
-// A member that isn't read.
+// Decides about a member that isn't read.
 fn setting(kind: Kind, key: &str) -> Next<'static> {
     match follows_from(kind, key) {
         Some(follows) => Next::Tell(follows, None),

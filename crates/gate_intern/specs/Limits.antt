@@ -1,6 +1,6 @@
--- The number of rows that a batch may have.
+-- The largest batch.
 use Rattle.std.specs.Prelude.{ℕ}
 
--- the events of a batch, as many as a tenant gathers
+-- how many events a batch may have: as many as a tenant gathers
 abbrev pub most_rows : ℕ
 most_rows = 256

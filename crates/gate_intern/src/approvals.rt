@@ -1,3 +1,4 @@
+//! Numbers the distinct approvals of a batch, and writes each event's approvals as numbers.
 ghost use Rattle.std.specs.Prelude.{◌≡◌, ◌++◌, List, [], ◌∷◌, map, IfOk, OnOk};
 ghost use Rattle.std.specs.Option.{option_copied};
 ghost use Rattle.indexmap.specs.IndexSet.{insert_key};
@@ -10,7 +11,7 @@ use indexmap::IndexSet;
 use std::alloc::Global;
 use std::marker::Model;
 
-// The approvals of a batch, each category and vote once.
+// The distinct approvals of a batch: each pair of category and vote once.
 #[derive(Drop)]
 pub(crate) struct Approvals<'e> {
     votes: IndexSet<(&'e str, i64)>,
@@ -25,7 +26,6 @@ impl<'e> Model for Approvals<'e> {
 }
 
 impl<'e> Approvals<'e> {
-    // The approvals of these events.
     pub(crate) fn new(alloc: Global, events: &'e [Shared<Event>]) -> Result<Approvals<'e>, Memory>
         ensures { IfOk result (λ a. a ≡ approvals_of events.now) }
     {
@@ -38,7 +38,7 @@ impl<'e> Approvals<'e> {
         Ok(approvals)
     }
 
-    // The approvals of some events become those of these and one more.
+    // Adds the approvals of one more event.
     fn add_all(&mut self, event: &'e Event) -> Result<(), Memory>
         ensures { OnOk result ((events : List Event) → self.old ≡ approvals_of events → self.new ≡ approvals_of (events ++ event.now ∷ [])) }
     {
@@ -48,7 +48,6 @@ impl<'e> Approvals<'e> {
         Ok(())
     }
 
-    // Puts an approval behind the others, if it isn't among them.
     fn add(&mut self, approval: &'e (Text, i64)) -> Result<(), Memory>
         ensures { OnOk result (self.new ≡ insert_key is_same_vote self.old approval.now) }
     {
@@ -56,7 +55,7 @@ impl<'e> Approvals<'e> {
         Ok(())
     }
 
-    // The cells of the events' approvals, slot after slot.
+    // Returns the cells of the events' approvals, slot after slot.
     pub(crate) fn cells(
         &self,
         alloc: Global,
@@ -86,7 +85,7 @@ impl<'e> Approvals<'e> {
         Ok(())
     }
 
-    // The number of an approval, and 0 of none.
+    // Returns the number of an approval, and 0 if there is none. `Memory` also means that there are more approvals than a `u32` counts.
     pub(crate) fn number(&self, approval: Option<&(Text, i64)>) -> Result<u32, Memory>
         ensures { IfOk result (λ n. n ≡ number_among is_same_vote self.now (option_copied approval.entry)) }
     {
@@ -96,7 +95,7 @@ impl<'e> Approvals<'e> {
         number_of(&self.votes, &vote(approval))
     }
 
-    // The distinct approvals, in order of first appearance.
+    // Returns the distinct approvals, in order of first appearance.
     pub(crate) fn votes(&self) -> &[(&'e str, i64)]
         ensures { map (λ vote. (vote.0.now, vote.1)) result.now ≡ self.now }
     {
@@ -104,7 +103,7 @@ impl<'e> Approvals<'e> {
     }
 }
 
-// As many slots as the fullest event has approvals.
+// The fullest event decides how many slots there are: an event's cells are one for each slot.
 fn slots(events: &[Shared<Event>]) -> usize
     ensures { result ≡ slots_of events.now }
 {
@@ -115,7 +114,6 @@ fn slots(events: &[Shared<Event>]) -> usize
     most
 }
 
-// The category and the vote.
 fn vote(approval: &(Text, i64)) -> (&str, i64)
     ensures { (result.0.now, result.1) ≡ approval.now }
 {

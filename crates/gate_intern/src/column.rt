@@ -1,3 +1,4 @@
+//! Numbers the distinct texts of one field of a batch, and writes each event's text as a number.
 ghost use Rattle.std.specs.Prelude.{◌≡◌, ◌++◌, List, [], ◌∷◌, map, IfOk, OnOk};
 ghost use Rattle.gate_record.specs.declared.event.Event.{Event};
 ghost use Rattle.gate_intern.specs.Columns.{column_at};
@@ -9,7 +10,7 @@ use indexmap::IndexSet;
 use std::alloc::Global;
 use std::marker::Model;
 
-// The texts of a field, each once, and the number of each event's text.
+// The distinct texts of a field, and the number of each event's text. The number is 0 where the event lacks the field.
 #[derive(Drop)]
 pub(crate) struct Column<'e> {
     texts: IndexSet<&'e str>,
@@ -25,7 +26,6 @@ impl<'e> Model for Column<'e> {
 }
 
 impl<'e> Column<'e> {
-    // The column of these events.
     pub(crate) fn new(
         alloc: Global,
         field: Field,
@@ -43,7 +43,7 @@ impl<'e> Column<'e> {
         Ok(column)
     }
 
-    // The column of some events becomes that of these and one more.
+    // Adds one more event's text.
     fn push(&mut self, field: Field, event: &'e Event) -> Result<(), Memory>
         ensures { OnOk result ((events : List Event) → self.old ≡ column_at field events → self.new ≡ column_at field (events ++ event.now ∷ [])) }
     {
@@ -56,14 +56,13 @@ impl<'e> Column<'e> {
         Ok(())
     }
 
-    // The texts, in order of first appearance.
+    // Returns the distinct texts, in order of first appearance.
     pub(crate) fn texts(&self) -> &[&'e str]
         ensures { map (λ text. text.now) result.now ≡ self.now.0 }
     {
         self.texts.as_slice()
     }
 
-    // The number of each event's text.
     pub(crate) fn numbers(&self) -> &[u32]
         ensures { result.now ≡ self.now.1 }
     {

@@ -1,3 +1,4 @@
+//! `Columns`, a batch of events as columns of numbers, over which gate_match asks the rules of a whole batch at once.
 ghost use Rattle.std.specs.Prelude.{◌≡◌, ◌≤◌, ◌%◌, length, map, IfOk, Some};
 ghost use Rattle.gate_intern.specs.Columns.{approval_cells_of, approvals_of, column_at, column_of, columns_of, deletes_of, is_same_vote, number_among, texts_of};
 ghost use Rattle.gate_intern.specs.Limits.{most_rows};
@@ -13,12 +14,12 @@ use std::marker::Model;
 /// The most events that a batch may have.
 pub const MAX_ROWS: usize = 256;
 
-/// The columns of a batch of events: a word for each event. Texts and approvals are borrowed from the events, and contracts
-/// see the events alone, of which all else is made.
+/// The columns of a batch of events, with a word for each event. Texts and approvals are borrowed from the events. Contracts see
+/// a value of this type as the events, since all else is computed from them.
 #[derive(Drop)]
 pub struct Columns<'e> {
     events: &'e [Shared<Event>],
-    // One a field, in the order of `FIELDS`.
+    // There is one column for each field, in the order of `FIELDS`.
     texts: Sequence<Column<'e>>,
     approvals: Approvals<'e>,
     cells: Sequence<u32>,
@@ -39,8 +40,8 @@ impl<'e> Model for Columns<'e> {
 }
 
 impl<'e> Columns<'e> {
-    /// The columns of these events. `Memory` where they find no room, or where there are more different approvals than a
-    /// `u32` counts. Takes time in the texts and in the cells of the approvals.
+    /// Builds the columns of these events, of which there are at most `MAX_ROWS`. `Memory` also means that there are more
+    /// different approvals than a `u32` counts. This takes time in the length of the texts and in the number of approval cells.
     pub fn build(alloc: Global, events: &'e [Shared<Event>]) -> Result<Columns<'e>, Memory>
         requires { length events.now ≤ most_rows }
         ensures { IfOk result (λ columns. columns ≡ events.now) }
@@ -58,7 +59,7 @@ impl<'e> Columns<'e> {
         })
     }
 
-    /// The events that the columns were built of.
+    /// Returns the events that the columns were built of.
     pub fn events(&self) -> &'e [Shared<Event>]
         ensures events { result.now ≡ self.now }
         ensures few { length self.now ≤ most_rows }
@@ -66,7 +67,7 @@ impl<'e> Columns<'e> {
         self.events
     }
 
-    /// How many events there are.
+    /// Returns how many events there are, at most `MAX_ROWS`.
     pub fn rows(&self) -> usize
         ensures rows { result ≡ length self.now }
         ensures few { result ≤ most_rows }
@@ -74,14 +75,14 @@ impl<'e> Columns<'e> {
         self.events.len()
     }
 
-    /// The texts of a field, each once, in order of first appearance.
+    /// Returns the distinct texts of a field, in order of first appearance.
     pub fn texts(&self, field: Field) -> &[&'e str]
         ensures { map (λ text. text.now) result.now ≡ texts_of field self.now }
     {
         self.part(field).texts()
     }
 
-    /// A word for each event: 0 where the field is missing, else one more than the place of its text in `texts`.
+    /// Returns a word for each event: 0 where the event lacks the field, else one more than the place of its text in `texts`.
     pub fn column(&self, field: Field) -> &[u32]
         ensures column { result.now ≡ column_of field self.now }
         ensures len { length result.now ≡ length self.now }
@@ -104,24 +105,25 @@ impl<'e> Columns<'e> {
         }
     }
 
-    /// The approvals of the events, each category and vote once, in order of first appearance.
+    /// Returns the distinct approvals of the events, pairs of category and vote, in order of first appearance.
     pub fn approvals(&self) -> &[(&'e str, i64)]
         ensures { map (λ vote. (vote.0.now, vote.1)) result.now ≡ approvals_of self.now }
     {
         self.approvals.votes()
     }
 
-    /// The number that an approval has in the cells: one more than its place in `approvals`, and one that stands in no cell where
-    /// no event has it. `Memory` where there are too many approvals to be counted.
+    /// Returns the number that stands for an approval in the cells: one more than its place in `approvals`. For an approval that
+    /// no event has, the result is a number that stands in no cell. `Memory` means here that there are more approvals than a
+    /// `u32` counts.
     pub fn approval_number(&self, approval: &(Text, i64)) -> Result<u32, Memory>
         ensures { IfOk result (λ number. number ≡ number_among is_same_vote (approvals_of self.now) (Some approval.now)) }
     {
         self.approvals.number(Some(approval))
     }
 
-    /// The numbers of the events' approvals, slot after slot, `rows` words each: the cell of event `i` in slot `s` is
-    /// `cells[s * rows + i]`, one more than the place of its approval `s` in `approvals`, and 0 where it has fewer. There are
-    /// as many slots as the fullest event has approvals.
+    /// Returns the numbers of the events' approvals, slot after slot, `rows` words each. The cell of event `i` in slot `s` is
+    /// `cells[s * rows + i]`. That cell is one more than the place of the event's approval `s` in `approvals`, and 0 where the
+    /// event has fewer approvals. There are as many slots as the fullest event has approvals.
     pub fn approval_cells(&self) -> &[u32]
         ensures cells { result.now ≡ approval_cells_of self.now }
         ensures whole { length result.now % length self.now ≡ 0 }
@@ -129,7 +131,7 @@ impl<'e> Columns<'e> {
         self.cells.as_slice()
     }
 
-    /// A mask of the events that tell that a ref was deleted.
+    /// Returns a mask of the events that tell that a ref was deleted.
     pub fn deletes(&self) -> &[u32]
         ensures mask { result.now ≡ deletes_of self.now }
         ensures len { length result.now ≡ length self.now }

@@ -1,18 +1,19 @@
+//! The text fields of an event that rules ask for.
 ghost use Rattle.std.specs.Prelude.{◌≡◌, option_map};
 ghost use Rattle.gate_intern.specs.Columns.{field_of};
 
 use gate_record::{Event, Text};
 
-/// A field of an event that a batch has a column of.
+/// A field of an event, for which a batch has a column.
 #[derive(Clone, Copy, Debug, PartialEq, Eq)]
 pub enum Field {
-    /// The event's type, which is never missing.
+    /// The event's type, for example `patchset-created`. No event lacks it.
     Kind,
     /// The project.
     Project,
     /// The branch.
     Branch,
-    /// The ref's name.
+    /// The ref's name, as Gerrit gives it.
     Refname,
     /// The account's username.
     Username,
@@ -22,7 +23,7 @@ pub enum Field {
     Comment,
 }
 
-// All fields.
+// All fields, in the order of a batch's columns.
 pub(crate) const FIELDS: [Field; 7] = [
     Field::Kind,
     Field::Project,
@@ -33,7 +34,6 @@ pub(crate) const FIELDS: [Field; 7] = [
     Field::Comment,
 ];
 
-// The field's text in an event.
 pub(crate) fn text_of<'e>(field: Field, event: &'e Event) -> Option<&'e str>
     ensures { option_map (λ t. t.now) result ≡ field_of field event.now }
 {

@@ -1,7 +1,7 @@
-//! The columns of a batch of events, in which each text is a number: what a rule asks of many events at once is then asked
-//! of whole columns of words.
+//! The columns of a batch of events, in which a number stands for each distinct text. A question of a rule about many events is
+//! then a question about whole columns of words.
 //!
-//! Only `build` takes memory, and none of the calls panics.
+//! Only `build` takes memory, and no call panics.
 #![tactic(auto)]
 
 mod approvals;

@@ -1,4 +1,4 @@
--- What a list of actions leaves, and what is true of it whatever the actions were.
+-- The state after a list of actions, and laws that hold whatever the actions are.
 use Rattle.std.specs.Prelude.{◌≡◌, ◌≤◌, ◌<◌, ◌++◌, ◌⊎◌, ℕ, List, [], ◌∷◌, Bool, true, false, Some, length, nat_eq, slice_get}
 use Rattle.std.specs.List.{filter, list_any}
 use Rattle.gate_record.specs.declared.ids.ManagerKind.{ManagerKind}
@@ -13,7 +13,7 @@ use Rattle.gate_items.specs.declared.item.QueueItem.{QueueItem}
 use Rattle.gate_items.specs.declared.item.Report.{Report}
 use Rattle.gate_items.specs.Machine.{State, apply, has_set}
 
--- no items, and the number of the first build set
+-- the state without items, where `first` is the number of the first build set
 abbrev pub start : ManagerKind → ℕ → State
 start manager first = record { manager = manager; next = first; items = []; reported = [] }
 
@@ -22,17 +22,17 @@ abbrev pub after : State → List Action → State
 after s [] = s
 after s (action ∷ actions) = after (apply s action).0 actions
 
--- an item has this build set
+-- An item has this build set.
 abbrev pub is_current : State → ℕ → Bool
 is_current s set = list_any (has_set set) s.items
 
--- the action is a result of a build set that is no item's
+-- The action is a result of a build set that no item has.
 abbrev pub IsLate : State → Action → Type 0
 IsLate s (action.Result result) = is_current s result.set ≡ false
 IsLate s (action.Trigger key patchset jobs) = ⊥
 IsLate s (action.Manage manage) = ⊥
 
--- the action may be refused memory: it asks for an item, or for a number in the index of an independent pipeline
+-- The action may be refused memory: it is a trigger, or a reset with an independent manager, which enters a number in the index.
 abbrev pub MayTakeMemory : ManagerKind → Action → Type 0
 MayTakeMemory manager (action.Trigger key patchset jobs) = Unit {0}
 MayTakeMemory manager (action.Result result) = ⊥
@@ -40,35 +40,36 @@ MayTakeMemory manager (action.Manage (manage.Dequeue key)) = ⊥
 MayTakeMemory Independent (action.Manage (manage.Reset key)) = Unit {0}
 MayTakeMemory Dependent (action.Manage (manage.Reset key)) = ⊥
 
--- No two items have one build set.
+-- No two items have the same build set.
 abbrev pub EachHasItsOwn : Type 0
 EachHasItsOwn = (manager : ManagerKind) (first : ℕ) (actions : List Action) (set : ℕ) → length (filter (has_set set) (after (start manager first) actions).items) ≤ 1
 
--- the item is an older one, whatever came of its jobs: it has that one's key, patch set and build set
+-- The item is the same as the old one, though its jobs may have got outcomes: it has the same key, patch set and build set.
 abbrev pub IsSame : QueueItem → QueueItem → Type 0
 IsSame old item = (item.key ≡ old.key) × (item.patchset ≡ old.patchset) × (item.set ≡ old.set)
 
--- the item stood there, or has a build set whose number wasn't handed out yet
+-- The item was there already, or has a build set whose number wasn't given out yet.
 abbrev pub IsOldOrNew : State → QueueItem → Type 0
 IsOldOrNew s item = ((place : ℕ) × (old : QueueItem) × (slice_get s.items place ≡ Some old) × IsSame old item) ⊎ (s.next ≤ item.set)
 
--- Each item behind an action stood there before with its build set, or has a new one.
+-- Each item after an action was there before, with the same build set, or has a new build set.
 abbrev pub EachIsOldOrNew : Type 0
 EachIsOldOrNew = (s : State) (action : Action) (place : ℕ) (item : QueueItem) → slice_get (apply s action).0.items place ≡ Some item → IsOldOrNew s item
 
--- A number that was handed out, and is no item's any more, is never handed out again.
+-- A number that was given out, and that no item has any more, never comes again.
 abbrev pub NeverAgain : Type 0
 NeverAgain = (manager : ManagerKind) (first : ℕ) (actions more : List Action) (set : ℕ) →
     set < (after (start manager first) actions).next → is_current (after (start manager first) actions) set ≡ false →
     is_current (after (start manager first) (actions ++ more)) set ≡ false
 
--- A result of a build set that is no item's any more, after whatever actions, changes nothing.
+-- A result of a build set that no item has any more changes nothing, whatever actions came.
 abbrev pub LateResultsAreLost : Type 0
 LateResultsAreLost = (manager : ManagerKind) (first : ℕ) (actions more : List Action) (result : JobResult) →
     result.set < (after (start manager first) actions).next → is_current (after (start manager first) actions) result.set ≡ false →
     apply (after (start manager first) (actions ++ more)) (action.Result result) ≡ (after (start manager first) (actions ++ more), Discarded NotCurrent)
 
--- A build set is cancelled by actions: after some of them it was an item's, and now it is no item's and no report has it.
+-- The build set was cancelled by these actions: after some of them an item had it; after all of them no item has it, and no
+-- report has it.
 pub record IsCancelled (manager : ManagerKind) (first : ℕ) (actions : List Action) (set : ℕ) : Type 0 where
   pub before : List Action
   pub behind : List Action
@@ -77,7 +78,7 @@ pub record IsCancelled (manager : ManagerKind) (first : ℕ) (actions : List Act
   pub gone : is_current (after (start manager first) actions) set ≡ false
   pub unreported : list_any (λ (report : Report). nat_eq report.set set) (after (start manager first) actions).reported ≡ false
 
--- A result of a cancelled build set is discarded, whatever actions came in between, and changes nothing.
+-- A result of a cancelled build set is discarded and changes nothing, whatever actions came in between.
 abbrev pub CancelledChangesNothing : Type 0
 CancelledChangesNothing = (manager : ManagerKind) (first : ℕ) (actions more : List Action) (result : JobResult) → IsCancelled manager first actions result.set →
     apply (after (start manager first) (actions ++ more)) (action.Result result) ≡ (after (start manager first) (actions ++ more), Discarded NotCurrent)

@@ -1,4 +1,4 @@
--- The items of a pipeline, whichever way they are kept.
+-- The items of a pipeline, in whichever of the two ways they are kept.
 use Rattle.std.specs.Prelude.{List}
 use Rattle.gate_items.specs.declared.item.QueueItem.{QueueItem}
 use Rattle.gate_items.specs.declared.items.Kept.{Kept}
@@ -13,7 +13,7 @@ abbrev pub state_of : Kept → State
 state_of (kept.Ordered s) = s
 state_of (kept.Indexed s) = s
 
--- what is still to come of a pipeline's items
+-- the items that an iterator has still to give
 abbrev pub rest_of : Rest → List QueueItem
 rest_of (rest.Ordered items) = items_of (deque_iter_rest items)
 rest_of (rest.Indexed items) = items

@@ -1,4 +1,4 @@
--- An order of keys, by which an index finds them: its laws, and that it ties the keys that are the same.
+-- The order of keys by which a map finds them, with its laws. Only the same key ties with a key.
 use Rattle.std.specs.Prelude.{ℕ, ℤ, pos, List, []}
 use Rattle.std.specs.Cmp.{IsTotalOrder, int_cmp_total, nat_cmp_total, on_total, then_total}
 use Rattle.std.specs.Cmp.Lexicographic.{slice_cmp}
@@ -32,7 +32,7 @@ abbrev pub newrev_of : Key → List ℕ
 newrev_of (key.Change conn number) = []
 newrev_of (key.Ref conn project refname newrev) = newrev
 
--- changes before refs, each by their fields in turn
+-- Changes come before refs; keys of one kind are compared field by field.
 abbrev pub key_cmp : Key → Key → Ordering
 key_cmp =
     then_cmp (on kind_of nat_cmp)

@@ -1,4 +1,4 @@
--- The items of a pipeline, and what an action makes of them.
+-- The items of a pipeline, and what each action does to them.
 use Rattle.std.specs.Prelude.{int_lt, ◌+◌, ◌^◌, ◌&&◌, ℕ, ℤ, List, [], ◌∷◌, ◌++◌, Bool, false, not, length, map, nat_eq, nat_lt, Option, Some, None, is_some, if◌then◌else◌}
 use Rattle.std.specs.List.{filter, find, list_all, list_any}
 use Rattle.std.specs.Ordering.{int_eq}
@@ -18,7 +18,7 @@ use Rattle.gate_items.specs.declared.item.Report.{Report}
 use Rattle.gate_items.specs.declared.key.Key.{Key}
 use Rattle.gate_items.specs.Keys.{is_same}
 
--- a pipeline's items, first to last, what was reported, and the number that the next build set has
+-- The items of a pipeline from first to last, the reports of the items that left, and the number that the next build set gets.
 pub record State : Type 0 where
   pub manager : ManagerKind
   pub next : ℕ
@@ -31,16 +31,16 @@ pub record State : Type 0 where
 abbrev pub open_job : List ℕ × Option Bool → List ℕ × Option Bool
 open_job job = (job.0, None)
 
--- the item with a new build set of this number
+-- the item with a new build set of this number, whose jobs have no outcome
 abbrev pub with_set : ℕ → QueueItem → QueueItem
 with_set set item = record { key = item.key; patchset = item.patchset; set = set; jobs = map open_job item.jobs }
 
--- new build sets, from front to back
+-- the items with new build sets, numbered in order from `next`
 abbrev pub renewed : ℕ → List QueueItem → List QueueItem
 renewed next [] = []
 renewed next (item ∷ items) = with_set next item ∷ renewed (next + 1) items
 
--- what stands behind a removal, a reset or a failure, and how many build sets it gets
+-- the items behind a removal, a reset or a failure; `sets_behind` is how many new build sets they get
 abbrev pub behind_it : ManagerKind → ℕ → List QueueItem → List QueueItem
 behind_it Independent next items = items
 behind_it Dependent next items = renewed next items
@@ -49,7 +49,7 @@ abbrev pub sets_behind : ManagerKind → List QueueItem → ℕ
 sets_behind Independent items = 0
 sets_behind Dependent items = length items
 
--- an item of a trigger, whose jobs have no outcome
+-- the item of a trigger, whose jobs have no outcome
 abbrev pub new_item : Key → ℤ → ℕ → List (List ℕ) → QueueItem
 new_item key patchset set jobs = record { key = key; patchset = patchset; set = set; jobs = map (λ job. (job, None)) jobs }
 
@@ -59,7 +59,7 @@ is_of key item = is_same item.key key
 abbrev pub has_set : ℕ → QueueItem → Bool
 has_set set item = nat_eq item.set set
 
--- what stands before the first item that is meant, and what behind it
+-- the items before the first one that passes the test; `behind` has the items behind that one
 abbrev pub before : (QueueItem → Bool) → List QueueItem → List QueueItem
 before test [] = []
 before test (item ∷ items) = if test item then [] else item ∷ before test items
@@ -80,7 +80,7 @@ has_failed (name, None) = false
 abbrev pub has_ended : List ℕ × Option Bool → Bool
 has_ended job = is_some job.1
 
--- each job has an outcome
+-- Each job of the item has an outcome.
 abbrev pub is_complete : QueueItem → Bool
 is_complete item = list_all has_ended item.jobs
 
@@ -90,7 +90,7 @@ record_at name success job = if is_job name job then (job.0, Some success) else 
 abbrev pub with_outcome : List ℕ → Bool → QueueItem → QueueItem
 with_outcome name success item = record { key = item.key; patchset = item.patchset; set = item.set; jobs = map (record_at name success) item.jobs }
 
--- the job fails, and it is the first that does in its build set
+-- The outcome is a failure, and no job of the build set has failed before.
 abbrev pub is_first_failure : Bool → QueueItem → Bool
 is_first_failure success item = not success && not (list_any has_failed item.jobs)
 
@@ -99,7 +99,8 @@ is_first_failure success item = not success && not (list_any has_failed item.job
 abbrev pub report_of : QueueItem → Report
 report_of item = record { key = item.key; patchset = item.patchset; set = item.set; success = not (list_any has_failed item.jobs) }
 
--- the items that are reported: with an independent manager each complete one, else those at the head
+-- The items that leave with a report: `leaving` are all complete items with an independent manager, and only those at the head
+-- with a dependent one. `head_of` are the complete items at the head, and `rest_of` the items behind these.
 abbrev pub head_of : List QueueItem → List QueueItem
 head_of [] = []
 head_of (item ∷ items) = if is_complete item then item ∷ head_of items else []
@@ -118,12 +119,13 @@ staying Dependent items = rest_of items
 
 -- ---- actions
 
--- an action is refused, or leaves these items before reports, having handed out so many numbers
+-- An action is discarded for a reason, or makes these items, before any are reported, and gives out so many numbers of build
+-- sets.
 pub data Plan : Type 0 where
   Refuses : (why : Discard) → Plan
   Makes : (items : List QueueItem) → (sets : ℕ) → Plan
 
--- an older patch set's item is taken out, and the new one goes last
+-- The older patch set's item is taken out, and the new item goes last.
 abbrev pub replacing : State → Key → ℤ → List (List ℕ) → QueueItem → Plan
 replacing s key patchset jobs item =
     if int_eq patchset item.patchset then Refuses Known
@@ -142,7 +144,7 @@ triggered s None patchset jobs = Refuses NoKey
 triggered s (Some key) patchset [] = Refuses NoJobs
 triggered s (Some key) patchset (job ∷ jobs) = placing s key patchset (job ∷ jobs) (find (is_of key) s.items)
 
--- an outcome is recorded, and the first failure renews what stands behind
+-- The outcome is recorded. The first failure of an item renews the items behind it.
 abbrev pub recorded : State → JobResult → QueueItem → Plan
 recorded s result item =
     if is_first_failure result.success item then Makes
@@ -179,7 +181,8 @@ plan s (action.Result result) = resulted s result (find (has_set result.set) s.i
 plan s (action.Manage (manage.Dequeue key)) = dequeued s key (find (is_of key) s.items)
 plan s (action.Manage (manage.Reset key)) = reset s key (find (is_of key) s.items)
 
--- the numbers suffice where one is left behind those that are handed out; then complete items are reported and leave
+-- The state after a plan. A plan is carried out only if the next number after those that it gives out still fits a `u64`.
+-- Complete items are then reported and leave.
 abbrev pub after_plan : State → Plan → State × Outcome
 after_plan s (Refuses why) = (s, Discarded why)
 after_plan s (Makes items sets) =
@@ -193,6 +196,6 @@ after_plan s (Makes items sets) =
       Applied,
     ) else (s, Discarded Numbers)
 
--- what an action leaves, and what comes of it
+-- the state after an action, and the action's outcome
 abbrev pub apply : State → Action → State × Outcome
 apply s action = after_plan s (plan s action)

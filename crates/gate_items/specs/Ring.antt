@@ -1,9 +1,9 @@
--- Items one behind another, as contracts see them, and how their numbers and the index of their keys agree with them.
+-- The items of a ring, as contracts see them.
 use Rattle.std.specs.Prelude.{List, map}
 use Rattle.gate_items.specs.declared.item.QueueItem.{QueueItem}
 use Rattle.gate_items.specs.declared.ring.Numbered.{Numbered}
 
--- the items, their build sets, and each number with its key
+-- the item, without its number; `items_of` has those of a list
 abbrev pub item_of : Numbered → QueueItem
 item_of entry = entry.item
 

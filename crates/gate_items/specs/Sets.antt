@@ -21,23 +21,23 @@ use Rattle.gate_items.specs.Machine.{State, apply, has_set, is_of}
 
 -- ---- of one action, by the state before it and the state that it leaves
 
--- the items with the numbers that were handed out in between, by their numbers
+-- the items whose build sets have numbers that were given out between the two states, by number
 abbrev pub begun : State → State → List QueueItem
 begun s s' = filter_map (λ set. find (has_set set) s'.items) (range_with_len s.next (s'.next - s.next))
 
--- what was reported in between
+-- the reports that were made between the two states
 abbrev pub reported : State → State → List Report
 reported s s' = drop (length s.reported) s'.reported
 
--- a report has this build set
+-- One of the reports has this build set.
 abbrev pub has_report : List Report → ℕ → Bool
 has_report reports set = list_any (λ (report : Report). nat_eq report.set set) reports
 
--- the build set is no item's any more, and wasn't reported in between
+-- No item has the build set any more, and it wasn't reported between the two states.
 abbrev pub is_lost : State → State → ℕ → Bool
 is_lost s s' set = not (is_current s' set) && not (has_report (reported s s') set)
 
--- the items whose build sets were cancelled in between, from front to back
+-- the items whose build sets were cancelled between the two states, from front to back
 abbrev pub cancelled : State → State → List QueueItem
 cancelled s s' = filter (λ item. is_lost s s' item.set) s.items
 
@@ -68,9 +68,9 @@ how_often set sets = count_by (λ other. nat_eq other set) sets
 abbrev pub ends : ℕ → State → List Action → ℕ
 ends set s actions = how_often set (all_cancelled s actions) + how_often set (all_reported s actions)
 
--- Whatever the actions: each build set that is an item's after some of them begins once and no more; it is cancelled or reported
--- once at the most, and only by an action before which it was an item's. Those that are cancelled are the cancelled ones, and a
--- result of a build set that was cancelled or reported changes nothing.
+-- Whatever the actions are: each build set that an item has after some of them begins exactly once. It is cancelled or reported
+-- at most once, and only by an action before which an item had it. The build sets that are cancelled are those that `IsCancelled`
+-- says. A result of a build set that was cancelled or reported changes nothing.
 pub record EachBeginsAndEndsOnce : Type 0 where
   pub begins : (manager : ManagerKind) (first : ℕ) (actions more : List Action) (set : ℕ) → is_current (after (start manager first) actions) set ≡ true →
       how_often set (all_begun (start manager first) (actions ++ more)) ≡ 1
@@ -85,31 +85,31 @@ pub record EachBeginsAndEndsOnce : Type 0 where
 
 -- ---- of one action, by what it asks for
 
--- the key of the item that the action is for; a result names none
+-- the key that the action names; a result names none
 abbrev pub key_meant : Action → Option Key
 key_meant (action.Trigger key patchset jobs) = key
 key_meant (action.Result result) = None
 key_meant (action.Manage (manage.Dequeue key)) = Some key
 key_meant (action.Manage (manage.Reset key)) = Some key
 
--- the build set of a key's item, if there is one
+-- the build set of a key's item, if the key has one
 abbrev pub set_under : State → Key → Option ℕ
 set_under s key = option_map (λ (item : QueueItem). item.set) (find (is_of key) s.items)
 
--- An action of a dependent pipeline, by the build sets of its items from front to back. Those before it are those that it reports,
--- those that stay and those that it cancels; those behind it are the ones that stay, and then the new ones. Where it is for a key and
--- is applied, that key's is the first that is cancelled.
+-- An action of a dependent pipeline, told by the build sets of the items from front to back. The build sets before the action are
+-- those that it reports, those that stay, and those that it cancels. The build sets after it are those that stay, and then the
+-- new ones. If the action names a key and is applied, the build set of that key's item is the first that is cancelled.
 pub record QueueGoes (s : State) (action : Action) (end : State × Outcome) : Type 0 where
   pub stay : List ℕ
   pub before : sets_of s.items ≡ reported_sets (reported s end.0) ++ (stay ++ sets_of (cancelled s end.0))
   pub behind : sets_of end.0.items ≡ stay ++ range_with_len s.next (end.0.next - s.next)
   pub first : (key : Key) → key_meant action ≡ Some key → end.1 ≡ Applied → set_under s key ≡ slice_get (sets_of (cancelled s end.0)) 0
 
--- Whatever the actions before it were.
+-- `QueueGoes` holds of each action, whatever the actions before it were.
 abbrev pub QueuesGo : Type 0
 QueuesGo = (first : ℕ) (actions : List Action) (action : Action) → QueueGoes (after (start Dependent first) actions) action (apply (after (start Dependent first) actions) action)
 
--- The same of a key's item, behind an action of an independent pipeline that was applied and these reports.
+-- the build set of key `other`'s item after an action of an independent pipeline that was applied and made these reports
 abbrev pub set_behind : State → Action → List Report → Key → Option ℕ
 set_behind s (action.Trigger None patchset jobs) reports other = set_under s other
 set_behind s (action.Trigger (Some key) patchset jobs) reports other = if is_same key other then Some s.next else set_under s other
@@ -117,17 +117,17 @@ set_behind s (action.Result result) reports other = if list_any (λ (report : Re
 set_behind s (action.Manage (manage.Dequeue key)) reports other = if is_same key other then None else set_under s other
 set_behind s (action.Manage (manage.Reset key)) reports other = if is_same key other then Some s.next else set_under s other
 
--- An action of an independent pipeline cancels the build set of the item that it is for, if there is one, and no other; and each
--- other key's item keeps its own.
+-- An action of an independent pipeline cancels the build set of the item whose key it names, if there is one, and no other. After
+-- it, each key has the build set that `set_behind` says.
 pub record KeysGo (s : State) (action : Action) (s' : State) : Type 0 where
   pub cancels : sets_of (cancelled s s') ≡ option_to_list (option_and_then (set_under s) (key_meant action))
   pub under : (key : Key) → set_under s' key ≡ set_behind s action (reported s s') key
 
--- Whatever the actions before it were, where it is applied.
+-- `KeysGo` holds of each action that is applied, whatever the actions before it were.
 abbrev pub EachKeyGoes : Type 0
 EachKeyGoes = (first : ℕ) (actions : List Action) (action : Action) → (apply (after (start Independent first) actions) action).1 ≡ Applied →
     KeysGo (after (start Independent first) actions) action (apply (after (start Independent first) actions) action).0
 
--- An action that is discarded leaves all as it was.
+-- An action that is discarded leaves the state as it was.
 abbrev pub DiscardsChangeNothing : Type 0
 DiscardsChangeNothing = (s : State) (action : Action) (why : Discard) → (apply s action).1 ≡ Discarded why → (apply s action).0 ≡ s

@@ -1,4 +1,4 @@
--- What is printed for why an action is discarded.
+-- The word that is printed for each reason why an action is discarded.
 use Rattle.std.specs.Prelude.{ℕ, List, codes}
 use Rattle.gate_items.specs.declared.action.Discard.{Discard}
 use Rattle.gate_items.specs.declared.action.Discard.TheVariants.{NoKey, NoJobs, Known, Older, NotCurrent, NoJob, Repeated, NoItem, Numbers}

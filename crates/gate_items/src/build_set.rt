@@ -1,3 +1,4 @@
+//! Gives items new build sets: a new number, and all jobs without an outcome.
 ghost use Rattle.std.specs.Prelude.{◌≡◌, ◌+◌, ◌^◌, ◌<◌, ◌≤◌, length, map, take, drop, ◌++◌, slice_set, slice_index_or};
 ghost use Rattle.std.specs.VecDeque.{deque_len};
 ghost use Rattle.gate_items.specs.Inner.Ring.{numbered_set, renumbered};
@@ -11,7 +12,7 @@ use std::alloc::Global;
 use std::collections::VecDeque;
 use std::mem;
 
-// The jobs, each without an outcome.
+// Takes the outcomes of the jobs away.
 fn opened(jobs: Sequence<Build>) -> Sequence<Build>
     ensures { result ≡ map open_job jobs }
 {
@@ -23,7 +24,7 @@ fn opened(jobs: Sequence<Build>) -> Sequence<Build>
     Sequence::new(jobs)
 }
 
-// Gives an item a new build set, without memory.
+// Gives an item a new build set. It takes no memory.
 pub(crate) fn renew(item: &mut QueueItem, alloc: Global, set: u64)
     ensures { item.new ≡ with_set set item.old }
 {
@@ -32,7 +33,7 @@ pub(crate) fn renew(item: &mut QueueItem, alloc: Global, set: u64)
     item.set = set;
 }
 
-// Gives the item at a place a new build set, without memory.
+// Gives the item at a place a new build set. It takes no memory.
 fn renew_at(items: &mut VecDeque<Numbered>, place: usize, set: u64)
     requires { place < deque_len items.old }
     ensures items { (d : Entry) → items.new.items ≡ slice_set items.old.items place (numbered_set set (slice_index_or items.old.items place d)) }
@@ -43,7 +44,8 @@ fn renew_at(items: &mut VecDeque<Numbered>, place: usize, set: u64)
     renew(&mut entry.item, alloc, set);
 }
 
-// Gives the items from a place on new build sets, without memory, and tells which number comes next.
+// Gives the items from a place on new build sets, numbered in order from `next`, and returns the number that comes next. It takes
+// no memory.
 pub(crate) fn renew_from(items: &mut VecDeque<Numbered>, from: usize, next: u64) -> u64
     requires place { from ≤ deque_len items.old }
     requires numbers { next + length (drop from items.old.items) < 2 ^ 64 }

@@ -1,3 +1,4 @@
+//! `Index`, the items of an independent pipeline, found by their key and by their build set in logarithmic time.
 ghost use Rattle.std.specs.Prelude.{◌≡◌, cond, ℕ, None, Some, OnOk, OnErr, IfSome, OnSome, ◌+◌, length, List, []};
 ghost use Rattle.std.specs.BTreeMap.{get, insert_entry, is_at};
 ghost use Rattle.std.specs.Map.{remove_entry, set_value};
@@ -17,8 +18,8 @@ use gate_record::Memory;
 use std::alloc::Global;
 use std::collections::BTreeMap;
 
-// Items by their place, and the place of each key's and of each build set's item. Places rise along the list, and none
-// is used again.
+// The items by place, and the place of each key's and of each build set's item. Later items have higher places, and no place is
+// used twice.
 #[derive(Drop)]
 pub(crate) struct Index {
     pub(crate) items: BTreeMap<u64, QueueItem>,
@@ -27,7 +28,7 @@ pub(crate) struct Index {
 }
 
 impl Index {
-    // Nothing. It takes no memory.
+    // Returns an index without items. It takes no memory.
     pub(crate) fn new(alloc: Global) -> Index
         ensures items { result.items.entries ≡ [] }
         ensures keys { result.by_key.entries ≡ [] }
@@ -40,21 +41,19 @@ impl Index {
         }
     }
 
-    // The place of the item of a key.
     pub(crate) fn place_of_key(&self, key: &Key) -> Option<u64>
         ensures { result ≡ get key_cmp self.now.by_key key.now }
     {
         self.by_key.get(key).copied()
     }
 
-    // The place of the item with a build set.
     pub(crate) fn place_of_set(&self, set: u64) -> Option<u64>
         ensures { result ≡ get nat_cmp self.now.by_set set }
     {
         self.by_set.get(&set).copied()
     }
 
-    // Why a trigger is discarded where its key's item is at this place, if it is.
+    // Returns why a trigger is discarded, if it is. `older` is the place of the item that the trigger's key has already.
     pub(crate) fn why_not(&self, older: Option<u64>, patchset: i64) -> Option<Discard>
         ensures { result ≡ cause patchset (standing older (get nat_cmp self.now.items)) }
     {
@@ -63,7 +62,7 @@ impl Index {
         item.why_not(patchset)
     }
 
-    // Takes the item at a place out.
+    // Takes the item at a place out, with its key and its build set.
     pub(crate) fn take_out(&mut self, place: u64) -> Option<QueueItem>
         ensures value { result ≡ get nat_cmp self.old.items place }
         ensures items { self.new.items.entries ≡ remove_entry (is_at (nat_cmp place)) self.old.items.entries }
@@ -77,7 +76,7 @@ impl Index {
         Some(item)
     }
 
-    // Puts an item at a place, as its key's. `Memory` where it finds no room, and then all is found as before.
+    // Puts an item at a free place. Its key and its build set find it there.
     fn put(&mut self, place: u64, key: Key, item: QueueItem) -> Result<(), Memory>
         requires place { get nat_cmp self.old.items place ≡ None }
         requires set { get nat_cmp self.old.by_set item.set ≡ None }
@@ -99,7 +98,7 @@ impl Index {
         }
     }
 
-    // The same, but for the build set.
+    // Does as `put`, but doesn't enter the build set.
     fn put_item(&mut self, place: u64, key: Key, item: QueueItem) -> Result<(), Memory>
         requires place { get nat_cmp self.old.items place ≡ None }
         ensures items { OnOk result (self.new.items.entries ≡ insert_entry nat_cmp self.old.items.entries place item) }
@@ -118,8 +117,7 @@ impl Index {
         }
     }
 
-    // Puts an item at a place, and takes out the older one of its key, if there is one. `Memory` where it finds no room,
-    // and then all is found as before.
+    // Puts an item at a free place, and then drops the older item of its key, if there is one.
     pub(crate) fn replace(
         &mut self,
         older: Option<u64>,
@@ -144,7 +142,7 @@ impl Index {
         }
     }
 
-    // Takes the item at a place out, whose key another has.
+    // Drops the item at a place, whose key already finds a newer item.
     fn drop_item(&mut self, place: u64)
         ensures items { self.new.items.entries ≡ remove_entry (is_at (nat_cmp place)) self.old.items.entries }
         ensures keys { self.new.by_key ≡ self.old.by_key }
@@ -158,7 +156,7 @@ impl Index {
         }
     }
 
-    // Gives the item at a place a new build set. `Memory` where its number finds no room, and then nothing has changed.
+    // Gives the item at a place a new build set. Only the entry of its number takes memory.
     pub(crate) fn renumber(&mut self, alloc: Global, place: u64, set: u64) -> Result<(), Memory>
         ensures items { OnOk result ((item : Item) → get nat_cmp self.old.items place ≡ Some item → self.new.items.entries ≡ set_value (is_at (nat_cmp place)) self.old.items.entries (with_set set item)) }
         ensures keys { self.new.by_key ≡ self.old.by_key }
@@ -177,7 +175,7 @@ impl Index {
         }
     }
 
-    // Records an outcome in the item at a place, without memory, and tells whether each of its jobs has one now.
+    // Records a job's outcome in the item at a place, and returns whether all jobs of the item have one now. It takes no memory.
     pub(crate) fn record(&mut self, alloc: Global, place: u64, ended: &JobResult) -> bool
         ensures items { (item : Item) → get nat_cmp self.old.items place ≡ Some item → self.new.items.entries ≡ set_value (is_at (nat_cmp place)) self.old.items.entries (with_outcome ended.now.job ended.now.success item) }
         ensures complete { (item : Item) → get nat_cmp self.old.items place ≡ Some item → result ≡ is_complete (with_outcome ended.now.job ended.now.success item) }

@@ -1,3 +1,4 @@
+//! `Indexed`, the items of a pipeline with an independent manager.
 ghost use Rattle.std.specs.Prelude.{◌≡◌, ◌<◌, OnErr, length, option_map};
 ghost use Rattle.std.specs.List.{find};
 ghost use Rattle.gate_items.specs.History.{MayTakeMemory, is_current, start};
@@ -15,13 +16,14 @@ use gate_record::{ManagerKind, Memory, Sequence, Text};
 use std::alloc::Global;
 use std::marker::Model;
 
-// The items of a pipeline with an independent manager. Each waits for an outcome: one that is complete leaves at once.
+// The items of a pipeline with an independent manager. Each item still waits for an outcome, since a complete item leaves at
+// once.
 #[derive(Drop)]
 pub(crate) struct Indexed {
     next: u64,
     // The place of an item is the number of its first build set.
     index: Index,
-    // There is room for a report of each item, so that an item leaves without memory.
+    // Room for a report of each item is reserved, so that an item leaves without memory.
     reported: Vec<Report>,
 }
 
@@ -42,7 +44,6 @@ impl Model for Indexed {
 }
 
 impl Indexed {
-    // No items.
     pub(crate) fn new(alloc: Global, first_set: u64) -> Indexed
         ensures { result ≡ start ManagerKind.Independent first_set }
     {
@@ -53,35 +54,32 @@ impl Indexed {
         }
     }
 
-    // The items, one after another from the first.
+    // Returns the items, in the order in which they came.
     pub(crate) fn items(&self) -> QueueItems<'_>
         ensures { result ≡ self.now.items }
     {
         QueueItems::of_values(self.index.items.values())
     }
 
-    // How many items there are.
     pub(crate) fn len(&self) -> usize
         ensures { result ≡ length self.now.items }
     {
         self.index.items.len()
     }
 
-    // What was reported, first to last.
+    // Returns the reports, in the order in which the items left.
     pub(crate) fn reported(&self) -> &[Report]
         ensures { result.now ≡ self.now.reported }
     {
         self.reported.as_slice()
     }
 
-    // Whether an item has this build set.
     pub(crate) fn current(&self, set: u64) -> bool
         ensures { result ≡ is_current self.now set }
     {
         self.index.place_of_set(set).is_some()
     }
 
-    // The item with this build set.
     pub(crate) fn item(&self, set: u64) -> Option<&QueueItem>
         ensures { option_map (λ item. item.now) result ≡ find (has_set set) self.now.items }
     {
@@ -91,14 +89,13 @@ impl Indexed {
         }
     }
 
-    // The number that the next build set gets.
     pub(crate) fn next_set(&self) -> u64
         ensures { result ≡ self.now.next }
     {
         self.next
     }
 
-    // Does what an action asks for, and then reports.
+    // Applies an action, or discards it. Items that are complete after it are reported and leave.
     pub(crate) fn carry_out(&mut self, action: &Action) -> Result<Outcome, Memory>
         ensures does { Does self.old (apply self.old action.now) self.new result }
         ensures takes { OnErr result (MayTakeMemory self.old.manager action.now) }
@@ -143,7 +140,7 @@ impl Indexed {
         Ok(Outcome::Applied)
     }
 
-    // Records the outcome of a job, and reports its item if that is complete then.
+    // Records the outcome of a job, and reports the job's item if that is complete now.
     fn result(&mut self, ended: &JobResult) -> Outcome
         ensures { (self.new, result) ≡ after_plan self.old (resulted self.old ended.now (find (has_set ended.now.set) self.old.items)) }
     {
@@ -169,7 +166,7 @@ impl Indexed {
         Outcome::Applied
     }
 
-    // An item of a key goes last, and an older one of the key is taken out.
+    // Puts an item of the key last, and drops the older item of the key. Discards the trigger if it has no key or no job.
     fn trigger(
         &mut self,
         key: &Option<Key>,
@@ -188,7 +185,7 @@ impl Indexed {
         self.place(key, patchset, jobs)
     }
 
-    // The same where there is a job.
+    // Does as `trigger`, for a trigger that has a key and a job.
     fn place(&mut self, key: &Key, patchset: i64, jobs: &Sequence<Text>) -> Result<Outcome, Memory>
         requires { 0 < length jobs.now }
         ensures does { Does self.old (after_plan self.old (placing self.old key.now patchset jobs.now (find (is_of key.now) self.old.items))) self.new result }

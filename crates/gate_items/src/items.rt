@@ -1,3 +1,4 @@
+//! `Items`, the queue items of one pipeline, and the actions on them.
 ghost use Rattle.std.specs.Prelude.{◌≡◌, OnErr, false, ◌<◌, ◌≤◌, ℕ, length, option_map};
 ghost use Rattle.std.specs.List.{find};
 ghost use Rattle.gate_items.specs.History.{IsLate, MayTakeMemory, is_current, start};
@@ -13,18 +14,18 @@ use gate_record::{ManagerKind, Memory};
 use std::alloc::Global;
 use std::marker::Model;
 
-/// The items of a pipeline, first to last, and what was reported. Contracts see the manager, the number of the next
-/// build set and the two lists.
+/// The queue items of a pipeline, from first to last, and the reports of those that left. Contracts see the manager, the number
+/// that the next build set gets, the items and the reports.
 ///
-/// An item is found by its key and by its build set in logarithmic time, and a reported item leaves without moving
-/// others. With an independent manager each call takes logarithmic time in the items; with a dependent one a removal, a
-/// reset or a first failure takes time in the items that stand behind it, which get new build sets.
+/// An item is found by its key and by its build set in logarithmic time, and a reported item leaves without moving others. With
+/// an independent manager, each call takes logarithmic time in the number of items. With a dependent manager, a removal, a reset
+/// or a first failure takes time in the number of items behind it, which get new build sets.
 #[derive(Drop)]
 pub struct Items {
     kept: Kept,
 }
 
-// How the items are kept: in a map by their places with an independent manager, in a list with a dependent one.
+// The two ways to keep items: a ring with a dependent manager, and a map by place with an independent one.
 #[derive(Drop)]
 pub(crate) enum Kept {
     Ordered(Ordered),
@@ -41,7 +42,7 @@ impl Model for Items {
 }
 
 impl Items {
-    /// No items, for a manager; build sets are numbered from `first_set` on. It takes no memory.
+    /// Returns an empty list of items for a pipeline with this manager. Build sets are numbered from `first_set` on. It takes no memory.
     pub fn new(alloc: Global, manager: ManagerKind, first_set: u64) -> Items
         ensures { result ≡ start manager first_set }
     {
@@ -52,9 +53,9 @@ impl Items {
         Items { kept }
     }
 
-    /// Does what an action asks for, or discards it. A trigger takes memory, for its item and that item's report, and
-    /// so does a reset with an independent manager, for the number of the build set in the index; nothing else does.
-    /// `Memory` where it finds none, and then nothing has changed.
+    /// Applies an action, or discards it. A trigger needs memory for its item and that item's report. A reset with an independent
+    /// manager needs memory for the number of the build set in the index. Other actions, and actions that are discarded, need
+    /// none.
     pub fn apply(&mut self, action: &Action) -> Result<Outcome, Memory>
         ensures does { Does self.old (apply self.old action.now) self.new result }
         ensures rises { self.old.next ≤ self.new.next }
@@ -66,7 +67,7 @@ impl Items {
         self.carry_out(action)
     }
 
-    /// The items, one after another from the first.
+    /// Returns the items, from the first to the last.
     pub fn items(&self) -> QueueItems<'_>
         ensures { result ≡ self.now.items }
     {
@@ -76,7 +77,7 @@ impl Items {
         }
     }
 
-    /// How many queue items there are.
+    /// Returns how many items there are.
     pub fn len(&self) -> usize
         ensures { result ≡ length self.now.items }
     {
@@ -86,7 +87,7 @@ impl Items {
         }
     }
 
-    /// What was reported, first to last.
+    /// Returns the reports, in the order in which the items left.
     pub fn reported(&self) -> &[Report]
         ensures { result.now ≡ self.now.reported }
     {
@@ -96,7 +97,7 @@ impl Items {
         }
     }
 
-    /// Whether an item has this build set.
+    /// Returns whether an item has this build set.
     pub fn current(&self, set: u64) -> bool
         ensures { result ≡ is_current self.now set }
     {
@@ -106,7 +107,7 @@ impl Items {
         }
     }
 
-    /// The item with this build set, if there is one.
+    /// Returns the item with this build set, if there is one.
     pub fn item(&self, set: u64) -> Option<&QueueItem>
         ensures { option_map (λ item. item.now) result ≡ find (has_set set) self.now.items }
     {
@@ -116,7 +117,7 @@ impl Items {
         }
     }
 
-    /// The number that the next build set gets: each that was handed out is less.
+    /// Returns the number that the next build set gets. It is greater than the number of each build set that began.
     pub fn next_set(&self) -> u64
         ensures { result ≡ self.now.next }
     {
@@ -126,7 +127,6 @@ impl Items {
         }
     }
 
-    // Does what an action asks for, in either way.
     fn carry_out(&mut self, action: &Action) -> Result<Outcome, Memory>
         ensures does { Does self.old (apply self.old action.now) self.new result }
         ensures takes { OnErr result (MayTakeMemory self.old.manager action.now) }

@@ -1,3 +1,4 @@
+//! `Key`, which tells the items of a pipeline apart.
 ghost use Rattle.std.specs.Prelude.{◌≡◌, IfOk};
 ghost use Rattle.gate_items.specs.Keys.{is_same};
 
@@ -7,16 +8,16 @@ use std::alloc::Global;
 /// What a queue item is for: a change, or an update of a ref. Keys are compared field by field.
 #[derive(Debug, Drop)]
 pub enum Key {
-    /// A change, by its number in the Gerrit of a connection.
+    /// A change in the Gerrit of a connection.
     Change {
-        /// The connection.
+        /// The connection of that Gerrit.
         conn: ConnId,
         /// The change's number.
         number: i64,
     },
     /// An update of a ref.
     Ref {
-        /// The connection.
+        /// The connection of the Gerrit whose ref it is.
         conn: ConnId,
         /// The project whose ref it is.
         project: Text,
@@ -28,7 +29,7 @@ pub enum Key {
 }
 
 impl Key {
-    /// Whether both keys are of one kind, with the same fields.
+    /// Returns whether both keys are of one kind and have the same fields.
     pub fn is_same(&self, other: &Key) -> bool
         ensures { result ≡ is_same self.now other.now }
     {
@@ -63,7 +64,7 @@ impl Key {
         }
     }
 
-    /// A copy of the key. `Memory` where its texts find no room.
+    /// Returns a copy of the key. Only the texts of a ref's key take memory.
     pub fn copy(&self, alloc: Global) -> Result<Key, Memory>
         ensures { IfOk result (λ copy. copy ≡ self.now) }
     {

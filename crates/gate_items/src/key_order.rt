@@ -1,3 +1,4 @@
+//! The order of keys, by which a map finds them.
 ghost use Rattle.std.specs.Prelude.{Some, refl};
 ghost use Rattle.std.specs.Cmp.{eq_by_cmp_equiv, partial_equiv_from_equiv, partial_order_from_agreeing_total};
 ghost use Rattle.std.specs.Ordering.{is_eq};
@@ -6,7 +7,7 @@ ghost use Rattle.gate_items.specs.KeyOrder.{key_cmp, key_cmp_total};
 use crate::key::Key;
 use std::cmp::Ordering;
 
-// Keys have an order, so that an index finds them: changes before refs, each by their fields in turn.
+// Changes come before refs. Keys of one kind are compared field by field.
 
 impl PartialEq for Key {
     ghost eq = { λ x y. is_eq (key_cmp x y) };

@@ -1,4 +1,4 @@
-//! The queue items of a pipeline, with their build sets: what triggers, results and management do to them.
+//! The queue items of a pipeline with their build sets, and what triggers, results of jobs, dequeues and resets do to them.
 #![tactic(auto)]
 
 mod action;

@@ -1,3 +1,4 @@
+//! `Ordered`, the items of a pipeline with a dependent manager.
 ghost use Rattle.std.specs.Prelude.{◌≡◌, OnErr, false, ◌<◌, ◌≤◌, ◌+◌, ℕ, List, IfOk, length, option_map, slice_index_or, None, Some};
 ghost use Rattle.std.specs.List.{find, position};
 ghost use Rattle.gate_items.specs.History.{IsLate, is_current, start};
@@ -18,11 +19,11 @@ use gate_record::{ManagerKind, Memory, Sequence, Text};
 use std::alloc::Global;
 use std::marker::Model;
 
-// The items of a pipeline with a dependent manager.
+// The items of a pipeline with a dependent manager, which leave in order.
 #[derive(Drop)]
 pub(crate) struct Ordered {
     ring: Ring,
-    // There is room for a report of each item, so that an item leaves without memory.
+    // Room for a report of each item is reserved, so that an item leaves without memory.
     reported: Vec<Report>,
 }
 
@@ -39,7 +40,6 @@ impl Model for Ordered {
 }
 
 impl Ordered {
-    // No items.
     pub(crate) fn new(alloc: Global, first_set: u64) -> Ordered
         ensures { result ≡ start ManagerKind.Dependent first_set }
     {
@@ -49,35 +49,32 @@ impl Ordered {
         }
     }
 
-    // The items, one after another from the first.
+    // Returns the items, from the first to the last.
     pub(crate) fn items(&self) -> QueueItems<'_>
         ensures { result ≡ self.now.items }
     {
         self.ring.items()
     }
 
-    // How many items there are.
     pub(crate) fn len(&self) -> usize
         ensures { result ≡ length self.now.items }
     {
         self.ring.len()
     }
 
-    // What was reported, first to last.
+    // Returns the reports, in the order in which the items left.
     pub(crate) fn reported(&self) -> &[Report]
         ensures { result.now ≡ self.now.reported }
     {
         self.reported.as_slice()
     }
 
-    // Whether an item has this build set.
     pub(crate) fn current(&self, set: u64) -> bool
         ensures { result ≡ is_current self.now set }
     {
         self.ring.place_of_set(set).is_some()
     }
 
-    // The item with this build set.
     pub(crate) fn item(&self, set: u64) -> Option<&QueueItem>
         ensures { option_map (λ item. item.now) result ≡ find (has_set set) self.now.items }
     {
@@ -87,14 +84,13 @@ impl Ordered {
         }
     }
 
-    // The number that the next build set gets.
     pub(crate) fn next_set(&self) -> u64
         ensures { result ≡ self.now.next }
     {
         self.ring.next()
     }
 
-    // Does what an action asks for, and then reports.
+    // Applies an action, or discards it. Complete items at the head are then reported and leave.
     pub(crate) fn carry_out(&mut self, action: &Action) -> Result<Outcome, Memory>
         ensures does { Does self.old (apply self.old action.now) self.new result }
         ensures trigger { OnErr result (IsTrigger action.now) }
@@ -107,7 +103,7 @@ impl Ordered {
         Ok(outcome)
     }
 
-    // Does what an action asks for, but reports nothing.
+    // Applies an action, or discards it, but reports nothing.
     fn change(&mut self, action: &Action) -> Result<Outcome, Memory>
         ensures does { Does self.old (changed self.old (plan self.old action.now)) self.new result }
         ensures trigger { OnErr result (IsTrigger action.now) }
@@ -121,7 +117,6 @@ impl Ordered {
         }
     }
 
-    // Takes the item of a key out.
     fn dequeue(&mut self, key: &Key) -> Outcome
         ensures { (self.new, result) ≡ changed self.old (dequeued self.old key.now (find (is_of key.now) self.old.items)) }
     {
@@ -131,7 +126,7 @@ impl Ordered {
         }
     }
 
-    // Takes the item at a place out.
+    // Takes the item at a place out. The items behind it get new build sets.
     fn dequeue_at(&mut self, place: usize) -> Outcome
         requires { place < length self.old.items }
         ensures { (self.new, result) ≡ changed self.old (dequeued_at self.old place) }
@@ -144,7 +139,6 @@ impl Ordered {
         Outcome::Applied
     }
 
-    // Gives the item of a key a new build set.
     fn reset(&mut self, key: &Key) -> Outcome
         ensures { (self.new, result) ≡ changed self.old (reset self.old key.now (find (is_of key.now) self.old.items)) }
     {
@@ -154,7 +148,7 @@ impl Ordered {
         }
     }
 
-    // Gives the item at a place a new build set.
+    // Gives the item at a place, and those behind it, new build sets.
     fn reset_at(&mut self, place: usize) -> Outcome
         requires { place < length self.old.items }
         ensures { (d : Item) → (self.new, result) ≡ changed self.old (reset_at self.old place (slice_index_or self.old.items place d)) }
@@ -166,7 +160,6 @@ impl Ordered {
         Outcome::Applied
     }
 
-    // Records the outcome of a job.
     fn result(&mut self, ended: &JobResult) -> Outcome
         ensures { (self.new, result) ≡ changed self.old (resulted self.old ended.now (find (has_set ended.now.set) self.old.items)) }
     {
@@ -176,7 +169,7 @@ impl Ordered {
         }
     }
 
-    // Records the outcome of a job in the item at a place.
+    // Records the outcome of a job in the item at a place. The first failure of the item gives those behind it new build sets.
     fn result_at(&mut self, place: usize, ended: &JobResult) -> Outcome
         requires { place < length self.old.items }
         ensures { (d : Item) → (self.new, result) ≡ changed self.old (ended_at self.old place ended.now (slice_index_or self.old.items place d) (find (is_job ended.now.job) (slice_index_or self.old.items place d).jobs)) }
@@ -191,7 +184,7 @@ impl Ordered {
         }
     }
 
-    // Records the outcome of a job in the item at a place, and renews what stands behind if asked for.
+    // Records the outcome of a job in the item at a place. If `renews` is set, the items behind it get new build sets.
     fn record_at(&mut self, place: usize, ended: &JobResult, renews: bool) -> Outcome
         requires { place < length self.old.items }
         ensures { (d : Item) → (self.new, result) ≡ changed self.old (recorded_at self.old place ended.now (slice_index_or self.old.items place d) renews) }
@@ -208,7 +201,8 @@ impl Ordered {
         Outcome::Applied
     }
 
-    // An item of a key goes last, and an older one of the key is taken out.
+    // Puts an item of the key last, and takes the older item of the key out. Discards the trigger if it has no key or no job, or
+    // if the older item has the same or a newer patch set.
     fn trigger(
         &mut self,
         key: &Option<Key>,
@@ -231,7 +225,7 @@ impl Ordered {
         }
     }
 
-    // The place of an older patch set's item, or nothing where the key has no item, or why a trigger is discarded.
+    // Returns the place of the key's item, `None` if the key has no item, or why the trigger is discarded.
     fn older_place(&self, key: &Key, patchset: i64) -> Result<Option<usize>, Discard>
         ensures judges { (jobs : List (List ℕ)) → Judges self.now key.now patchset jobs result }
         ensures place { IfOk result (λ place. place ≡ position (is_of key.now) self.now.items) }
@@ -245,7 +239,6 @@ impl Ordered {
         }
     }
 
-    // Puts an item last.
     fn place_last(
         &mut self,
         key: &Key,
@@ -267,7 +260,7 @@ impl Ordered {
         Ok(Outcome::Applied)
     }
 
-    // Takes the item at a place out, and puts a newer one last.
+    // Takes the item at a place out, and puts a newer one of its key last. The items behind that place get new build sets.
     fn replace_at(
         &mut self,
         place: usize,
@@ -289,7 +282,7 @@ impl Ordered {
         Ok(Outcome::Applied)
     }
 
-    // Reports complete items, which leave.
+    // Reports the complete items at the head, which leave.
     fn settle(&mut self)
         ensures { self.new ≡ settled self.old }
     {

@@ -1,3 +1,4 @@
+//! The outcomes of an item's jobs: how they are looked up and recorded.
 ghost use Rattle.std.specs.Prelude.{◌≡◌, ◌<◌, ℕ, Bool, List, Option, option_map, map, slice_set, slice_index_or};
 ghost use Rattle.std.specs.VecDeque.{deque_len};
 ghost use Rattle.std.specs.List.{find, list_any};
@@ -14,14 +15,13 @@ use std::collections::VecDeque;
 use std::mem;
 
 impl QueueItem {
-    // Whether a job has failed.
     pub(crate) fn has_failed(&self) -> bool
         ensures { result ≡ list_any has_failed self.now.jobs }
     {
         self.jobs.as_slice().iter().any(|job| job.1 == Some(false))
     }
 
-    // What is known of the job of a name: nothing where there is none, and else its outcome, if it has one.
+    // Returns what is known of the job of a name: `None` if there is no such job, else its outcome, if it has one.
     pub(crate) fn state_of(&self, name: &str) -> Option<Option<bool>>
         ensures { result ≡ option_map (λ (job : List ℕ × Option Bool). job.1) (find (is_job name.now) self.now.jobs) }
     {
@@ -33,14 +33,13 @@ impl QueueItem {
         Some(job.1)
     }
 
-    // Whether each job has an outcome.
     pub(crate) fn is_complete(&self) -> bool
         ensures { result ≡ is_complete self.now }
     {
         self.jobs.as_slice().iter().all(|job| job.1.is_some())
     }
 
-    // Whether this outcome is the first failure of the build set.
+    // Returns whether this outcome is the first failure of the build set.
     pub(crate) fn is_first_failure(&self, success: bool) -> bool
         ensures { result ≡ is_first_failure success self.now }
     {
@@ -48,7 +47,7 @@ impl QueueItem {
     }
 }
 
-// The outcome that a job has once the job of a name has one.
+// Returns the outcome of a job after the job of this name got one.
 fn outcome_after(job: &Build, name: &str, success: bool) -> Option<bool>
     ensures { (job.now.0, result) ≡ record_at name.now success job.now }
 {
@@ -59,7 +58,7 @@ fn outcome_after(job: &Build, name: &str, success: bool) -> Option<bool>
     }
 }
 
-// The jobs, those of a name with an outcome.
+// Returns the jobs with the outcome entered in those of this name.
 fn recorded(jobs: Sequence<Build>, name: &str, success: bool) -> Sequence<Build>
     ensures { result ≡ map (record_at name.now success) jobs }
 {
@@ -71,7 +70,7 @@ fn recorded(jobs: Sequence<Build>, name: &str, success: bool) -> Sequence<Build>
     Sequence::new(jobs)
 }
 
-// Records an outcome in an item, without memory.
+// Records a job's outcome in an item. It takes no memory.
 pub(crate) fn record_in(item: &mut QueueItem, alloc: Global, ended: &JobResult)
     ensures { item.new ≡ with_outcome ended.now.job ended.now.success item.old }
 {
@@ -79,7 +78,7 @@ pub(crate) fn record_in(item: &mut QueueItem, alloc: Global, ended: &JobResult)
     item.jobs = recorded(jobs, ended.job.as_str(), ended.success);
 }
 
-// Records an outcome in the item at a place, without memory.
+// Records a job's outcome in the item at a place. It takes no memory.
 pub(crate) fn record_outcome(items: &mut VecDeque<Numbered>, place: usize, ended: &JobResult)
     requires { place < deque_len items.old }
     ensures items { (d : Entry) → items.new.items ≡ slice_set items.old.items place (numbered_outcome ended.now.job ended.now.success (slice_index_or items.old.items place d)) }

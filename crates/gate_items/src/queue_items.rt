@@ -1,16 +1,17 @@
+//! `QueueItems`, the iterator over a pipeline's items.
 use crate::item::QueueItem;
 use crate::ring::Numbered;
 use std::collections::btree_map::Values;
 use std::collections::vec_deque::Iter;
 use std::marker::Model;
 
-/// The items of a pipeline, one after another from the first. Contracts see those that are still to come.
+/// An iterator over the items of a pipeline, from the first to the last. Contracts see the items that are still to come.
 #[derive(Drop)]
 pub struct QueueItems<'a> {
     rest: Rest<'a>,
 }
 
-// What is still to come, of a list or of an index.
+// The items that are still to come, of a ring or of an index.
 #[derive(Drop)]
 pub(crate) enum Rest<'a> {
     Ordered(Iter<'a, Numbered>),
@@ -32,7 +33,6 @@ impl<'a> QueueItems<'a> {
     ghost use Rattle.std.specs.VecDeque.Iter.{deque_iter_rest};
     ghost use Rattle.gate_items.specs.Ring.{items_of};
 
-    // The items of a ring.
     pub(crate) fn of_ring(items: Iter<'a, Numbered>) -> QueueItems<'a>
         ensures { result ≡ items_of (deque_iter_rest items.entry) }
     {
@@ -41,7 +41,7 @@ impl<'a> QueueItems<'a> {
         }
     }
 
-    // The items of an index, in its order.
+    // Returns the items of an index, in the order of their places.
     pub(crate) fn of_values(items: Values<'a, u64, QueueItem>) -> QueueItems<'a>
         ensures { result ≡ items.entry }
     {

@@ -1,3 +1,4 @@
+//! Makes the reports of complete items.
 ghost use Rattle.std.specs.Prelude.{◌≡◌, ◌≤◌, ◌+◌, ◌++◌, length, map, vec_capacity};
 ghost use Rattle.gate_items.specs.Inner.Ring.{after_ring};
 ghost use Rattle.gate_items.specs.Machine.{head_of, report_of, rest_of};
@@ -5,7 +6,7 @@ ghost use Rattle.gate_items.specs.Machine.{head_of, report_of, rest_of};
 use crate::item::{QueueItem, Report};
 use crate::ring::Ring;
 
-// The report of an item, without memory.
+// Makes the report of an item. It takes no memory.
 pub(crate) fn report_of(item: QueueItem) -> Report
     ensures { result ≡ report_of item }
 {
@@ -18,7 +19,7 @@ pub(crate) fn report_of(item: QueueItem) -> Report
     }
 }
 
-// Reports complete items at the head, which leave. There is room.
+// Reports the complete items at the head, which leave. The caller has reserved room for the reports.
 pub(crate) fn report_complete(ring: &mut Ring, reported: &mut Vec<Report>)
     requires { length reported.old.items + length ring.old.items ≤ vec_capacity reported.old }
     ensures ring { ring.new ≡ after_ring ring.old.next (rest_of ring.old.items) }

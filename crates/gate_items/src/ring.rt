@@ -1,3 +1,4 @@
+//! `Ring`, the items of a dependent pipeline in order, found by their key and by their build set in logarithmic time.
 ghost use Rattle.std.specs.Prelude.{◌≡◌, ◌+◌, ◌<◌, ◌≤◌, ◌^◌, ◌++◌, ◌∷◌, [], cond, drop, length, slice_get, slice_index_or, slice_set, take, true, IfSome, IsSome, None, OnErr, OnOk, Some};
 ghost use Rattle.std.specs.BTreeMap.{get, is_at};
 ghost use Rattle.std.specs.List.{position};
@@ -19,16 +20,16 @@ use std::alloc::Global;
 use std::collections::{BTreeMap, VecDeque};
 use std::marker::Model;
 
-// An item with its number: that of its first build set, which it keeps.
+// An item with its number: that of its first build set, which the item keeps when it gets a new build set.
 #[derive(Drop)]
 pub(crate) struct Numbered {
     pub(crate) number: u64,
     pub(crate) item: QueueItem,
 }
 
-// Items one behind another, where a change renews all that stand behind it, and the number that the next build set gets.
-// Their numbers and their build sets rise along the list, so that both are found by binary search; the index has the
-// number of each key's item, and nothing else.
+// Items in order, and the number that the next build set gets. A change of an item gives all items behind it new build sets. Both
+// the items' numbers and their build sets rise along the list, so items are found by binary search. The index has the number of
+// each key's item, and nothing else.
 #[derive(Drop)]
 pub(crate) struct Ring {
     next: u64,
@@ -50,7 +51,7 @@ impl Model for Ring {
 }
 
 impl Ring {
-    // No items, and the number of the first build set. It takes no memory.
+    // Returns a ring without items, and with the number of the first build set. It takes no memory.
     pub(crate) fn new(alloc: Global, first_set: u64) -> Ring
         ensures { result ≡ after_ring first_set [] }
     {
@@ -61,28 +62,25 @@ impl Ring {
         }
     }
 
-    // The number that the next build set gets.
     pub(crate) fn next(&self) -> u64
         ensures { result ≡ self.now.next }
     {
         self.next
     }
 
-    // How many items there are.
     pub(crate) fn len(&self) -> usize
         ensures { result ≡ length self.now.items }
     {
         self.items.len()
     }
 
-    // The items, one after another from the first.
+    // Returns the items, from the first to the last.
     pub(crate) fn items(&self) -> QueueItems<'_>
         ensures { result ≡ self.now.items }
     {
         QueueItems::of_ring(self.items.iter())
     }
 
-    // The item at a place.
     pub(crate) fn item(&self, place: usize) -> &QueueItem
         requires { place < length self.now.items }
         ensures { result.now ≡ slice_index_or self.now.items place result.now }
@@ -90,7 +88,6 @@ impl Ring {
         &self.items[place].item
     }
 
-    // The place of the item of a key.
     pub(crate) fn place_of_key(&self, key: &Key) -> Option<usize>
         ensures { result ≡ position (is_of key.now) self.now.items }
     {
@@ -106,7 +103,6 @@ impl Ring {
         }
     }
 
-    // The place of the item with a build set.
     pub(crate) fn place_of_set(&self, set: u64) -> Option<usize>
         ensures { result ≡ position (has_set set) self.now.items }
     {
@@ -119,7 +115,8 @@ impl Ring {
         }
     }
 
-    // The number of the next build set once the items from a place on have new ones, and nothing where none would be left.
+    // Returns the number that the next build set gets after the items from a place on have got new ones, or `None` if there are
+    // too few numbers.
     pub(crate) fn next_after(&self, from: usize) -> Option<u64>
         requires { from ≤ length self.now.items }
         ensures answer { result ≡ fitting (self.now.next + length (drop from self.now.items)) }
@@ -128,8 +125,7 @@ impl Ring {
         self.next.checked_add((self.items.len() - from) as u64)
     }
 
-    // Takes the item at a place out, if there is one. The shorter side of the list moves up, so the first one leaves at
-    // once.
+    // Takes the item at a place out, if there is one. The shorter side of the list moves up, so the first item leaves at once.
     pub(crate) fn remove(&mut self, place: usize) -> Option<QueueItem>
         ensures item { result ≡ slice_get self.old.items place }
         ensures new { self.new ≡ after_ring self.old.next (take place self.old.items ++ drop (place + 1) self.old.items) }
@@ -152,7 +148,7 @@ impl Ring {
         }
     }
 
-    // Gives the items from a place on new build sets, without memory.
+    // Gives the items from a place on new build sets. It takes no memory.
     pub(crate) fn renew_from(&mut self, from: usize)
         requires place { from ≤ length self.old.items }
         requires numbers { self.old.next + length (drop from self.old.items) < 2 ^ 64 }
@@ -162,7 +158,7 @@ impl Ring {
         self.next = renew_from(&mut self.items, from, self.next);
     }
 
-    // Records an outcome in the item at a place, without memory.
+    // Records a job's outcome in the item at a place. It takes no memory.
     pub(crate) fn record(&mut self, place: usize, ended: &JobResult)
         requires { place < length self.old.items }
         ensures new { (d : Item) → self.new ≡ after_ring self.old.next (slice_set self.old.items place (with_outcome ended.now.job ended.now.success (slice_index_or self.old.items place d))) }
@@ -172,7 +168,7 @@ impl Ring {
         record_outcome(&mut self.items, place, ended);
     }
 
-    // Puts an item last, whose key no other has. `Memory` where it finds no room, and then nothing has changed.
+    // Puts an item last, whose key no other item has.
     pub(crate) fn put_last(&mut self, key: Key, item: QueueItem) -> Result<(), Memory>
         requires key { key ≡ item.key }
         requires set { item.set ≡ self.old.next }
@@ -191,7 +187,7 @@ impl Ring {
         Ok(())
     }
 
-    // Takes the item at a place out, and puts a newer one of its key last, without memory.
+    // Takes the item at a place out, and puts a newer one of its key last. It takes no memory.
     pub(crate) fn replace(&mut self, place: usize, item: QueueItem)
         requires inside { place < length self.old.items }
         requires key { (d : Item) → is_of item.key (slice_index_or self.old.items place d) ≡ true }
@@ -210,7 +206,7 @@ impl Ring {
     }
 }
 
-// Gives the item of a key another number, without memory.
+// Enters another number for the item of a key. It takes no memory.
 fn move_key(by_key: &mut BTreeMap<Key, u64>, key: &Key, number: u64)
     requires { IsSome (get key_cmp by_key.old key.now) }
     ensures { (q : ItemKey) → get key_cmp by_key.new q ≡ cond (is_at (key_cmp key.now) q) (Some number) (get key_cmp by_key.old q) }

@@ -1,3 +1,4 @@
+//! Makes the item of a trigger, and tells why a trigger is discarded beside an item that its key has already.
 ghost use Rattle.std.specs.Prelude.{◌≡◌, IfOk, map};
 ghost use Rattle.gate_items.specs.Machine.{new_item};
 ghost use Rattle.gate_items.specs.Inner.Steps.{why_not};
@@ -9,7 +10,7 @@ use gate_record::{Memory, Sequence, Text};
 use std::alloc::Global;
 
 impl QueueItem {
-    // Why a trigger for the item's key is discarded, if it is.
+    // Returns why a trigger for the item's key is discarded, if it is: the item must have an older patch set.
     pub(crate) fn why_not(&self, patchset: i64) -> Option<Discard>
         ensures { result ≡ why_not patchset self.now.patchset }
     {
@@ -23,7 +24,7 @@ impl QueueItem {
     }
 }
 
-// An item whose jobs have no outcome.
+// Makes an item whose jobs have no outcome yet.
 pub(crate) fn new_item(
     alloc: Global,
     key: &Key,
@@ -41,7 +42,6 @@ pub(crate) fn new_item(
     })
 }
 
-// A job for each name, without an outcome.
 fn open_jobs(alloc: Global, names: &Sequence<Text>) -> Result<Sequence<Build>, Memory>
     ensures { IfOk result (λ jobs. jobs ≡ map (λ name. (name, None)) names.now) }
 {

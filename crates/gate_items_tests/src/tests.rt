@@ -1,3 +1,5 @@
+//! The tests of gate_items, a module for each subject.
+
 mod causes;
 mod examples;
 mod index;

@@ -12,7 +12,8 @@ cause_word Removed = codes "removed"
 cause_word Reset = codes "reset"
 cause_word Ahead = codes "ahead"
 
--- why an action cancels the build set of the item that it is for; a result is for none
+-- why an action cancels the build set of the item whose key it names; a result names no key, and cancels only build sets of items
+-- behind
 abbrev pub own_cause : Action → CancelCause
 own_cause (action.Trigger key patchset jobs) = Newer
 own_cause (action.Manage (manage.Dequeue key)) = Removed

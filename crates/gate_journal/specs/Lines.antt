@@ -1,4 +1,4 @@
--- The lines of a journal: JSON objects, each with its members in the order of their bytes and a line feed behind it.
+-- The lines of a journal: JSON objects, each with its members in the order of their bytes and a line feed at its end.
 use Rattle.std.specs.Prelude.{◌+◌, ◌==◌, ℕ, List, [], ◌∷◌, ◌++◌, Bool, true, false, Option, None, codes, decimal, flat_map, if◌then◌else◌}
 use Rattle.gate_record.specs.Names.{name_text}
 use Rattle.gate_record.specs.declared.ids.Stamp.{Stamp}
@@ -23,7 +23,7 @@ use Rattle.gate_journal.specs.Members.{change_member, jobs_member, patched_membe
 
 -- ---- single lines, of pipeline p of tenant t
 
--- the end of most lines
+-- the end of most lines: the tenant
 abbrev pub line_end : Config → ℕ → List ℕ
 line_end config t = tenant_members config t ++ codes "}\n"
 
@@ -35,7 +35,7 @@ begin_line config t p stamp item =
     (codes "{\"begin\":" ++ (decimal item.set ++ codes ","))
     ++ ((change_member config item.key ++ jobs_member item.jobs) ++ (patched_members config t p item.patchset ++ begin_end config t stamp item.key))
 
--- why, and the end of a line
+-- the end of a line with a reason
 abbrev pub why_end : Config → ℕ → List ℕ → List ℕ
 why_end config t word = tenant_members config t ++ (codes ",\"why\":\"" ++ (word ++ codes "\"}\n"))
 
@@ -52,7 +52,8 @@ report_end config t report = ref_member config report.key ++ ((codes "\"report\"
 abbrev pub report_line : Config → ℕ → ℕ → Report → List ℕ
 report_line config t p report = (codes "{" ++ change_member config report.key) ++ (patched_members config t p report.patchset ++ report_end config t report)
 
--- what is discarded: a trigger by its record, a result by its build set and job, and a management event by its key
+-- The lines of discarded actions: a trigger is named by its record, a result by its build set and job, and a management event by
+-- its key.
 abbrev pub lost_trigger : Config → ℕ → ℕ → Option Stamp → List ℕ → List ℕ
 lost_trigger config t p stamp why = codes "{\"discard\":\"trigger\"," ++ (pipeline_members config t p ++ (record_member config stamp ++ why_end config t why))
 
@@ -72,26 +73,28 @@ discard_line config t p stamp (action.Manage (manage.Reset key)) why = lost_mana
 
 -- ---- the lines of an action
 
--- the first build set is that of the item that the action is for, and the others stood behind it
+-- The lines of the build sets that an action cancels. The first is that of the item whose key the action names, and the others
+-- are those of items behind it.
 abbrev pub cancel_lines : Config → ℕ → ℕ → Action → List ℕ → List ℕ
 cancel_lines config t p action [] = []
 cancel_lines config t p action (set ∷ sets) = cancel_line config t p (own_cause action) set ++ flat_map (cancel_line config t p Ahead) sets
 
--- a trigger's own item is the last that begins, and has the record of the trigger
+-- The lines of the items that begin. A trigger's own item is the last, and its line has the record of the trigger.
 abbrev pub begin_lines : Config → ℕ → ℕ → Option Stamp → ℕ → List QueueItem → List ℕ
 begin_lines config t p stamp next items = flat_map (λ (item : QueueItem). begin_line config t p (if item.set + 1 == next then stamp else None) item) items
 
--- What an action that was processed says, by the items before it and those that it left: what it cancels, then what begins, then what
--- is reported; or that it is discarded. The stamp is that of a trigger event.
+-- The lines of an action that was processed, by the items before it and after it. An applied action has lines for what it
+-- cancels, then for what begins, then for what is reported. A discarded action has one line. The stamp is that of a trigger
+-- event.
 abbrev pub action_lines : Config → ℕ → ℕ → State → Option Stamp → Action → Outcome → State → List ℕ
 action_lines config t p before stamp action (Discarded why) items = discard_line config t p stamp action why
 action_lines config t p before stamp action Applied items =
     cancel_lines config t p action (sets_of (cancelled before items))
     ++ (begin_lines config t p stamp items.next (begun before items) ++ flat_map (report_line config t p) (reported before items))
 
--- ---- the lines around
+-- ---- the first line of a run, and the last one of a pipeline
 
--- where a run begins: numbers begin anew
+-- the line with which a run begins: after it, the numbers of build sets begin anew
 abbrev pub start_line : List ℕ
 start_line = codes "{\"start\":1}\n"
 
@@ -99,6 +102,6 @@ abbrev pub end_member : Bool → List ℕ
 end_member true = codes "{\"end\":\"finished\","
 end_member false = codes "{\"end\":\"running\","
 
--- behind this nothing comes of the pipeline
+-- the last line of a pipeline
 abbrev pub end_line : Config → ℕ → ℕ → Bool → List ℕ
 end_line config t p finished = end_member finished ++ (pipeline_members config t p ++ line_end config t)

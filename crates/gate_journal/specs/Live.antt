@@ -11,7 +11,8 @@ use Rattle.gate_items.specs.Keys.{is_same}
 abbrev pub is_reported : List Report → Key → Bool
 is_reported reports key = list_any (λ (report : Report). is_same report.key key) reports
 
--- a key's build set behind an action that was applied and these reports, where it was that before and the action got this number
+-- A key's build set after an action that was applied and made these reports. `sets` are the build sets before the action, and
+-- `next` is the first number that the action gave out.
 abbrev pub keyed_after : (Key → Option ℕ) → ℕ → Action → List Report → Key → Option ℕ
 keyed_after sets next (action.Trigger None patchset jobs) reports other = sets other
 keyed_after sets next (action.Trigger (Some key) patchset jobs) reports other = if is_same key other then Some next else sets other

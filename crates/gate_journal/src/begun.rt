@@ -1,4 +1,4 @@
-//! The lines of what an action cancels, begins and reports.
+//! Writes the lines of the build sets that an action begins, cancels and reports.
 ghost use Rattle.std.specs.Prelude.{◌≡◌, ◌≤◌, ◌-◌, ◌++◌, flat_map, string_bytes, OnOk};
 ghost use Rattle.std.specs.List.{filter_map, find, range_with_len};
 ghost use Rattle.gate_items.specs.Machine.{has_set};
@@ -12,7 +12,7 @@ use gate_record::{Memory, Stamp};
 use std::alloc::Global;
 use std::collections::VecDeque;
 
-/// The items with the build sets that were handed out from a number on.
+/// Adds a line for each item whose build set has a number from `from` on: the build sets that the action began.
 pub(crate) fn push_begun(
     out: &mut String,
     place: &Place<'_>,
@@ -33,7 +33,7 @@ pub(crate) fn push_begun(
 
 ghost use Rattle.std.specs.Option.{option_to_list};
 
-// The item with a build set, if there is one. The next one has the number `next`.
+// Adds the line of the item with this build set, if there is one. `next` is the number that the next build set gets.
 fn push_item(
     out: &mut String,
     place: &Place<'_>,
@@ -52,7 +52,7 @@ fn push_item(
 
 ghost use Rattle.std.specs.Prelude.{◌==◌, ◌+◌, None, if◌then◌else◌};
 
-// The item of the last number is the trigger's own.
+// Returns the trigger's stamp for the trigger's own item, which is the one with the last number, and none for other items.
 fn own_stamp(stamp: Option<Stamp>, next: u64, item: &QueueItem) -> Option<Stamp>
     ensures { result ≡ (if item.now.set + 1 == next then stamp else None) }
 {
@@ -63,7 +63,7 @@ fn own_stamp(stamp: Option<Stamp>, next: u64, item: &QueueItem) -> Option<Stamp>
     }
 }
 
-/// What was reported.
+/// Adds a line for each of these reports.
 pub(crate) fn push_reports(
     out: &mut String,
     alloc: Global,
@@ -80,7 +80,7 @@ pub(crate) fn push_reports(
     Ok(())
 }
 
-/// Build sets that are cancelled for one cause.
+/// Adds a line for each of these build sets, which were cancelled for one cause.
 pub(crate) fn push_cancelled(
     out: &mut String,
     alloc: Global,

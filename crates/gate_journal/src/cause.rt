@@ -1,15 +1,16 @@
+//! `CancelCause`, why a build set is cancelled.
 use gate_items::{Action, Manage};
 
 /// Why a build set is cancelled.
 #[derive(Clone, Copy, Debug, PartialEq, Eq)]
 pub enum CancelCause {
-    /// A newer patch set of its change takes its place.
+    /// A newer patch set of the item's change takes its place.
     Newer,
-    /// Its item was dequeued.
+    /// The item was dequeued.
     Removed,
-    /// Its item was reset.
+    /// The item was reset.
     Reset,
-    /// An item ahead of its own failed, was taken out or was reset.
+    /// An item ahead failed, was taken out or was reset.
     Ahead,
 }
 
@@ -17,7 +18,7 @@ impl CancelCause {
     ghost use Rattle.std.specs.Prelude.{◌≡◌};
     ghost use Rattle.gate_journal.specs.Causes.{cause_word, own_cause};
 
-    /// The word that is printed for it.
+    /// Returns the word that is printed for the cause.
     pub fn word(self) -> &'static str
         ensures { result.now ≡ cause_word self }
     {
@@ -29,7 +30,8 @@ impl CancelCause {
         }
     }
 
-    /// Why an action cancels the build set of the item that it is for. A result is for none: what it cancels stands behind.
+    /// Returns why an action cancels the build set of the item whose key it names. A result names no key: what it cancels are the
+    /// build sets of items behind.
     pub fn of(action: &Action) -> CancelCause
         ensures { result ≡ own_cause action.now }
     {

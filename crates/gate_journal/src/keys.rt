@@ -1,4 +1,4 @@
-//! The build sets of an independent pipeline, by the keys of their items.
+//! Keeps the build sets of an independent pipeline by the keys of their items, to know which one an action cancels.
 ghost use Rattle.std.specs.Prelude.{◌≡◌, ◌++◌, cond, option_and_then, string_bytes, None, OnOk, Some};
 ghost use Rattle.std.specs.BTreeMap.{get};
 ghost use Rattle.std.specs.Option.{option_to_list};
@@ -17,7 +17,7 @@ use gate_record::Memory;
 use std::alloc::Global;
 use std::collections::BTreeMap;
 
-/// The line of what an action that was applied cancels.
+/// Adds the line of the build set that an applied action cancels, if it cancels one.
 pub(crate) fn push_older(
     out: &mut String,
     alloc: Global,
@@ -38,7 +38,6 @@ pub(crate) fn push_older(
 
 ghost use Rattle.std.specs.Prelude.{option_map};
 
-// The key of the item that an action is for.
 fn meant(action: &Action) -> Option<&Key>
     ensures { option_map (λ key. key.now) result ≡ key_meant action.now }
 {
@@ -50,8 +49,8 @@ fn meant(action: &Action) -> Option<&Key>
     }
 }
 
-/// Follows an action that was applied: a trigger's item and one that is reset have the next number, and those that are dequeued or
-/// reported are gone.
+/// Follows an action that was applied. The build set of a trigger's item and of a reset item gets the next number. Those of a
+/// dequeued item and of reported items are removed.
 pub(crate) fn follow(
     alloc: Global,
     sets: &mut BTreeMap<Key, u64>,

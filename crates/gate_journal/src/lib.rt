@@ -1,4 +1,5 @@
-//! The lines of a journal: which build sets a pipeline's actions begin, cancel and report, and what they discard.
+//! The lines of a journal: which build sets a pipeline's actions begin, cancel and report, and which actions are discarded.
+//! Whoever runs the jobs follows these lines.
 #![tactic(auto)]
 
 mod begun;

@@ -1,4 +1,4 @@
-//! Single lines.
+//! Writes the single lines of a journal, each a JSON object.
 ghost use Rattle.std.specs.Prelude.{◌≡◌, ◌++◌, codes, decimal, string_bytes, OnOk};
 ghost use Rattle.gate_record.specs.Names.{name_text};
 ghost use Rattle.gate_journal.specs.Lines.{begin_end, begin_line, cancel_line, discard_line, end_line, end_member, line_end, lost_manage, lost_result, lost_trigger, report_end, report_line, start_line, success_member, why_end};
@@ -13,7 +13,7 @@ use gate_items::{Action, Discard, JobResult, Key, Manage, QueueItem, Report};
 use gate_record::{Memory, Stamp, name_text};
 use std::alloc::Global;
 
-/// A build set begins.
+/// Adds the line of a build set that begins.
 pub(crate) fn push_begin(
     out: &mut String,
     place: &Place<'_>,
@@ -32,7 +32,7 @@ pub(crate) fn push_begin(
 
 ghost use Rattle.gate_journal.specs.Members.{change_member, jobs_member};
 
-// A change, and the jobs that are run for it.
+// Adds the item's change, if it has one, and the jobs that are run for it.
 fn push_subject(out: &mut String, place: &Place<'_>, item: &QueueItem) -> Result<(), Memory>
     ensures { OnOk result (string_bytes out.new ≡ string_bytes out.old ++ (change_member place.now.config.now item.now.key ++ jobs_member item.now.jobs)) }
 {
@@ -65,7 +65,7 @@ fn push_line_end(out: &mut String, alloc: Global, place: &Place<'_>) -> Result<(
     Ok(())
 }
 
-// A member with the number of a build set.
+// Adds a member with the number of a build set.
 fn push_set(out: &mut String, alloc: Global, member: &str, set: u64) -> Result<(), Memory>
     ensures { OnOk result (string_bytes out.new ≡ string_bytes out.old ++ (member.now ++ (decimal set ++ codes ","))) }
 {
@@ -73,7 +73,7 @@ fn push_set(out: &mut String, alloc: Global, member: &str, set: u64) -> Result<(
     push_parts(out, member, set.as_str(), ",")
 }
 
-/// A build set is cancelled.
+/// Adds the line of a build set that is cancelled.
 pub(crate) fn push_cancel(
     out: &mut String,
     alloc: Global,
@@ -89,7 +89,7 @@ pub(crate) fn push_cancel(
     Ok(())
 }
 
-// Why, and the end of the line.
+// Adds the tenant and the reason, and ends the line.
 fn push_why(out: &mut String, alloc: Global, place: &Place<'_>, word: &str) -> Result<(), Memory>
     ensures { OnOk result (string_bytes out.new ≡ string_bytes out.old ++ why_end place.now.config.now place.now.tenant.0 word.now) }
 {
@@ -98,7 +98,7 @@ fn push_why(out: &mut String, alloc: Global, place: &Place<'_>, word: &str) -> R
     Ok(())
 }
 
-/// An item is reported.
+/// Adds the line of an item that is reported.
 pub(crate) fn push_report(
     out: &mut String,
     alloc: Global,
@@ -152,7 +152,7 @@ fn success_member(success: bool) -> &'static str
     }
 }
 
-/// An action is discarded.
+/// Adds the line of an action that is discarded.
 pub(crate) fn push_discard(
     out: &mut String,
     alloc: Global,
@@ -241,7 +241,7 @@ fn push_lost_key(out: &mut String, place: &Place<'_>, member: &str, key: &Key) -
     Ok(())
 }
 
-/// Adds the line with which a run begins: the numbers of build sets begin anew. `Memory` where there is none for it.
+/// Adds the line with which a run begins: after it, the numbers of build sets begin anew.
 pub fn push_start(out: &mut String) -> Result<(), Memory>
     ensures { OnOk result (string_bytes out.new ≡ string_bytes out.old ++ start_line) }
 {
@@ -249,8 +249,7 @@ pub fn push_start(out: &mut String) -> Result<(), Memory>
     Ok(())
 }
 
-/// Adds the line behind which nothing comes of a pipeline; it says whether the pipeline's end mark was met. `Memory` where there is
-/// none for it.
+/// Adds the last line of a pipeline. The line says whether the pipeline's end mark was met.
 pub fn push_end(
     out: &mut String,
     alloc: Global,

@@ -1,4 +1,4 @@
-//! Members of the lines, each with a comma behind it.
+//! Writes the members of the lines' JSON objects, each followed by a comma.
 ghost use Rattle.std.specs.Prelude.{◌≡◌, ◌++◌, codes, flat_map, string_bytes, IfOk, OnOk};
 ghost use Rattle.gate_record.specs.Names.{name_text};
 ghost use Rattle.gate_journal.specs.Members.{change_member, connection_text, jobs_member, more_names, names_text, next_name, number_member, patchset_member, pipeline_member, pipeline_name, record_member, ref_member, tenant_members, tenant_name};
@@ -10,7 +10,7 @@ use gate_line::{push_name, push_number};
 use gate_record::{ConnId, Memory, Stamp, name_text};
 use std::alloc::Global;
 
-/// Three texts, one behind another.
+/// Adds three texts, one after another.
 pub(crate) fn push_parts(
     out: &mut String,
     first: &str,
@@ -25,7 +25,7 @@ pub(crate) fn push_parts(
     Ok(())
 }
 
-// The name of a connection, or its number where there is none.
+// Adds the name of a connection, or its number if the configuration has no such connection.
 fn push_connection(out: &mut String, config: &Config, conn: ConnId) -> Result<(), Memory>
     ensures { OnOk result (string_bytes out.new ≡ string_bytes out.old ++ connection_text config.now conn.0) }
 {
@@ -36,7 +36,7 @@ fn push_connection(out: &mut String, config: &Config, conn: ConnId) -> Result<()
     }
 }
 
-/// The change that a key is of, if it is of one.
+/// Adds the change of a key. A ref's key adds nothing.
 pub(crate) fn push_change(out: &mut String, config: &Config, key: &Key) -> Result<(), Memory>
     ensures { OnOk result (string_bytes out.new ≡ string_bytes out.old ++ change_member config.now key.now) }
 {
@@ -52,7 +52,7 @@ pub(crate) fn push_change(out: &mut String, config: &Config, key: &Key) -> Resul
     Ok(())
 }
 
-/// The ref that a key is of, if it is of one.
+/// Adds the ref of a key. A change's key adds nothing.
 pub(crate) fn push_ref(out: &mut String, config: &Config, key: &Key) -> Result<(), Memory>
     ensures { OnOk result (string_bytes out.new ≡ string_bytes out.old ++ ref_member config.now key.now) }
 {
@@ -89,7 +89,7 @@ fn push_ref_names(
     Ok(())
 }
 
-/// The record that a stamp is of, if there is one.
+/// Adds the record of a stamp, if there is a stamp.
 pub(crate) fn push_record(
     out: &mut String,
     config: &Config,
@@ -108,7 +108,7 @@ pub(crate) fn push_record(
     Ok(())
 }
 
-/// The names of jobs.
+/// Adds the names of the jobs.
 pub(crate) fn push_jobs(out: &mut String, alloc: Global, jobs: &[Build]) -> Result<(), Memory>
     ensures { OnOk result (string_bytes out.new ≡ string_bytes out.old ++ jobs_member jobs.now) }
 {
@@ -144,7 +144,6 @@ fn push_next_name(out: &mut String, alloc: Global, job: &Build) -> Result<(), Me
     push_name(out, alloc, job.0.as_str())
 }
 
-// The pipeline's number.
 fn push_pipeline_number(out: &mut String, place: &Place<'_>) -> Result<(), Memory>
     ensures { OnOk result (string_bytes out.new ≡ string_bytes out.old ++ number_member place.now.pipeline.0) }
 {
@@ -154,7 +153,6 @@ fn push_pipeline_number(out: &mut String, place: &Place<'_>) -> Result<(), Memor
     Ok(())
 }
 
-// The number of a patch set.
 fn push_patchset(out: &mut String, patchset: &i64) -> Result<(), Memory>
     ensures { OnOk result (string_bytes out.new ≡ string_bytes out.old ++ patchset_member patchset.now) }
 {
@@ -163,7 +161,6 @@ fn push_patchset(out: &mut String, patchset: &i64) -> Result<(), Memory>
     push_parts(out, "\"patchset\":", patchset.as_str(), ",")
 }
 
-// The pipeline's name.
 fn push_pipeline_member(out: &mut String, place: &Place<'_>) -> Result<(), Memory>
     ensures { OnOk result (string_bytes out.new ≡ string_bytes out.old ++ pipeline_member place.now.config.now place.now.tenant.0 place.now.pipeline.0) }
 {
@@ -184,7 +181,7 @@ fn pipeline_name(alloc: Global, place: &Place<'_>) -> Result<String, Memory>
     }
 }
 
-/// The tenant's number and its name, with no comma behind them.
+/// Adds the tenant's number and name, without a comma after them: these members are followed by the end of the line.
 pub(crate) fn push_tenant(out: &mut String, alloc: Global, place: &Place<'_>) -> Result<(), Memory>
     ensures { OnOk result (string_bytes out.new ≡ string_bytes out.old ++ tenant_members place.now.config.now place.now.tenant.0) }
 {
@@ -205,7 +202,7 @@ fn push_tenant_name(out: &mut String, alloc: Global, place: &Place<'_>) -> Resul
 
 ghost use Rattle.gate_journal.specs.Members.{patched_members, pipeline_members};
 
-/// The pipeline's number and its name.
+/// Adds the pipeline's number and name.
 pub(crate) fn push_pipeline(out: &mut String, place: &Place<'_>) -> Result<(), Memory>
     ensures { OnOk result (string_bytes out.new ≡ string_bytes out.old ++ pipeline_members place.now.config.now place.now.tenant.0 place.now.pipeline.0) }
 {
@@ -214,7 +211,7 @@ pub(crate) fn push_pipeline(out: &mut String, place: &Place<'_>) -> Result<(), M
     Ok(())
 }
 
-/// The same, with the number of a patch set between them.
+/// Adds the pipeline's number, the number of a patch set, and the pipeline's name: members are in the order of their bytes.
 pub(crate) fn push_patched(
     out: &mut String,
     place: &Place<'_>,

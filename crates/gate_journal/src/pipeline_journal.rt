@@ -1,3 +1,4 @@
+//! `PipelineJournal`, which writes the lines of one pipeline's actions.
 ghost use Rattle.std.specs.Prelude.{◌≡◌, ◌++◌, ◌∷◌, [], List, string_bytes, OnOk};
 ghost use Rattle.gate_items.specs.History.{after, start};
 ghost use Rattle.gate_items.specs.Machine.{apply};
@@ -21,20 +22,20 @@ use gate_record::{Memory, Stamp};
 use std::alloc::Global;
 use std::collections::{BTreeMap, VecDeque};
 
-/// The journal of a pipeline: what it has to know of the items so that an action's lines are in proportion to what the action
-/// changed, and not to the queue.
+/// The journal of a pipeline. It keeps just enough of the pipeline's items to write the lines of an action in time proportional
+/// to what the action changed, whatever the length of the queue.
 #[derive(Drop)]
 pub struct PipelineJournal {
     // The build sets of the items.
     live: Live,
     // The number that the next build set gets.
     next: u64,
-    // How many reports there were.
+    // How many reports there were so far.
     reports: usize,
 }
 
 impl PipelineJournal {
-    /// The journal of a pipeline before its first action; its build sets are numbered from 0. It takes no memory.
+    /// Returns the journal of a pipeline before its first action. Build sets are numbered from 0. It takes no memory.
     pub fn new(alloc: Global, manager: ManagerKind) -> PipelineJournal
         ensures { Knows result manager (items_after manager []) }
     {
@@ -49,10 +50,11 @@ impl PipelineJournal {
         }
     }
 
-    /// Adds the lines of the pipeline's next action to a text, by the items behind it; the stamp is that of a trigger event. The
-    /// journal has to be told of each action, in order.
+    /// Adds the lines of the pipeline's next action to a text. `items` are the items after that action, and `stamp` is that of
+    /// the trigger event, if there is one. The journal must be told of each action, in order.
     ///
-    /// `Memory` where there is none for them: then the journal isn't told of any more.
+    /// After `Memory` the journal no longer knows the items, and must not be told of more actions. A part of the lines may stand
+    /// in the text.
     pub fn push_action(
         &mut self,
         out: &mut String,
@@ -73,7 +75,7 @@ impl PipelineJournal {
         }
     }
 
-    // The same of an action that was applied.
+    // Adds the lines of an action that was applied.
     fn push_applied(
         &mut self,
         out: &mut String,
@@ -100,7 +102,7 @@ impl PipelineJournal {
     ghost use Rattle.gate_journal.specs.Follows.{AreLive};
     ghost use Rattle.gate_journal.specs.Lines.{cancel_lines};
 
-    // What it cancels, and the build sets that there are behind it.
+    // Adds the lines of the build sets that the action cancels, and follows the action.
     fn push_cancelled(
         &mut self,
         out: &mut String,
@@ -135,7 +137,7 @@ impl PipelineJournal {
 
 ghost use Rattle.std.specs.Prelude.{◌-◌, drop, length};
 
-// What was reported behind so many.
+// Returns the reports after the first `count` ones.
 fn reports_from(items: &Items, count: usize) -> &[Report]
     ensures { result.now ≡ drop count items.now.reported }
 {
@@ -143,7 +145,7 @@ fn reports_from(items: &Items, count: usize) -> &[Report]
     &reported[count.min(reported.len())..]
 }
 
-// How many items have build sets with numbers before this one.
+// Returns how many items have build sets that began before number `next`.
 fn staying(items: &Items, next: u64) -> usize
     ensures { result ≡ length items.now.items - (items.now.next - next) }
 {

@@ -1,4 +1,4 @@
-//! The build sets of a dependent pipeline, from front to back.
+//! Keeps the build sets of a dependent pipeline from front to back, to know which ones an action cancels.
 ghost use Rattle.std.specs.Prelude.{◌≡◌, ◌-◌, ◌++◌, drop, string_bytes, take, IfOk, OnOk};
 ghost use Rattle.std.specs.List.{range_with_len};
 ghost use Rattle.gate_journal.specs.Lines.{cancel_lines};
@@ -12,7 +12,7 @@ use gate_record::Memory;
 use std::alloc::Global;
 use std::collections::VecDeque;
 
-/// Takes out so many in front, which are reported, and those behind so many that stay, which are cancelled.
+/// Removes the first `reported` build sets, keeps the next `staying` ones, and returns the others, which are cancelled.
 pub(crate) fn take_lost(
     sets: &mut VecDeque<u64>,
     reported: usize,
@@ -34,7 +34,7 @@ fn take_reported(sets: &mut VecDeque<u64>, reported: usize)
     }
 }
 
-/// Puts the numbers that were handed out behind.
+/// Puts the new build sets at the back, numbered from `from` up to but not including `next`.
 pub(crate) fn put_new(sets: &mut VecDeque<u64>, from: u64, next: u64) -> Result<(), Memory>
     ensures { OnOk result (sets.new.items ≡ sets.old.items ++ range_with_len from (next - from)) }
 {
@@ -46,7 +46,8 @@ pub(crate) fn put_new(sets: &mut VecDeque<u64>, from: u64, next: u64) -> Result<
     Ok(())
 }
 
-/// The lines of what an action cancels: the first is that of the item that the action is for.
+/// Adds the lines of the build sets that an action cancels. The first of them is that of the item whose key the action names, if
+/// it names one.
 pub(crate) fn push_lost(
     out: &mut String,
     alloc: Global,

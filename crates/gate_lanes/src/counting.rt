@@ -1,3 +1,4 @@
+//! Counts the rows that a mask marks.
 ghost use Rattle.std.specs.Prelude.{◌≡◌};
 ghost use Rattle.gate_lanes.specs.Masks.{count_marked};
 
@@ -21,7 +22,7 @@ fn count_rest(words: &[u32]) -> usize
     words.iter().filter(|word| **word == MARKED).count()
 }
 
-/// How many rows a mask marks. Takes time in its length.
+/// Returns how many rows a mask marks. This takes time in the length of the mask.
 pub fn count(mask: &[u32]) -> usize
     ensures { result ≡ count_marked mask.now }
 {

@@ -1,13 +1,13 @@
-// Two slices of words, place by place: groups of 16 words in lanes, and what is left one by one.
+//! Joins two slices of words place by place: 16 words at once in SIMD lanes, and the rest one by one.
 ghost use Rattle.std.specs.Prelude.{◌≡◌, ℕ, length};
 ghost use Rattle.std.specs.Simd.Lanes.{zip2};
 
 use std::simd::prelude::*;
 
-// The words of a group.
+// The number of words that are joined at once.
 pub(crate) const LANES: usize = 16;
 
-// What is made of two words that stand at one place, and of a group of each at once.
+// What two words at one place are joined to. `group` does for 16 words what `word` does for one.
 pub(crate) trait Join {
     ghost join: { Self → ℕ → ℕ → ℕ };
 
@@ -18,7 +18,7 @@ pub(crate) trait Join {
         ensures { result ≡ join self.now word other };
 }
 
-// Puts what is made of the two words at each place into the first slice.
+// Replaces each word of the first slice by what it and the other slice's word at that place are joined to.
 pub(crate) fn join_all<J: Join>(how: &J, words: &mut [u32], others: &[u32])
     requires { length others.now ≡ length words.old }
     ensures { words.new ≡ zip2 (J.join how.now) words.old others.now }
@@ -33,7 +33,6 @@ pub(crate) fn join_all<J: Join>(how: &J, words: &mut [u32], others: &[u32])
     join_rest(how, &mut words[at..], &others[at..]);
 }
 
-// The same, one by one.
 fn join_rest<J: Join>(how: &J, words: &mut [u32], others: &[u32])
     requires { length others.now ≡ length words.old }
     ensures { words.new ≡ zip2 (J.join how.now) words.old others.now }

@@ -1,3 +1,4 @@
+//! Marks the rows of a column whose word is one of some ids.
 ghost use Rattle.std.specs.Prelude.{◌≡◌, length, map};
 ghost use Rattle.gate_lanes.specs.Masks.{is_among, mark_if, marked_any};
 
@@ -5,7 +6,7 @@ use crate::MARKED;
 use crate::groups::{Join, join_all};
 use std::simd::prelude::*;
 
-// Whether the second word is among these ids.
+// Marks a row if the second word is one of these ids, and ignores the first word.
 #[derive(Clone, Copy)]
 struct Among<'i> {
     ids: &'i [u32],
@@ -35,8 +36,8 @@ fn group_among(ids: &[u32], column: u32x16) -> u32x16
     marks
 }
 
-/// Marks in `out` the rows of a column whose word is among the ids: all ones there, and 0 elsewhere, whatever stood in `out`.
-/// `out` is as long as `column`. Takes time in their length times the number of ids.
+/// Marks in `out` the rows of a column whose word is among the ids. The marked words become all ones and the others 0, whatever
+/// stood in `out` before. `out` must be as long as `column`. This takes time in their length times the number of ids.
 pub fn mark_any(column: &[u32], ids: &[u32], out: &mut [u32])
     requires { length out.old ≡ length column.now }
     ensures { out.new ≡ marked_any ids.now column.now }

@@ -1,3 +1,4 @@
+//! Joins two masks in place: intersection, union and difference.
 ghost use Rattle.std.specs.Prelude.{◌≡◌, length, bit_and, bit_or};
 ghost use Rattle.gate_lanes.specs.Masks.{both, cleared_if, cleared_where, either};
 
@@ -5,8 +6,8 @@ use crate::MARKED;
 use crate::groups::{Join, join_all};
 use std::simd::prelude::*;
 
-// How two masks are joined word by word: by the rows that both mark, by those that either does, and by those of the first that the
-// second doesn't mark.
+// The three ways to join two masks: to the rows that both mark, to the rows that either marks, and to the rows of the first that
+// the second doesn't mark.
 #[derive(Clone, Copy)]
 struct And;
 
@@ -60,8 +61,8 @@ impl Join for Clear {
     }
 }
 
-/// Makes of each word of `out` its `&` with the word of `other` at the same place: of two masks, the rows that both mark.
-/// The two are as long. Takes time in their length.
+/// Replaces each word of `out` by its `&` with the word of `other` at the same place. Of two masks, this leaves the rows that
+/// both mark. The slices must have the same length. This takes time in that length.
 pub fn and_into(out: &mut [u32], other: &[u32])
     requires { length other.now ≡ length out.old }
     ensures { out.new ≡ both out.old other.now }
@@ -69,8 +70,8 @@ pub fn and_into(out: &mut [u32], other: &[u32])
     join_all(&And, out, other);
 }
 
-/// Makes of each word of `out` its `|` with the word of `other` at the same place: of two masks, the rows that either
-/// marks. The two are as long. Takes time in their length.
+/// Replaces each word of `out` by its `|` with the word of `other` at the same place. Of two masks, this leaves the rows that
+/// either marks. The slices must have the same length. This takes time in that length.
 pub fn or_into(out: &mut [u32], other: &[u32])
     requires { length other.now ≡ length out.old }
     ensures { out.new ≡ either out.old other.now }
@@ -78,8 +79,8 @@ pub fn or_into(out: &mut [u32], other: &[u32])
     join_all(&Or, out, other);
 }
 
-/// Makes each word of `out` 0 where `flags` marks its row, and leaves it as it is elsewhere. The two are as long. Takes time
-/// in their length.
+/// Sets each word of `out` to 0 where `flags` marks its row, and leaves the other words as they are. The slices must have the
+/// same length. This takes time in that length.
 pub fn clear_where(out: &mut [u32], flags: &[u32])
     requires { length flags.now ≡ length out.old }
     ensures { out.new ≡ cleared_where out.old flags.now }

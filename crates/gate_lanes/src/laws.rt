@@ -1,3 +1,4 @@
+//! The law that connects `MARKED` with the number that the definitions name.
 ghost use Rattle.std.specs.Prelude.{◌≡◌};
 ghost use Rattle.gate_lanes.specs.Masks.{all_ones};
 ghost use Rattle.gate_lanes.specs.declared.TheConstants.{MARKED};

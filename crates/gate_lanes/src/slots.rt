@@ -1,3 +1,4 @@
+//! Marks the rows that have an id in one of several cells.
 ghost use Rattle.std.specs.Prelude.{◌≡◌, ◌%◌, length};
 ghost use Rattle.gate_lanes.specs.Masks.{marked_slots};
 ghost use Rattle.gate_lanes.specs.Inner.Masks.{marked_too};
@@ -6,7 +7,7 @@ use crate::MARKED;
 use crate::groups::{Join, join_all};
 use std::simd::prelude::*;
 
-// Marks the first word where the second one is this id.
+// Marks a row if the second word is this id, and else keeps the mark that the first word is.
 #[derive(Clone, Copy)]
 struct Holds {
     id: u32,
@@ -28,10 +29,10 @@ impl Join for Holds {
     }
 }
 
-/// Marks in `out` the rows that have the id in one of their cells: all ones there, and 0 elsewhere, whatever stood in `out`.
-/// The cells are slot after slot, `rows` words each: the cell of row `r` in slot `s` is `cells[s * rows + r]`. So there
-/// are a multiple of `rows` of them, and none where `rows` is 0 (the remainder by 0 is the number itself, in a contract).
-/// `out` has `rows` words. Takes time in the cells.
+/// Marks in `out` the rows that have the id in one of their cells. The marked words become all ones and the others 0, whatever
+/// stood in `out` before. The cells stand slot after slot, `rows` words each: the cell of row `r` in slot `s` is
+/// `cells[s * rows + r]`. So the number of cells is a multiple of `rows`, and 0 where `rows` is 0 (the remainder by 0 is the
+/// number itself, in a contract). `out` must have `rows` words. This takes time in the number of cells.
 pub fn mark_slots(cells: &[u32], rows: usize, id: u32, out: &mut [u32])
     requires whole { length cells.now % rows ≡ 0 }
     requires len { length out.old ≡ rows }

@@ -20,14 +20,14 @@ use Rattle.gate_line.specs.Fields.{◌>>=◌, Rest, wrong, or_wrong, word_field,
 
 -- ---- keys
 
--- the number of a change, which may have a sign
+-- the number of a change, with at most one sign, and the rest after it
 abbrev pub change_field : Rest → Result (ℤ × Rest) LineFault
 change_field rest = do
   word ← word_field field.Change rest
   number ← or_wrong (option_and_then number_in (text_of word.0)) field.Change rest
   Ok (number, word.1)
 
--- `C N`: the number of a connection, and that of a change
+-- `C N`: the number of a connection and the number of a change in it
 abbrev pub change_of : Rest → Result Key LineFault
 change_of rest = do
   conn ← number_field (2 ^ 32) field.Connection rest
@@ -35,7 +35,7 @@ change_of rest = do
   done ← at_end number.1
   Ok (key.Change (record { 0 = conn.0 }) number.0)
 
--- `C NEWREV REFNAME PROJECT`: the number of a connection, and three texts, of which the project is the whole rest
+-- `C NEWREV REFNAME PROJECT`: the number of a connection, and three texts, of which the project's name is the whole rest
 abbrev pub ref_of : Rest → Result Key LineFault
 ref_of rest = do
   conn ← number_field (2 ^ 32) field.Connection rest
@@ -52,7 +52,7 @@ key_of rest = do
 
 -- ---- posts
 
--- whether a job has succeeded
+-- what a word says of a job: whether it has succeeded
 abbrev pub success_of : List ℕ → Option Bool
 success_of word = if bytes_eq word (codes "success") then Some true else (if bytes_eq word (codes "failure") then Some false else None)
 
@@ -65,7 +65,7 @@ ended_of rest = do
   job ← last_text field.Job word.1
   Ok (record { set = set.0; job = job; success = success })
 
--- what is posted to this pipeline
+-- what a line of this kind posts to this pipeline
 abbrev pub posted_to : PostKind → TenantId → PipelineId → Rest → Result Post LineFault
 posted_to kind.Dequeue tenant pipeline rest = do
   key ← key_of rest
@@ -77,21 +77,22 @@ posted_to kind.Result tenant pipeline rest = do
   ended ← ended_of rest
   Ok (post.Result tenant pipeline ended)
 
--- `T P`, the numbers of a tenant and of its pipeline, and behind them a key, or a build set and how a job of it has ended
+-- what a line of this kind posts: after `T P`, the numbers of a tenant and of its pipeline, comes a key, or a build set and how a
+-- job of it has ended
 abbrev pub post_of : PostKind → Rest → Result Post LineFault
 post_of kind rest = do
   tenant ← number_field (2 ^ 32) field.Tenant rest
   pipeline ← number_field (2 ^ 32) field.Pipeline tenant.1
   posted_to kind (record { 0 = tenant.0 }) (record { 0 = pipeline.0 }) pipeline.1
 
--- the first word of a line that posts
+-- the kind of a line that posts, by its first word
 abbrev pub kind_of : List ℕ → Option PostKind
 kind_of word =
     if bytes_eq word (codes "dequeue") then Some kind.Dequeue
     else (if bytes_eq word (codes "reset") then Some kind.Reset
     else (if bytes_eq word (codes "result") then Some kind.Result else None))
 
--- texts are copied for a key of a ref, and for a result
+-- The post has texts that are copied: those of a ref's key, or the job's name of a result.
 abbrev pub key_has_texts : Key → Bool
 key_has_texts (key.Change conn number) = false
 key_has_texts (key.Ref conn project refname newrev) = true

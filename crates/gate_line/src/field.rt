@@ -1,7 +1,8 @@
+//! The fields of a line, and the faults that name a field.
 ghost use Rattle.std.specs.Prelude.{◌≡◌, length, option_copied};
 ghost use Rattle.gate_line.specs.Fields.{is_number, wrong};
 
-/// What is to stand at a place of a line.
+/// A field: what must stand at a place of a line.
 #[derive(Clone, Copy, Debug, PartialEq, Eq)]
 pub enum Field {
     /// The number of a connection: digits, below 2^32.
@@ -10,7 +11,7 @@ pub enum Field {
     Tenant,
     /// The number of a pipeline of its tenant: digits, below 2^32.
     Pipeline,
-    /// How many: digits, below 2^32.
+    /// A count: digits, below 2^32.
     Count,
     /// The number of a build set: digits, below 2^64.
     BuildSet,
@@ -20,9 +21,9 @@ pub enum Field {
     Job,
     /// A record: the rest of the line, of any bytes.
     Record,
-    /// `change` or `ref`, with the fields of that key behind it.
+    /// The word `change` or `ref`, followed by the fields of that kind of key.
     Key,
-    /// The number of a change: an `i64`, behind one sign or none.
+    /// The number of a change: an `i64`, with at most one sign.
     Change,
     /// A revision, in UTF-8.
     Revision,
@@ -35,7 +36,7 @@ pub enum Field {
 }
 
 impl Field {
-    /// Whether it is a number.
+    /// Returns whether the field is a number.
     pub fn is_number(self) -> bool
         ensures { result ≡ is_number self }
     {
@@ -46,7 +47,7 @@ impl Field {
         }
     }
 
-    // The fault of what stands here, where this should.
+    // Returns the fault where this field should stand and `rest` stands instead.
     pub(crate) fn wrong(self, rest: Option<&[u8]>) -> LineFault
         ensures { result ≡ wrong self (option_copied rest.entry) }
     {
@@ -57,16 +58,17 @@ impl Field {
     }
 }
 
-/// Why a line stands for nothing: the first field from the left that is missing or wrong.
+/// Why a line stands for nothing. Faults of a line name its first field from the left that is missing or wrong.
 #[derive(Clone, Copy, Debug, PartialEq, Eq)]
 pub enum LineFault {
-    /// The first word begins no line.
+    /// The line's first word is none that a line may begin with.
     Unknown,
     /// The line ends before this field.
     Missing(Field),
-    /// Nothing stands in the place of this field: a space too many, or one at the end.
+    /// The field is empty: there is a space too many before it, or one at the end of the line.
     Empty(Field),
-    /// Something else stands in the place of this field, so many bytes before the end of the line.
+    /// Something else stands in the place of this field. The number is how many bytes there are from that place to the end of the
+    /// line.
     Wrong(Field, usize),
     /// Memory was refused for the copy of a text.
     Memory,

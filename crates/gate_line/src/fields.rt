@@ -1,5 +1,6 @@
-//! The fields of a line, read from left to right. What stands behind a field is `None` where the line ends with it, and
-//! else what stands behind its space. None of these takes memory, and so none answers `Memory`.
+//! Reads the fields of a line from left to right. Each function takes the rest of a line, and returns a field and the rest after
+//! it: `None` where the line ends with the field, else what follows the field's space. No function here takes memory, and so none
+//! answers `LineFault::Memory`.
 ghost use Rattle.std.specs.Prelude.{◌≡◌, ◌^◌, IfErr, option_copied};
 ghost use Rattle.std.specs.Result.{result_map_both};
 ghost use Rattle.gate_line.specs.Fields.{IsOwn, at_end, last_bytes, last_text, number_field, seen, text_field, word_field};
@@ -7,7 +8,7 @@ ghost use Rattle.gate_line.specs.Fields.{IsOwn, at_end, last_bytes, last_text, n
 use crate::field::{Field, LineFault};
 use crate::words::{number_of, set_of, split_word, text_of};
 
-// A field of one byte or more, and what stands behind it.
+// Reads a field of one byte or more.
 pub(crate) fn word_field(
     expected: Field,
     rest: Option<&[u8]>,
@@ -25,7 +26,7 @@ pub(crate) fn word_field(
     Ok((word, more))
 }
 
-/// A number below 2^32, and what stands behind it.
+/// Reads a number below 2^32.
 pub fn number_field(expected: Field, rest: Option<&[u8]>) -> Result<(u32, Option<&[u8]>), LineFault>
     ensures value { seen (λ number. number) result ≡ number_field (2 ^ 32) expected (option_copied rest.entry) }
     ensures own { IfErr result IsOwn }
@@ -37,7 +38,7 @@ pub fn number_field(expected: Field, rest: Option<&[u8]>) -> Result<(u32, Option
     }
 }
 
-// The number of a build set, and what stands behind it.
+// Reads the number of a build set.
 pub(crate) fn set_field(rest: Option<&[u8]>) -> Result<(u64, Option<&[u8]>), LineFault>
     ensures value { seen (λ set. set) result ≡ number_field (2 ^ 64) Field.BuildSet (option_copied rest.entry) }
     ensures own { IfErr result IsOwn }
@@ -49,7 +50,7 @@ pub(crate) fn set_field(rest: Option<&[u8]>) -> Result<(u64, Option<&[u8]>), Lin
     }
 }
 
-// A text without a space, and what stands behind it.
+// Reads a text without a space.
 pub(crate) fn text_field(
     expected: Field,
     rest: Option<&[u8]>,
@@ -64,7 +65,7 @@ pub(crate) fn text_field(
     }
 }
 
-/// The whole rest, spaces included: one byte or more.
+/// Takes the whole rest, spaces included, which must be one byte or more.
 pub fn last_bytes(expected: Field, rest: Option<&[u8]>) -> Result<&[u8], LineFault>
     ensures value { result_map_both (λ bytes. bytes.now) (λ fault. fault) result ≡ last_bytes expected (option_copied rest.entry) }
     ensures own { IfErr result IsOwn }
@@ -76,7 +77,7 @@ pub fn last_bytes(expected: Field, rest: Option<&[u8]>) -> Result<&[u8], LineFau
     }
 }
 
-// A text that is the whole rest, spaces included.
+// Takes the whole rest, spaces included, as a text.
 pub(crate) fn last_text(expected: Field, rest: Option<&[u8]>) -> Result<&str, LineFault>
     ensures value { result_map_both (λ text. text.now) (λ fault. fault) result ≡ last_text expected (option_copied rest.entry) }
     ensures own { IfErr result IsOwn }
@@ -88,7 +89,7 @@ pub(crate) fn last_text(expected: Field, rest: Option<&[u8]>) -> Result<&str, Li
     }
 }
 
-/// Nothing more.
+/// Checks that the line has ended.
 pub fn at_end(rest: Option<&[u8]>) -> Result<(), LineFault>
     ensures value { result ≡ at_end (option_copied rest.entry) }
     ensures own { IfErr result IsOwn }

@@ -1,4 +1,4 @@
-//! The keys of queue items.
+//! Reads the keys of queue items from lines.
 ghost use Rattle.std.specs.Prelude.{◌≡◌, IfErr, IfOk, IsOkUnless, option_copied};
 ghost use Rattle.gate_line.specs.Fields.{Answers, IsOwn};
 ghost use Rattle.gate_line.specs.Posts.{change_of, key_has_texts, key_of, ref_of};
@@ -10,7 +10,7 @@ use gate_items::Key;
 use gate_record::{ConnId, Text, number_of_text};
 use std::alloc::Global;
 
-/// `change C N` or `ref C NEWREV REFNAME PROJECT`.
+/// Reads `change C N` or `ref C NEWREV REFNAME PROJECT`.
 pub(crate) fn key_of(alloc: Global, rest: Option<&[u8]>) -> Result<Key, LineFault>
     ensures { Answers key_has_texts (key_of (option_copied rest.entry)) result }
 {
@@ -24,7 +24,7 @@ pub(crate) fn key_of(alloc: Global, rest: Option<&[u8]>) -> Result<Key, LineFaul
     Err(Field::Key.wrong(rest))
 }
 
-// `C N`, which ends the line.
+// Reads `C N`, which must end the line.
 fn change_of(rest: Option<&[u8]>) -> Result<Key, LineFault>
     ensures value { result ≡ change_of (option_copied rest.entry) }
     ensures own { IfErr result IsOwn }
@@ -41,7 +41,7 @@ fn change_of(rest: Option<&[u8]>) -> Result<Key, LineFault>
 ghost use Rattle.gate_line.specs.Fields.{seen};
 ghost use Rattle.gate_line.specs.Posts.{change_field};
 
-// The number of a change, and what stands behind it.
+// Reads the number of a change.
 fn change_field(rest: Option<&[u8]>) -> Result<(i64, Option<&[u8]>), LineFault>
     ensures value { seen (λ number. number) result ≡ change_field (option_copied rest.entry) }
     ensures own { IfErr result IsOwn }
@@ -63,7 +63,7 @@ fn change_number(word: &[u8]) -> Option<i64>
     number_of_text(text_of(word)?)
 }
 
-// `C NEWREV REFNAME PROJECT`.
+// Reads `C NEWREV REFNAME PROJECT`.
 fn ref_of(alloc: Global, rest: Option<&[u8]>) -> Result<Key, LineFault>
     ensures { Answers key_has_texts (ref_of (option_copied rest.entry)) result }
 {
@@ -78,7 +78,7 @@ fn ref_of(alloc: Global, rest: Option<&[u8]>) -> Result<Key, LineFault>
 
 ghost use Rattle.gate_line.specs.Inner.Posts.{seen_ref};
 
-// The number of the connection, the revision, the ref and the project, which is the whole rest.
+// Reads the number of the connection, the revision, the ref's name and the project's name, which is the whole rest.
 fn ref_parts(rest: Option<&[u8]>) -> Result<(u32, &str, &str, &str), LineFault>
     ensures value { seen_ref result ≡ ref_of (option_copied rest.entry) }
     ensures own { IfErr result IsOwn }
@@ -92,7 +92,7 @@ fn ref_parts(rest: Option<&[u8]>) -> Result<(u32, &str, &str, &str), LineFault>
 
 ghost use Rattle.gate_line.specs.declared.field.LineFault.{LineFault};
 
-// A copy of a text.
+// Copies a text, with `LineFault::Memory` in place of `Memory`.
 pub(crate) fn copy(alloc: Global, text: &str) -> Result<Text, LineFault>
     ensures ok { IfOk result (λ copy. copy ≡ text.now) }
     ensures memory { IsOkUnless result LineFault.Memory }

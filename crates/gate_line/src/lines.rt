@@ -1,11 +1,12 @@
-//! The lines of a script.
+//! Cuts a script into lines.
 ghost use Rattle.std.specs.Prelude.{◌≡◌, ◌<◌, ◌==◌, ◌∷◌, length, position};
 ghost use Rattle.std.specs.Str.Lines.{lines, strip_carriage_return};
 ghost use Rattle.gate_line.specs.Words.{is_skipped};
 
 use memchr::memchr;
 
-/// The first line of a text that isn't empty, without its line end, which is LF or CR LF, and what follows it.
+/// Splits a text, which isn't empty, into its first line and what follows. The line comes without its line end, which is LF or CR
+/// LF.
 pub fn first_line(text: &[u8]) -> (&[u8], &[u8])
     requires { 0 < length text.now }
     ensures lines { lines text.now ≡ result.0.now ∷ lines result.1.now }
@@ -17,14 +18,13 @@ pub fn first_line(text: &[u8]) -> (&[u8], &[u8])
     }
 }
 
-// The first place of a line feed.
 fn line_feed_in(text: &[u8]) -> Option<usize>
     ensures { result ≡ position (λ byte. byte == 10) text.now }
 {
     memchr(b'\n', text)
 }
 
-// A line without the one carriage return at its end.
+// Returns the line without one carriage return at its end.
 fn without_return(line: &[u8]) -> &[u8]
     ensures { result.now ≡ strip_carriage_return line.now }
 {
@@ -34,7 +34,7 @@ fn without_return(line: &[u8]) -> &[u8]
     }
 }
 
-/// Whether a line of a script is skipped: an empty one, and one that begins with `#`.
+/// Returns whether a line of a script is skipped: whether it is empty or begins with `#`.
 pub fn is_skipped(line: &[u8]) -> bool
     ensures { result ≡ is_skipped line.now }
 {

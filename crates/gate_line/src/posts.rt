@@ -1,4 +1,4 @@
-//! What a line posts to a pipeline.
+//! Reads the lines that post a management event or a result to a pipeline.
 ghost use Rattle.std.specs.Prelude.{◌≡◌, option_copied};
 ghost use Rattle.gate_line.specs.Fields.{Answers};
 ghost use Rattle.gate_line.specs.Posts.{ended_of, kind_of, post_has_texts, post_of, posted_to, success_of};
@@ -12,16 +12,16 @@ use gate_items::{JobResult, Manage};
 use gate_record::{PipelineId, TenantId};
 use std::alloc::Global;
 
-/// What is posted to a pipeline.
+/// What a line posts to a pipeline.
 #[derive(Debug, Drop)]
 pub enum Post {
-    /// An item is to be taken out (`dequeue`), or to get a new build set (`reset`).
+    /// An item is to be taken out (`dequeue`) or to get a new build set (`reset`).
     Manage(TenantId, PipelineId, Manage),
     /// A job of a build set has ended.
     Result(TenantId, PipelineId, JobResult),
 }
 
-/// What the first word of a line says that posts something.
+/// The kinds of lines that post something, by their first word.
 #[derive(Clone, Copy, Debug, PartialEq, Eq)]
 pub enum PostKind {
     /// `dequeue T P KEY`.
@@ -33,7 +33,7 @@ pub enum PostKind {
 }
 
 impl PostKind {
-    /// The kind of a line with this first word, if it posts something.
+    /// Returns the kind of a line with this first word, if such a line posts something.
     pub fn of(word: &[u8]) -> Option<PostKind>
         ensures { result ≡ kind_of word.now }
     {
@@ -49,8 +49,9 @@ impl PostKind {
         None
     }
 
-    /// What a line of this kind posts, by what stands behind its first word. Whether there is such a tenant, pipeline or connection
-    /// isn't asked. `Memory` only where a line that posts something has texts to copy: those of a ref's key, or the name of a job.
+    /// Reads what a line of this kind posts. `rest` is what follows the line's first word. Whether there are such a tenant,
+    /// pipeline and connection isn't checked. The error is `LineFault::Memory` only if the line is right and has texts to copy:
+    /// those of a ref's key, or the name of a job. Any other error is the line's first fault from the left.
     pub fn read(self, alloc: Global, rest: Option<&[u8]>) -> Result<Post, LineFault>
         ensures { Answers post_has_texts (post_of self (option_copied rest.entry)) result }
     {
@@ -85,7 +86,7 @@ fn posted_to(
     }
 }
 
-// `SET success JOB` or `SET failure JOB`.
+// Reads `SET success JOB` or `SET failure JOB`.
 fn ended_of(alloc: Global, rest: Option<&[u8]>) -> Result<JobResult, LineFault>
     ensures { Answers ended_has_texts (ended_of (option_copied rest.entry)) result }
 {
@@ -101,7 +102,7 @@ ghost use Rattle.std.specs.Prelude.{IfErr};
 ghost use Rattle.gate_line.specs.Fields.{IsOwn};
 ghost use Rattle.gate_line.specs.Inner.Posts.{seen_ended};
 
-// The number of the build set, whether the job has succeeded, and its name, which is the whole rest.
+// Reads the number of the build set, whether the job has succeeded, and the job's name, which is the whole rest.
 fn ended_parts(rest: Option<&[u8]>) -> Result<(u64, bool, &str), LineFault>
     ensures value { seen_ended result ≡ ended_of (option_copied rest.entry) }
     ensures own { IfErr result IsOwn }

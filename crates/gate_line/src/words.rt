@@ -1,11 +1,12 @@
-//! The words of a line: texts, numbers, and names to compare with.
+//! Reads single words of a line: texts, numbers, and words to compare with.
 ghost use Rattle.std.specs.Prelude.{◌≡◌, ◌+◌, ◌^◌, Some, None, option_copied, option_map};
 ghost use Rattle.std.specs.Str.{bytes_eq};
 ghost use Rattle.gate_line.specs.Words.{is_blank, number_below, rest_of, text_of, word_of};
 
 use std::str;
 
-/// What stands before the first space, and what behind it.
+/// Splits a text at its first space: returns the word before the space, and what follows the space. Without a space, the whole
+/// text is the word.
 pub fn split_word(text: &[u8]) -> (&[u8], Option<&[u8]>)
     ensures word { result.0.now ≡ word_of text.now }
     ensures rest { option_copied result.1 ≡ rest_of text.now }
@@ -16,7 +17,7 @@ pub fn split_word(text: &[u8]) -> (&[u8], Option<&[u8]>)
     }
 }
 
-/// Whether a word is this one.
+/// Returns whether a word is this one.
 pub fn is_word(word: &[u8], name: &str) -> bool
     ensures { result ≡ bytes_eq word.now name.now }
 {
@@ -25,7 +26,7 @@ pub fn is_word(word: &[u8], name: &str) -> bool
 
 ghost use Rattle.std.specs.Prelude.{position, ◌==◌};
 
-// The first place of a byte; words are short.
+// Returns the first place of a byte. Words are short, so a plain search will do.
 fn find_byte(text: &[u8], wanted: u8) -> Option<usize>
     ensures { result ≡ position (λ byte. byte == wanted) text.now }
 {
@@ -34,7 +35,7 @@ fn find_byte(text: &[u8], wanted: u8) -> Option<usize>
 
 ghost use Rattle.gate_line.specs.Words.{is_digit, is_space, value_of};
 
-/// Whether a line has nothing but spaces.
+/// Returns whether a line has nothing but spaces.
 pub fn is_blank(line: &[u8]) -> bool
     ensures { result ≡ is_blank line.now }
 {
@@ -43,14 +44,14 @@ pub fn is_blank(line: &[u8]) -> bool
 
 ghost use Rattle.gate_line.specs.Words.{state_word};
 
-/// How a line says whether a pipeline has finished: `finished` or `running`.
+/// Returns the word with which a line says whether a pipeline has finished: `finished` or `running`.
 pub fn state_word(finished: bool) -> &'static str
     ensures { result.now ≡ state_word finished }
 {
     if finished { "finished" } else { "running" }
 }
 
-// A text of one byte or more.
+// Returns the bytes as a text, if there are any and they are UTF-8.
 pub(crate) fn text_of(bytes: &[u8]) -> Option<&str>
     ensures { option_map (λ text. text.now) result ≡ text_of bytes.now }
 {
@@ -63,7 +64,7 @@ pub(crate) fn text_of(bytes: &[u8]) -> Option<&str>
     }
 }
 
-// One or more decimal digits whose value is a `u32`.
+// Reads one or more decimal digits whose value fits a `u32`.
 pub(crate) fn number_of(text: &[u8]) -> Option<u32>
     ensures { result ≡ number_below (2 ^ 32) text.now }
 {
@@ -75,7 +76,7 @@ pub(crate) fn number_of(text: &[u8]) -> Option<u32>
     }
 }
 
-// One or more decimal digits whose value is a `u64`.
+// Reads one or more decimal digits whose value fits a `u64`.
 pub(crate) fn set_of(text: &[u8]) -> Option<u64>
     ensures { result ≡ number_below (2 ^ 64) text.now }
 {
@@ -88,7 +89,7 @@ pub(crate) fn set_of(text: &[u8]) -> Option<u64>
 ghost use Rattle.std.specs.Prelude.{◌&&◌, if◌then◌else◌, nat_lt};
 ghost use Rattle.std.specs.List.{list_all};
 
-// The value of a text of nothing but digits, where it is a `u64`.
+// Returns the value of a text that has nothing but digits, if it fits a `u64`.
 fn value_of(text: &[u8]) -> Option<u64>
     ensures { result ≡ (if list_all is_digit text.now && nat_lt (value_of text.now) (2 ^ 64) then Some (value_of text.now) else None) }
 {
@@ -104,7 +105,7 @@ fn value_of(text: &[u8]) -> Option<u64>
 
 ghost use Rattle.std.specs.Prelude.{◌*◌, ◌-◌};
 
-// A digit more, where the byte is one and the value stays a `u64`.
+// Returns the value with one more digit, if the byte is a digit and the new value fits a `u64`.
 fn with_digit(value: u64, byte: u8) -> Option<u64>
     ensures { result ≡ (if is_digit byte && nat_lt (10 * value + (byte - 48)) (2 ^ 64) then Some (10 * value + (byte - 48)) else None) }
 {

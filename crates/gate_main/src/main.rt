@@ -1,4 +1,4 @@
-//! The program `gate`.
+//! The program `gate`: gives the words of the command line and the system's host to gate_main_program, and ends with its exit status.
 #![tactic(auto)]
 
 use gate_main_program::{run_unread, run_words};

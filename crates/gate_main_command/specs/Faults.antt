@@ -4,7 +4,7 @@ use Rattle.gate_config.specs.declared.generation_fault.GenerationFault.TheVarian
 use Rattle.gate_main_command.specs.declared.fault.Fault.{Fault}
 use Rattle.gate_main_command.specs.declared.fault.Fault.TheVariants as fault
 
--- 1 while running, 2 for the command line, 3 for a configuration or a script
+-- 1 for a fault while running, 2 for the command line, 3 for a configuration or a script
 abbrev pub status_of : Fault → ℕ
 status_of fault.Memory = 1
 status_of (fault.File path) = 1

@@ -1,18 +1,18 @@
-//! What `check` prints.
+//! The command `check`: what it prints of a configuration.
 use crate::fault::Fault;
 use crate::files::read_files;
 use gate_config::{Generations, check_text, read_generations};
 use std::alloc::Global;
 use std::rt::Files;
 
-/// What `check` prints of the configuration in these files, a generation each: what they say, one after another. `File` where a file can't
-/// be read, the fault of the documents where they are refused, `Memory` where it is refused.
+/// What `check` prints of the configuration in these files, of which each is a generation: what each of them says, one after another. The
+/// fault is `File` for a file that can't be read, or that of the documents.
 pub fn check_files<X: Files + AllocGlobal>(rt: &X, config: Vec<String>) -> Result<String, Fault> {
     let documents = read_files(rt, config)?;
     check(rt.alloc(), documents.as_slice())
 }
 
-// What each generation of a configuration says, one after another.
+// The text of all generations of a configuration, one after another.
 fn check(alloc: Global, documents: &[Vec<u8>]) -> Result<String, Fault> {
     let gens = read_generations(alloc, documents)?;
     text_of(alloc, &gens)

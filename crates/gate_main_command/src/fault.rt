@@ -1,3 +1,4 @@
+//! Why the program `gate` fails, with the text and the exit status of each fault.
 ghost use Rattle.std.specs.Prelude.{◌≡◌};
 ghost use Rattle.gate_main_command.specs.Faults.{status_of};
 
@@ -8,29 +9,29 @@ use gate_run_threads::RunFault;
 use std::alloc::{AllocError, AllocFailed};
 use std::fmt;
 
-/// Why the program did not do what its words ask for. Its text stands on standard error behind `fault: `.
+/// Why the program did not do what its words ask for. The text is printed on standard error after `fault: `.
 #[derive(Debug, Drop)]
 pub enum Fault {
     /// Memory was refused.
     Memory,
-    /// A file that can't be read; `-` is standard input.
+    /// The file at this path can't be read. `-` stands for standard input.
     File(String),
-    /// A thread can't be started.
+    /// A thread couldn't be started.
     Thread,
-    /// What the word STATUS names can't be listened on.
+    /// The program can't listen at the address that the word STATUS names.
     Listen(String),
-    /// The socket that this word names can't be connected to.
+    /// The program can't connect to the socket that this word names.
     Connect(String),
     /// Standard output can't be written.
     Write,
-    /// A journal that can't be opened or written.
+    /// The journal at this path can't be opened or written.
     Journal(String),
-    /// The words are no form that is known.
+    /// The words of the command line are none of the forms that the program knows.
     Usage,
-    /// A word that names no stream, or the stream of a connection that isn't there or has one; or the name of a connection that has
-    /// none.
+    /// This word names no stream, or the stream of an unknown connection or of one that has a stream already. Or this is the name of a
+    /// connection that has no stream.
     Source(String),
-    /// The documents are no generations of a configuration.
+    /// The documents are not the generations of one configuration.
     Generations(GenerationFault),
     /// The first line of the script that stands for nothing, counted from 1.
     Script(usize),

@@ -1,10 +1,10 @@
-//! Files that are read whole.
+//! Reads whole files.
 use crate::fault::Fault;
 use std::io::ErrorKind;
 use std::rt::Files;
 use std::{fs, io};
 
-/// The contents of files, all of which are read before any is looked into. `File` where one can't be read, `Memory` where it is refused.
+/// The contents of files. All are read before any is looked into. `File` names a file that can't be read.
 pub fn read_files<X: Files + AllocGlobal>(
     rt: &X,
     paths: Vec<String>,
@@ -23,7 +23,7 @@ pub(crate) fn read_file<X: Files + AllocGlobal>(rt: &X, path: String) -> Result<
     }
 }
 
-// Why what stands at a path, or on standard input, isn't read.
+// The fault for a file, or for standard input, that can't be read.
 pub(crate) fn reading_fault(path: String, error: &io::Error) -> Fault {
     match error.kind() {
         ErrorKind::OutOfMemory => Fault::Memory,

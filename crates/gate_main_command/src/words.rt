@@ -1,3 +1,4 @@
+//! Reads the words of the command line.
 ghost use Rattle.std.specs.Prelude.{◌≡◌, ◌≢◌};
 ghost use Rattle.std.specs.IoError.{error_kind};
 ghost use Rattle.gate_main_command.specs.Faults.{status_of};
@@ -10,30 +11,30 @@ use std::alloc::{AllocError, Global};
 use std::io;
 use std::io::ErrorKind;
 
-/// What the words of the command line ask for.
+/// What the words of the command line ask for. Each path in `config` is that of a document, and each document is a generation.
 #[derive(Debug, Drop)]
 pub enum Task {
-    /// To print what a configuration says, whose documents have these paths, a generation each.
+    /// Print what a configuration says.
     Check {
         config: Vec<String>,
     },
-    /// To replay a script, a path, by a configuration.
+    /// Replay a script by a configuration.
     Replay {
         config: Vec<String>,
         script: String,
     },
-    /// To run a configuration over the streams of its connections, with a status port where there is to be one.
+    /// Run a configuration over the streams of its connections, with a status port if there is to be one.
     Serve {
         config: Vec<String>,
         status: String,
         sources: Vec<String>,
     },
-    /// To replay what standard input has: its first line is the configuration, the rest the script.
+    /// Replay standard input, whose first line is the configuration and whose other lines are the script.
     Input,
 }
 
-/// Reads the program's words, its name first. `Usage` for words that are no form that is known, `Memory` where memory
-/// is refused.
+/// Reads the program's words, of which the first is the program's name. `Usage` says that they are none of the forms that the program
+/// knows.
 pub fn task_of<'a>(alloc: Global, words: &'a [String]) -> Result<Task, Fault> {
     let command = command(alloc)?;
     match command.try_get_matches_from(words) {
@@ -62,7 +63,7 @@ fn with_serve<'a>(alloc: Global, gate: Command<'a>) -> Result<Command<'a>, Alloc
     gate.subcommand(serve.arg(path(alloc, "status"))?.arg(sources)?)
 }
 
-// A command without clap's own help and version.
+// A command without the help and the version that clap would add.
 fn plain<'a>(alloc: Global, name: &'a str) -> Command<'a> {
     Command::new(alloc, name)
         .disable_help_flag(true)
@@ -113,7 +114,7 @@ fn serve_in(alloc: Global, config: &str, words: &ArgMatches<'_>) -> Result<Task,
     })
 }
 
-// The paths that a word joins by commas, which may be empty.
+// The paths that a word joins by commas. A path may be empty.
 fn paths_of(alloc: Global, word: &str) -> Result<Vec<String>, Fault> {
     let mut paths = Vec::new(alloc);
     let mut path = String::new(alloc);
@@ -136,7 +137,7 @@ fn fault_of(error: &Error) -> Fault {
     }
 }
 
-/// The fault where the words themselves can't be read, as one that isn't UTF-8.
+/// The fault where the words themselves can't be read, such as one that isn't UTF-8.
 pub fn unread(error: &io::Error) -> Fault
     ensures memory { error_kind error.now ≡ ErrorKind.OutOfMemory → status_of result ≡ 1 }
     ensures usage { error_kind error.now ≢ ErrorKind.OutOfMemory → status_of result ≡ 2 }

@@ -1,4 +1,4 @@
-//! What the program `gate` does for the words of its command line: it checks, replays and serves.
+//! What the program `gate` does for the words of its command line: `check`, `replay` or `serve`.
 #![tactic(auto)]
 
 mod program;

@@ -1,3 +1,4 @@
+//! Does what the words of the command line ask for, from reading the words to the exit status.
 ghost use Rattle.std.specs.Prelude.{◌≡◌, ◌≢◌, ◌≤◌};
 ghost use Rattle.std.specs.IoError.{error_kind};
 ghost use Rattle.gate_main_command.specs.Faults.{status_of};
@@ -17,9 +18,9 @@ use std::sync::Wait;
 use std::thread::Threads;
 use std::time::Clock;
 
-/// Does what the program's words ask for, its name first, and gives the exit status: 0, or that of the fault, whose
-/// line then stands on the second writer. What is printed goes to the first writer, and nothing does where there is a
-/// fault before it.
+/// Does what the program's words ask for, of which the first is the program's name, and gives the exit status: 0, or that of the fault.
+/// What is printed goes to the first writer, and the line of a fault to the second. Where there is a fault before anything is printed,
+/// nothing is.
 pub fn run_words<X, R, O, E>(
     rt: &X,
     words: &[String],
@@ -54,8 +55,8 @@ where
     }
 }
 
-/// Does what is done where the words themselves can't be read: the line of the fault goes to the writer, `memory` where memory is
-/// wanting and else `usage`, and its status is the answer.
+/// Says that the words themselves can't be read. The line of the fault goes to the writer: `memory` where memory was refused, and `usage`
+/// otherwise. The answer is the exit status.
 pub fn run_unread<E: Write>(error: &io::Error, errors: &mut E) -> u8
     ensures memory { error_kind error.now ≡ ErrorKind.OutOfMemory → result ≡ 1 }
     ensures usage { error_kind error.now ≢ ErrorKind.OutOfMemory → result ≡ 2 }
@@ -63,7 +64,7 @@ pub fn run_unread<E: Write>(error: &io::Error, errors: &mut E) -> u8
     tell(&unread(error), errors)
 }
 
-// Writes the line of a fault, and gives its status.
+// Writes the line of a fault, and gives its exit status.
 fn tell<E: Write>(fault: &Fault, errors: &mut E) -> u8
     ensures { result ≡ status_of fault.now }
 {
@@ -71,7 +72,7 @@ fn tell<E: Write>(fault: &Fault, errors: &mut E) -> u8
     fault.status()
 }
 
-// What a command prints, and the fault that comes behind it, if one does.
+// What a command prints, and the fault that comes after that, if there is one.
 #[derive(Drop)]
 struct Said {
     text: String,
@@ -84,7 +85,7 @@ impl Said {
     }
 }
 
-// What the words ask for, done; nothing is printed yet.
+// Does what the words ask for, without printing.
 fn said_by<X, R>(rt: &X, words: &[String], input: &mut R) -> Result<Said, Fault>
 where
     X: Files<File = File>
@@ -129,7 +130,7 @@ fn print<O: Write>(output: &mut O, said: Said) -> Result<(), Fault> {
     }
 }
 
-// The report, and behind it the fault of a journal.
+// The report of a run, and after it the fault of its journal.
 fn said_of_run(alloc: Global, ran: Ran, path: Option<&str>) -> Said {
     let fault = match (ran.fault, path) {
         (Some(fault), Some(path)) => Some(journal_fault(alloc, path, fault)),

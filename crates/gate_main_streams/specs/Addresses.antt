@@ -1,4 +1,4 @@
--- Which text stands for which address.
+-- Which text each address has on the command line.
 use Rattle.std.specs.Prelude.{◌≢◌, ℕ, List, ◌++◌, codes}
 use Rattle.gate_main_streams.specs.declared.address.Address.{Address}
 use Rattle.gate_main_streams.specs.declared.address.Address.TheVariants as address

@@ -1,3 +1,4 @@
+//! A limit on how long one line or one reply may take.
 ghost use Rattle.std.specs.Prelude.{◌<◌, IfOk};
 ghost use Rattle.std.specs.Duration.{as_nanos};
 
@@ -5,7 +6,7 @@ use std::io;
 use std::io::ErrorKind;
 use std::time::{Clock, Duration, Instant};
 
-/// How long something may take, from when it is first asked what is left.
+/// How long something may take, counted from the first call of `left`.
 #[derive(Clone, Copy)]
 pub(crate) struct Deadline {
     time: Duration,
@@ -13,12 +14,12 @@ pub(crate) struct Deadline {
 }
 
 impl Deadline {
-    /// So much time, of which nothing has passed.
+    /// A deadline after `time`, which doesn't begin to pass yet.
     pub(crate) fn new(time: Duration) -> Deadline {
         Deadline { time, begun: None }
     }
 
-    /// What is left, by a clock. `TimedOut` where nothing is, and the error of a clock that can't be read.
+    /// The time that is left by this clock. `TimedOut` says that none is, and any other error is that of the clock.
     pub(crate) fn left(&mut self, clock: &impl Clock) -> io::Result<Duration>
         ensures { IfOk result (λ left. 0 < as_nanos left) }
     {
@@ -32,7 +33,7 @@ impl Deadline {
         Ok(left)
     }
 
-    /// The whole time is there again, and begins to pass when it is next asked for.
+    /// Starts anew: the whole time is left, and begins to pass with the next call of `left`.
     pub(crate) fn renew(&mut self) {
         self.begun = None;
     }

@@ -1,4 +1,4 @@
-//! Calls that the system interrupts.
+//! Reads again where the system interrupts a read.
 ghost use Rattle.std.specs.Prelude.{◌≢◌, IfErr};
 ghost use Rattle.std.specs.Io.{ReadsAtMost};
 ghost use Rattle.std.specs.IoError.{error_kind};
@@ -6,8 +6,8 @@ ghost use Rattle.std.specs.IoError.{error_kind};
 use std::io;
 use std::io::{ErrorKind, Read};
 
-/// Reads once, and again for as long as the system interrupts it, as it may where the program was stopped and goes on. Each other
-/// error is the reader's.
+/// Reads once, and again for as long as the system interrupts the call, which may happen when the program was stopped and goes on. Every
+/// other error is the reader's.
 pub(crate) fn read_again<R: Read>(reader: &mut R, buf: &mut [u8]) -> io::Result<usize>
     ensures bound { ReadsAtMost result buf.new }
     ensures retried { IfErr result (λ error. error_kind error ≢ ErrorKind.Interrupted) }

@@ -1,5 +1,5 @@
-//! Unix sockets as files. While one is looked at, made or removed, its folder is locked: so of two programs at one path each sees what
-//! the other has done, and never a part of it.
+//! The file of a Unix socket. While the file is looked at, made or removed, its folder is locked. So of two programs at one path, each sees
+//! what the other has done, and never a part of it.
 use std::fs::{File, Metadata, TryLockError};
 use std::io::ErrorKind;
 use std::net::Net;
@@ -9,16 +9,16 @@ use std::rt::Files;
 use std::time::{Clock, Duration};
 use std::{fs, io, thread};
 
-/// The file of a Unix socket that this program listens on.
+/// The file of a Unix socket on which this program listens.
 #[derive(Drop)]
 pub struct SocketFile<'a> {
     path: &'a str,
     node: Node,
-    // As long as the socket is open no other file gets its number.
+    // While this socket is open, no other file gets the number of its own.
     _listener: UnixListener,
 }
 
-// Which file it is, whatever its path.
+// The identity of a file, whatever its path.
 #[derive(Clone, Copy, PartialEq, Eq)]
 struct Node {
     device: u64,
@@ -26,15 +26,15 @@ struct Node {
 }
 
 impl<'a> SocketFile<'a> {
-    /// Makes the file and listens, and gives what is listened on. A socket on which nobody listens any longer is replaced; any other
-    /// file at the path stays, and is an error.
+    /// Makes the socket's file and listens on it. The answer has the listener, and the file to remove at the end. A socket on which nobody
+    /// listens any longer is replaced. Any other file at the path stays, and is an error.
     ///
-    /// An error also where the folder can't be read, or locked within five seconds.
+    /// It is an error too if the folder can't be read, or can't be locked within five seconds.
     pub fn listen<X: Files<File = File> + Net + Clock>(
         rt: &X,
         path: &'a str,
     ) -> io::Result<(UnixListener, SocketFile<'a>)> {
-        // The system would take an empty path for a wish for a name of its own, which nobody could connect to.
+        // The system would take an empty path for a wish to choose a name itself, and nobody could connect to that.
         if path.is_empty() {
             return Err(io::Error::from(ErrorKind::InvalidInput));
         }
@@ -44,8 +44,8 @@ impl<'a> SocketFile<'a> {
         made
     }
 
-    /// Removes the file, and closes what is listened on here. Another file that has come to its path stays. The file stays, with an
-    /// error, where its folder can't be read, or locked within five seconds, and where it can't be removed.
+    /// Removes the file, and closes this program's part of the socket. Another file that has come to the path meanwhile stays. The file
+    /// stays, with an error, if its folder can't be read, or can't be locked within five seconds, or if the file can't be removed.
     pub fn remove<X: Files<File = File> + Clock>(self, rt: &X) -> io::Result<()> {
         let folder = locked_folder(rt, self.path)?;
         let removed = self.remove_own(rt);
@@ -70,12 +70,13 @@ impl Node {
     }
 }
 
-// For how many milliseconds a lock that another has is left alone, and how often.
+// How many milliseconds pass between two tries for a lock that another program has, and how many tries there are.
 const PAUSE: u64 = 10;
 
 const PAUSES: u64 = 500;
 
-// The folder of a path, locked until it is closed. It isn't waited for without an end: whoever has the lock may wait for this program.
+// Opens the folder of a path, and locks it until it is closed. There is an end to the tries, because whoever has the lock may be waiting
+// for this program.
 fn locked_folder<X: Files<File = File> + Clock>(rt: &X, path: &str) -> io::Result<File> {
     let folder = File::open(rt, folder_of(path))?;
     for _ in 0..PAUSES {
@@ -88,7 +89,7 @@ fn locked_folder<X: Files<File = File> + Clock>(rt: &X, path: &str) -> io::Resul
     Err(io::Error::from(ErrorKind::TimedOut))
 }
 
-// With the slash behind it, so that nothing but a folder is opened there.
+// The folder of a path, with the slash at its end, so that nothing but a folder is opened there.
 fn folder_of(path: &str) -> &str {
     match path.trim_end_matches(|letter: char| letter != '/') {
         "" => ".",

@@ -1,3 +1,5 @@
+//! The stream of a connection, opened as its address says.
+
 use crate::address::Address;
 use crate::retrying::read_again;
 use std::fs::File;
@@ -7,10 +9,10 @@ use std::net::{Net, TcpStream};
 use std::os::unix::net::UnixStream;
 use std::rt::Files;
 
-/// Where the bytes of a connection's stream are read from. A read that is interrupted is tried again.
+/// The source of a connection's bytes. A read that is interrupted is tried again.
 #[derive(Drop)]
 pub enum Stream {
-    /// A file, which may be a folder: then the first read fails.
+    /// A file. Where it is a folder, the first read fails.
     File(File),
     /// A TCP socket.
     Tcp(TcpStream),
@@ -19,7 +21,7 @@ pub enum Stream {
 }
 
 impl Stream {
-    /// Opens a file, or connects to a socket.
+    /// Opens the file of an address, or connects to its socket.
     pub fn open<X: Files<File = File> + Net<Stream = TcpStream>>(
         rt: &X,
         address: Address<'_>,

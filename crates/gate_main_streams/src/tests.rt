@@ -1,11 +1,11 @@
-//! The time for a line and for a reply, by a clock that goes on only while a device waits.
+//! Tests the time limits of a line and of a reply, by a clock that moves only while a device waits.
 use crate::{LineReader, ReplyWriter, TimedRead, TimedWrite};
 use std::cell::Cell;
 use std::io;
 use std::io::{ErrorKind, Read, Write};
 use std::time::{Clock, Duration};
 
-// What has passed: seconds, and bytes of a device.
+// What has passed so far: seconds of the clock, and bytes of a device.
 #[derive(Drop)]
 struct Passed {
     seconds: Cell<u64>,
@@ -31,7 +31,7 @@ impl Clock for Passed {
     }
 }
 
-// A device that gives and takes a byte a call, once it has waited for so many seconds, and whose first calls are interrupted then.
+// A device that gives or takes one byte a call after it has waited for `wait` seconds. Its first calls are interrupted after that.
 #[derive(Drop)]
 struct Slow<'a> {
     passed: &'a Passed,
@@ -112,7 +112,7 @@ impl<'a> TimedWrite for Slow<'a> {
     }
 }
 
-// How much of a text is read, a minute for each line, and the error before its end.
+// How many bytes of a text are read with a minute for each line, and the error before its end.
 fn bytes_read(text: &str, wait: u64, interrupts: u64) -> (usize, Option<ErrorKind>) {
     let passed = Passed::nothing();
     let device = Slow::new(&passed, text, wait, interrupts);
@@ -127,7 +127,7 @@ fn bytes_read(text: &str, wait: u64, interrupts: u64) -> (usize, Option<ErrorKin
     (passed.bytes.get(), None)
 }
 
-// How much is written of a text whose lines are replies, a minute for each, and the error before its end.
+// How many bytes of a text of replies are written with a minute for each, and the error before its end.
 fn bytes_written(text: &str, wait: u64, interrupts: u64) -> (usize, Option<ErrorKind>) {
     let passed = Passed::nothing();
     let device = Slow::new(&passed, "", wait, interrupts);

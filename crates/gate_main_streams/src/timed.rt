@@ -1,4 +1,4 @@
-//! The reader and the writer of a session, which have so much time for each line and for each reply.
+//! The reader and the writer of a session, which limit the time of each line and each reply.
 use crate::deadline::Deadline;
 use crate::retrying::read_again;
 use std::io;
@@ -7,15 +7,15 @@ use std::net::TcpStream;
 use std::os::unix::net::UnixStream;
 use std::time::{Clock, Duration};
 
-/// A reader that is told how long it may wait.
+/// A reader that can be told how long its reads may wait.
 pub trait TimedRead: Read {
-    /// From here on a read that waits so long answers an error. The time isn't 0.
+    /// Sets how long a read may wait before it answers an error. The time must not be 0.
     fn set_read_time(&mut self, time: Duration) -> io::Result<()>;
 }
 
-/// A writer that is told how long it may wait.
+/// A writer that can be told how long its writes may wait.
 pub trait TimedWrite: Write {
-    /// From here on a write that waits so long answers an error. The time isn't 0.
+    /// Sets how long a write may wait before it answers an error. The time must not be 0.
     fn set_write_time(&mut self, time: Duration) -> io::Result<()>;
 }
 
@@ -43,7 +43,7 @@ impl TimedWrite for &UnixStream {
     }
 }
 
-// A device of which each call waits no longer than what is left of a time.
+// A device whose calls wait no longer than what is left of a deadline.
 #[derive(Drop)]
 struct InTime<C, D> {
     clock: C,
@@ -71,15 +71,15 @@ impl<C: Clock, W: TimedWrite> Write for InTime<C, W> {
     }
 }
 
-/// Reads what has so much time for each line: it passes from when a line is waited for until a line feed has come, and once it is over
-/// a read answers an error. A read that is interrupted is tried again, in what is left of the time.
+/// A reader that limits the time of each line. The time passes from when the reader first waits for a line until a line feed has come, and
+/// a read after that answers an error. A read that is interrupted is tried again within the time that is left.
 #[derive(Drop)]
 pub struct LineReader<C, R> {
     reader: InTime<C, R>,
 }
 
 impl<C: Clock, R: TimedRead> LineReader<C, R> {
-    /// A reader of which nothing was read. It takes no memory.
+    /// A reader from which nothing was read yet. The call takes no memory.
     pub fn new(clock: C, device: R, time: Duration) -> LineReader<C, R> {
         let deadline = Deadline::new(time);
         LineReader {
@@ -102,15 +102,15 @@ impl<C: Clock, R: TimedRead> Read for LineReader<C, R> {
     }
 }
 
-/// Writes what has so much time for each reply: it passes from the first write until all is flushed, and once it is over a write
-/// answers an error.
+/// A writer that limits the time of each reply. The time passes from the first write until all is flushed, and a write after that answers
+/// an error.
 #[derive(Drop)]
 pub struct ReplyWriter<C, W> {
     writer: InTime<C, W>,
 }
 
 impl<C: Clock, W: TimedWrite> ReplyWriter<C, W> {
-    /// A writer to which nothing was written. It takes no memory.
+    /// A writer to which nothing was written yet. The call takes no memory.
     pub fn new(clock: C, device: W, time: Duration) -> ReplyWriter<C, W> {
         let deadline = Deadline::new(time);
         ReplyWriter {

@@ -1,3 +1,3 @@
--- What only private contracts and proofs cite: no public contract rests on it.
+-- Definitions that only private contracts and proofs cite. No public contract rests on them.
 pub mod Choosing
 pub mod Tables

@@ -15,11 +15,11 @@ gens_of program = program.gens.now
 abbrev pub tenant_of : Program → ℕ
 tenant_of program = program.tenant.0
 
--- A word for each event, beside the generation in force at it and its connection: all ones where pipeline p of tenant t
--- selects it by that generation.
+-- The mask of pipeline p of tenant t. Each row is an event, paired with the generation in force at it and its connection. The
+-- word of a row is all ones if the pipeline selects the event by that generation, and else 0.
 abbrev pub mask_of : Generations → ℕ → ℕ → List ((ℕ × ℕ) × Event) → List ℕ
 mask_of gens t p batch = map (λ row. mark_if (selects_event (config_at gens row.0.0) t p row.0.1 row.1)) batch
 
--- a mask for each pipeline of the tenant, by number
+-- the masks of all pipelines of the tenant, by number
 abbrev pub masks_of : Generations → ℕ → List ((ℕ × ℕ) × Event) → List (List ℕ)
 masks_of gens t batch = map (λ p. mask_of gens t p batch) (range_with_len 0 (length (pipelines_of gens.first t)))

@@ -1,7 +1,8 @@
+//! `Active`, the rows of a batch that come from one connection in one generation.
 use gate_match_rules::Mask;
 
-// A connection of a batch in a generation, with the rows that are events of it in that generation whose project is listed
-// under it.
+// A connection in a generation, with the rows of a batch that are its events in that generation. Only rows count whose project
+// the tenant lists under the connection.
 #[derive(Drop)]
 pub(crate) struct Active {
     pub(crate) generation: u32,

@@ -1,3 +1,4 @@
+//! Selects the events of a batch for each pipeline of a tenant.
 ghost use Rattle.std.specs.Prelude.{◌≡◌, ℕ, IfOk, IfSome, OnOk, length, map, replicate, false, true};
 ghost use Rattle.std.specs.List.{All, zip};
 ghost use Rattle.gate_config.specs.Generations.{config_at};
@@ -21,8 +22,8 @@ use gate_record::{ConnId, Memory, PipelineId, TenantId};
 use std::alloc::Global;
 
 impl<'c> Program<'c> {
-    /// The program of a tenant. `Memory` where its rules find no room. Takes time in the patterns of the rules of all generations. The
-    /// matcher of a pattern's text is made when it is first asked.
+    /// Compiles the rules of a tenant's pipelines in all generations. This takes time in the length of their patterns. The
+    /// matcher of a pattern's text is made when a batch first needs it.
     pub fn new(
         alloc: Global,
         gens: &'c Generations,
@@ -41,12 +42,12 @@ impl<'c> Program<'c> {
         })
     }
 
-    /// A mask for each pipeline of the tenant, by number, with a word for each event of the batch: all ones where the pipeline
-    /// selects the event, an event of the connection that `conns` has at its place, by the generation that `gens` has there,
-    /// and 0 where it doesn't. `Memory` where the masks, or what the searches need, find no room.
+    /// Returns a mask for each pipeline of the tenant, by number, with a word for each event of the batch. The word is all ones
+    /// where the pipeline selects the event, and 0 elsewhere. At an event's place, `conns` has its connection, and `gens` the
+    /// generation whose rules apply to it.
     ///
-    /// Each entry is tried once on each distinct text of the batch, and only where a rule of a connection and a generation that
-    /// are in the batch asks for it. A batch's answers have an index of four bytes for each different entry.
+    /// Each entry is tried once on each distinct text of the batch, and only if a rule of a connection and generation in the
+    /// batch asks for it. The answers about a batch have an index of four bytes for each different entry.
     pub fn select(
         &self,
         alloc: Global,
@@ -76,7 +77,7 @@ impl<'c> Program<'c> {
         Ok(masks)
     }
 
-    // The mask of a pipeline.
+    // Returns the mask of one pipeline.
     fn mask(
         &self,
         alloc: Global,
@@ -99,7 +100,7 @@ impl<'c> Program<'c> {
         Ok(rows.into_words())
     }
 
-    // The rows that a pipeline selects of these connections in their generations.
+    // Returns the rows that a pipeline selects of these connections in their generations.
     fn chosen(
         &self,
         alloc: Global,
@@ -120,7 +121,7 @@ impl<'c> Program<'c> {
         Ok(out)
     }
 
-    // Adds the rows that a pipeline selects of a connection in a generation.
+    // Adds the rows that a pipeline selects of one connection in one generation.
     fn add_chosen(
         &self,
         alloc: Global,
@@ -166,7 +167,8 @@ impl<'c> Program<'c> {
         }
     }
 
-    // The rules of a pipeline for a connection in a generation. Every connection of the configuration has them.
+    // Returns the compiled rules of a pipeline for a connection in a generation. The table has them for every connection of the
+    // configuration.
     fn find(&self, generation: u32, pipeline: u32, conn: u32) -> Option<&[Compiled<'c>]>
         ensures { IfSome result (λ rules. AskAlike (rules_in rules.now) (rules_of (config_at (gens_of self.now) generation) (tenant_of self.now) pipeline conn)) }
     {
@@ -180,7 +182,7 @@ impl<'c> Program<'c> {
         }
     }
 
-    // The connections of a batch in their generations, each once, with the rows whose project is listed under it.
+    // Returns the connections of a batch in their generations, each pair once.
     fn actives(
         &self,
         alloc: Global,
@@ -208,7 +210,7 @@ impl<'c> Program<'c> {
         Ok(actives)
     }
 
-    // Adds a connection in a generation, if it isn't there.
+    // Adds a connection in a generation, unless it is there already.
     fn add_active(
         &self,
         alloc: Global,
@@ -232,7 +234,7 @@ impl<'c> Program<'c> {
         Ok(())
     }
 
-    // The rows of a connection in a generation whose project is listed under it.
+    // Finds the rows of a connection in a generation whose project the tenant lists under the connection.
     fn active(
         &self,
         alloc: Global,

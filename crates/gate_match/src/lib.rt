@@ -1,4 +1,4 @@
-//! One batch of events matched against all rules of a tenant's pipelines at once.
+//! Matches one batch of events with all rules of a tenant's pipelines at once, for the tenant's worker.
 #![tactic(auto)]
 
 mod active;

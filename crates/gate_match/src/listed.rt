@@ -1,3 +1,4 @@
+//! Finds the rows of a batch whose project a tenant lists.
 ghost use Rattle.std.specs.Prelude.{◌≡◌, IfOk, map};
 ghost use Rattle.gate_config.specs.Lookups.{belongs};
 ghost use Rattle.gate_intern.specs.Marks.{numbers_where};
@@ -9,7 +10,7 @@ use gate_match_rules::{Mask, number_text};
 use gate_record::{ConnId, Memory, TenantId};
 use std::alloc::Global;
 
-// The rows whose project the tenant lists under the connection. Each project is looked up once.
+// Returns the rows whose project the tenant lists under the connection. Each distinct project is looked up once.
 pub(crate) fn listed_rows(
     alloc: Global,
     config: &Config,

@@ -1,3 +1,4 @@
+//! `Program`, the compiled rules of a tenant.
 ghost use Rattle.gate_match.specs.Inner.Tables.{AreOfGenerations};
 
 use crate::rules_of_conn::RulesOfConn;
@@ -5,8 +6,8 @@ use gate_config::Generations;
 use gate_match_rules::MatcherCache;
 use gate_record::TenantId;
 
-/// The rules of all pipelines of a tenant in all generations, ready for one batch of events after another: each distinct text
-/// of their patterns has a matcher, which is kept between batches. Nothing else is kept of a batch.
+/// The rules of all pipelines of a tenant in all generations, ready for one batch of events after another. Each distinct text of
+/// their patterns has a matcher, which is kept from batch to batch. Nothing else is kept of a batch.
 #[derive(Drop)]
 pub struct Program<'c> {
     pub(crate) gens: &'c Generations,

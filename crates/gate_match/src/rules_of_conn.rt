@@ -1,6 +1,7 @@
+//! `RulesOfConn`, one entry of a program's table of rules.
 use gate_match_rules::Compiled;
 
-// The rules of a pipeline for the events of a connection, in a generation.
+// The compiled rules of a pipeline for the events of a connection, in a generation.
 #[derive(Drop)]
 pub(crate) struct RulesOfConn<'c> {
     pub(crate) generation: u32,

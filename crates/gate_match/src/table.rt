@@ -1,3 +1,4 @@
+//! Builds the table of a tenant's compiled rules, and finds an entry in it.
 ghost use Rattle.std.specs.Prelude.{IfOk, OnOk};
 ghost use Rattle.gate_match.specs.Inner.Tables.{AreOfGenerations};
 
@@ -7,8 +8,7 @@ use gate_match_rules::{MatcherCache, compile};
 use gate_record::{ConnId, Memory, PipelineId, TenantId};
 use std::alloc::Global;
 
-// The rules of all pipelines: by generation, in each by pipeline, and in each of these by connection. The cache gets a place for each
-// distinct text of their patterns.
+// Compiles the rules of all pipelines of a tenant. The table is ordered by generation, then by pipeline, then by connection.
 pub(crate) fn table<'c>(
     alloc: Global,
     gens: &'c Generations,
@@ -45,7 +45,6 @@ fn push_generation<'c>(
 
 ghost use Rattle.gate_match.specs.Inner.Tables.{IsOfGenerations};
 
-// The rules of a pipeline for a connection, in a generation.
 fn rules_of_conn<'c>(
     alloc: Global,
     gens: &'c Generations,
@@ -68,7 +67,8 @@ fn rules_of_conn<'c>(
     })
 }
 
-// The place in the table at which a connection's rules are, if there are any.
+// Returns the place in the table for a pipeline's rules for a connection in a generation. No contract says what stands there, so
+// the caller compares the entry.
 pub(crate) fn place_of(
     gens: &Generations,
     tenant: TenantId,
@@ -87,7 +87,6 @@ pub(crate) fn place_of(
 ghost use Rattle.std.specs.Prelude.{◌≡◌, length};
 ghost use Rattle.gate_config.specs.Lookups.{pipelines_of};
 
-// How many pipelines the tenant has.
 pub(crate) fn pipelines(config: &Config, tenant: TenantId) -> u32
     ensures { result ≡ length (pipelines_of config.now tenant.0) }
 {

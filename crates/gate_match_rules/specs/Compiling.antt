@@ -1,10 +1,10 @@
--- Rules with the numbers of their entries' texts.
+-- Compiled rules, and the rules that they were compiled from.
 use Rattle.std.specs.Prelude.{List, map}
 use Rattle.gate_rule.specs.declared.rule.Rule.{Rule}
 use Rattle.gate_match_rules.specs.declared.compiled.Compiled.{Compiled}
 use Rattle.gate_match_rules.specs.Narrowing.{entries_of}
 
--- the rule itself
+-- the rule that was compiled
 abbrev pub rule_of : Compiled → Rule
 rule_of compiled = record {
   event = entries_of compiled.event.items;

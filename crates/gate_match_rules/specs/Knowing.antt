@@ -1,4 +1,4 @@
--- What is known of the entries and the approvals that were asked for in a batch.
+-- When the answers that are known about a batch are right.
 use Rattle.std.specs.Prelude.{◌≡◌, ℕ, List, Bool, length, map}
 use Rattle.std.specs.List.{All, range_with_len}
 use Rattle.std.specs.BTreeMap.{values}
@@ -11,15 +11,15 @@ use Rattle.gate_match_rules.specs.declared.given.Given.{Given}
 use Rattle.gate_match_rules.specs.declared.given.Approvals.{Approvals}
 use Rattle.gate_match_rules.specs.Finding.{HoldsOfEntry, met_in}
 
--- of which entries an answer is
+-- what the entries ask to which an answer belongs
 abbrev pub asked_in : Answer → List ℕ × Bool
 asked_in answer = (answer.text.now, answer.negate)
 
--- the rows are those whose field meets the entries of these texts
+-- The rows are those whose field meets the entries that ask this.
 abbrev pub IsRight : List Event → Answer → Type 0
 IsRight events answer = HoldsOfEntry (asked_in answer) (λ entry. answer.rows ≡ met_in answer.field entry events)
 
--- the rows are those that have the number in a cell
+-- The rows are those that have the number in one of their cells.
 abbrev pub IsGiven : List Event → Given → Type 0
 IsGiven events given = given.rows ≡ map (is_in_row (approval_cells_of events) (length events) given.number) (range_with_len 0 (length events))
 

@@ -1,4 +1,4 @@
--- Rules over a batch, attribute by attribute.
+-- Which events of a batch meet rules, attribute by attribute.
 use Rattle.std.specs.Prelude.{◌&&◌, ℕ, ℤ, List, Bool, Some, not, map}
 use Rattle.std.specs.List.{list_any}
 use Rattle.gate_record.specs.declared.event.Event.{Event}
@@ -20,27 +20,27 @@ entries_of asked = map (λ (one : Asked). one.entry.now) asked
 abbrev pub any_met_in : Field → List Entry → List Event → List Bool
 any_met_in field entries events = map (λ event. list_any (λ entry. passes (entry_meets (reach_of field) entry) (field_of field event)) entries) events
 
--- the events that meet an attribute of patterns
+-- the events that meet an attribute with these entries on this field
 abbrev pub meeting_in : Field → List Entry → List Event → List Bool
 meeting_in field entries events = map (λ event. is_met (entry_meets (reach_of field)) entries (field_of field event)) events
 
--- the events to which the category is given with this vote
+-- the events that have the category with this vote
 abbrev pub given_to : List ℕ × ℤ → List Event → List Bool
 given_to wanted events = map (λ event. is_given wanted event.approvals) events
 
 abbrev pub approved : List (List ℕ × ℤ) → List Event → List Bool
 approved asked events = map (λ event. is_approved asked event.approvals) events
 
--- the events that aren't an ignored deletion
+-- the events that aren't a deletion which is ignored
 abbrev pub not_ignored : Bool → List Event → List Bool
 not_ignored ignores events = map (λ event. not (ignores && is_delete event)) events
 
--- the events that meet the attributes which are looked at first
+-- the events that meet the attributes of a rule which are looked at first
 abbrev pub meeting_front : Rule → List Event → List Bool
 meeting_front rule events =
     map (λ (event : Event). is_met entry_front rule.event (Some event.kind) && is_met entry_front rule.branch event.branch && is_met entry_front rule.refname event.refname) events
 
--- the events that meet the others
+-- the events that meet the other attributes of a rule
 abbrev pub meeting_rest : Rule → List Event → List Bool
 meeting_rest rule events =
     map (λ (event : Event). is_met entry_within rule.username event.username && is_met entry_within rule.email event.email && is_met entry_within rule.comment event.comment

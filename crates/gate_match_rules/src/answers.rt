@@ -1,3 +1,4 @@
+//! `Answers`, what is known so far about one batch, so that no entry is tried twice on a field.
 ghost use Rattle.std.specs.Prelude.{◌≡◌, IfOk, IfSome, OnOk, List, length, true};
 ghost use Rattle.gate_record.specs.declared.event.Event.{Event};
 ghost use Rattle.gate_match_rules.specs.Finding.{HoldsOfEntry, met_in, texts_of};
@@ -14,7 +15,7 @@ use gate_record::Memory;
 use gate_rule::Entry;
 use std::alloc::Global;
 
-// The rows of a batch whose field meets the entries of a pattern's text that are negated, or those that aren't.
+// The rows of a batch whose field meets each entry with this pattern text and this `negate`.
 #[derive(Drop)]
 pub(crate) struct Answer<'c> {
     field: Field,
@@ -23,20 +24,18 @@ pub(crate) struct Answer<'c> {
     rows: Mask,
 }
 
-/// What was found so far in a batch: in its fields, so that no entry is tried twice on a field; and of its approvals. It belongs to one
-/// cache, with its room for an index of four bytes for each different entry.
-//
-// An answer tells of which field and entry it is, and nothing is known of the index.
+/// The answers found so far about one batch: which rows meet an entry in a field, and which rows have an approval. Answers belong
+/// to one `MatcherCache`. They have an index of four bytes for each different entry of its rules.
 #[derive(Drop)]
 pub struct Answers<'c> {
     known: Vec<Answer<'c>>,
-    // By an entry's place: how many answers were known with the one that stands here, and 0 where none does.
+    // By an entry's place in the cache: one more than the place of its answer in `known`, and 0 where it has none. No invariant says
+    // that, so an answer is compared with the entry before it is used.
     index: Vec<u32>,
     pub(crate) approvals: Approvals,
 }
 
 impl<'c> Answer<'c> {
-    // Whether this is the answer of the entry in the field.
     fn is_of(&self, field: Field, entry: &Entry) -> bool
         ensures field { result ≡ true → self.now.field ≡ field }
         ensures entry { result ≡ true → asked_in self.now ≡ texts_of entry.now }
@@ -48,7 +47,7 @@ impl<'c> Answer<'c> {
 impl<'c> Answers<'c> {
     ghost use Rattle.gate_match_rules.specs.Knowing.{AreRight};
 
-    /// Nothing was asked, of whichever batch.
+    /// Returns answers that know nothing yet. They are right for any batch. This takes no memory.
     pub fn none(alloc: Global) -> Answers<'c>
         ensures { (events : List Event) → AreRight events result }
     {
@@ -59,7 +58,8 @@ impl<'c> Answers<'c> {
         }
     }
 
-    // Takes into the mask the rows whose field meets the entry.
+    // Joins the mask with the rows whose field meets the entry. The entry is tried on the texts only if its answer isn't known
+    // yet.
     pub(crate) fn join(
         &mut self,
         alloc: Global,
@@ -83,7 +83,7 @@ impl<'c> Answers<'c> {
         self.keep(alloc, cache, field, asked, rows)
     }
 
-    // What is known of the entry in the field.
+    // Returns the rows whose field meets the entry, if they are known.
     pub(crate) fn find(&self, field: Field, asked: &Asked<'c>) -> Option<&Mask>
         ensures { (events : List Event) → AreRight events self.now → IfSome result (λ rows. rows.now ≡ met_in field asked.now.entry.now events) }
     {
@@ -114,7 +114,7 @@ impl<'c> Answers<'c> {
         self.note_last(alloc, cache, asked.place)
     }
 
-    // The answer that came last stands at this place.
+    // Points the index at the answer that was added last.
     fn note_last(
         &mut self,
         alloc: Global,
@@ -134,7 +134,8 @@ impl<'c> Answers<'c> {
     }
 }
 
-// The rows whose field meets the entry, and so each entry of its texts. It stands apart from what finds an answer that is known.
+// Finds the rows whose field meets the entry, and so each entry with the same pattern text and the same `negate`. This stands
+// apart from the look-up of a known answer, to keep that short (`inline(never)`).
 #[inline(never)]
 fn rows<'c>(
     alloc: Global,

@@ -1,6 +1,8 @@
+//! `Asked`, an entry of a compiled rule.
 use gate_rule::Entry;
 
-// An entry of a rule, with the number of its pattern's text, and the place at which its answer in its field is looked up first.
+// An entry of a rule, with two numbers of the cache: `number` is that of its pattern's text, and `place` is where `Answers` looks
+// up its answer in its field.
 #[derive(Clone, Copy, Drop)]
 pub(crate) struct Asked<'c> {
     pub(crate) entry: &'c Entry,

@@ -1,7 +1,8 @@
+//! `Compiled`, a rule that is ready to be asked of batches.
 use crate::asked::Asked;
 use gate_record::Text;
 
-/// A rule with the numbers that a cache has for the texts of its entries.
+/// A rule whose entries have their numbers in a matcher cache.
 #[derive(Drop)]
 pub struct Compiled<'c> {
     pub(crate) event: Vec<Asked<'c>>,

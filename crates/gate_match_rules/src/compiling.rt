@@ -1,3 +1,4 @@
+//! Compiles rules: gives each entry its numbers in a matcher cache.
 ghost use Rattle.std.specs.Prelude.{◌≡◌, IfOk};
 ghost use Rattle.gate_match_rules.specs.Compiling.{rule_of, rules_in};
 ghost use Rattle.gate_match_rules.specs.Narrowing.{entries_of};
@@ -10,8 +11,8 @@ use gate_record::Memory;
 use gate_rule::{Entry, Rule};
 use std::alloc::Global;
 
-/// These rules, in order, each entry with its places in the cache, which are made where it has none. `Memory` where there is none for
-/// them.
+/// Compiles these rules, in order. Each entry gets its numbers in the cache, which makes new ones for texts that it doesn't have
+/// yet. After `Memory` the cache may have some of the new numbers, which does no harm.
 pub fn compile<'c>(
     alloc: Global,
     cache: &mut MatcherCache<'c>,

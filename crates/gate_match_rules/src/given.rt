@@ -1,3 +1,4 @@
+//! `Approvals`, what is known so far about the approvals of one batch, so that no approval is looked for twice.
 ghost use Rattle.std.specs.Prelude.{◌≡◌, IfOk, IfSome, OnOk, List, length, map};
 ghost use Rattle.std.specs.List.{range_with_len};
 ghost use Rattle.gate_record.specs.declared.event.Event.{Event};
@@ -12,14 +13,15 @@ use gate_record::{Memory, Text};
 use std::alloc::Global;
 use std::collections::BTreeMap;
 
-// The rows of a batch that have an approval, by the number that it has in the cells.
+// The rows of a batch that have the approval of this number in a cell.
 #[derive(Drop)]
 pub(crate) struct Given {
     number: u32,
     rows: Mask,
 }
 
-// What was found so far of the approvals of a batch, by their numbers. What stands at a place tells of which number it is.
+// The rows found so far for approvals of a batch, by the number of the approval. Each value repeats its number, since no
+// invariant says that it stands at the right key.
 #[derive(Drop)]
 pub(crate) struct Approvals {
     known: BTreeMap<u32, Given>,
@@ -28,7 +30,6 @@ pub(crate) struct Approvals {
 impl Approvals {
     ghost use Rattle.gate_match_rules.specs.Knowing.{AreGiven};
 
-    // Nothing was asked.
     pub(crate) fn none(alloc: Global) -> Approvals
         ensures { (events : List Event) → AreGiven events result }
     {
@@ -37,7 +38,7 @@ impl Approvals {
         }
     }
 
-    // Leaves of the rows those to which the category is given, with this vote. Where none is left, it isn't looked for.
+    // Leaves of the rows those that have this category with this vote. If no row is left, the approval isn't looked for.
     pub(crate) fn leave(
         &mut self,
         alloc: Global,
@@ -63,7 +64,6 @@ impl Approvals {
         self.keep(number, rows)
     }
 
-    // What is known of the number.
     fn find(&self, number: u32) -> Option<&Mask>
         ensures { (events : List Event) → AreGiven events self.now → IfSome result (λ rows. rows.now ≡ map (is_in_row (approval_cells_of events) (length events) number) (range_with_len 0 (length events))) }
     {
@@ -81,7 +81,6 @@ impl Approvals {
     }
 }
 
-// The rows that have the number in a cell.
 fn rows(alloc: Global, columns: &Columns<'_>, number: u32) -> Result<Mask, Memory>
     ensures { IfOk result (λ rows. rows ≡ map (is_in_row (approval_cells_of columns.now) (length columns.now) number) (range_with_len 0 (length columns.now))) }
 {

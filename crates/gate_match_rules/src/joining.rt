@@ -1,3 +1,4 @@
+//! Asks several rules of one batch, and joins the rows that meet one of them.
 ghost use Rattle.std.specs.Prelude.{◌≡◌, OnOk, length};
 ghost use Rattle.gate_match_rules.specs.Compiling.{rules_in};
 ghost use Rattle.gate_match_rules.specs.Knowing.{AreRight};
@@ -13,8 +14,8 @@ use gate_intern::{Columns, Field};
 use gate_record::Memory;
 use std::alloc::Global;
 
-/// Adds of these rows of the batch those that meet one of the rules, which were compiled over this cache. What is found of the batch
-/// stays in the answers. `Memory` where what is to be kept, or what the searches need, finds no room.
+/// Adds to `out` those of `rows` that meet one of the rules. The rules must have been compiled with this cache. What is found
+/// about the batch stays in `answers`.
 pub fn add_meeting<'c>(
     alloc: Global,
     cache: &MatcherCache<'c>,
@@ -48,7 +49,7 @@ ghost use Rattle.gate_record.specs.declared.event.Event.{Event};
 ghost use Rattle.gate_match_rules.specs.Compiling.{rule_of};
 ghost use Rattle.gate_match_rules.specs.Narrowing.{meeting};
 
-// Whether it is known that no event meets the rule, since none is of the kind that it asks for. Most rules that aren't met end here.
+// Returns whether it is already known that no event has the type that the rule asks for. Most rules that aren't met end here.
 fn is_ruled_out<'c>(answers: &Answers<'c>, rule: &Compiled<'c>) -> bool
     ensures { (events : List Event) → AreRight events answers.now → result ≡ true → meeting (rule_of rule.now) events ≡ map (λ event. false) events }
 {

@@ -1,3 +1,4 @@
+//! `Kept`, a matcher that stays in the matcher cache from batch to batch.
 ghost use Rattle.std.specs.Prelude.{◌≡◌, ◌++◌, IfOk, map};
 ghost use Rattle.gate_rule.specs.Pattern.{text_of, tree_in, tree_of};
 ghost use Rattle.gate_intern.specs.Marks.{numbers_where};
@@ -9,8 +10,8 @@ use gate_record::Memory;
 use gate_rule::{Entry, Matcher, Pattern, patterns_of_one_text_answer_alike};
 use std::alloc::Global;
 
-// A pattern with its matcher, ready for one text after another. A matcher has some kilobytes in itself, so it stands in a box: what is
-// kept goes in and out of its place for each batch.
+// A pattern with its matcher, ready for one text after another. The matcher is boxed because it has some kilobytes, and a kept
+// matcher is moved out of its place and back for each batch.
 #[derive(Drop)]
 pub(crate) struct Kept<'c> {
     pub(crate) pattern: &'c Pattern,
@@ -29,7 +30,7 @@ impl<'c> Kept<'c> {
         Ok(Kept { pattern, matcher })
     }
 
-    // Whether the pattern is found in the text, and so each pattern that is built of the same.
+    // Returns whether the pattern is found in the text. The answer holds for each pattern of the same text.
     fn finds(&mut self, reach: Reach, text: &str) -> bool
         ensures found { HoldsOfText (text_of self.old.pattern.now) (λ pattern. result ≡ finds reach pattern text.now) }
         ensures same { self.new.pattern ≡ self.old.pattern }
@@ -41,7 +42,8 @@ impl<'c> Kept<'c> {
         }
     }
 
-    // Whether the text meets an entry of this pattern's text, and so each entry that is negated alike.
+    // Returns whether the text meets an entry of this pattern's text. The answer holds for each entry of that text with the same
+    // `negate`.
     fn meets(&mut self, reach: Reach, entry: &Entry, text: &str) -> bool
         requires { text_of self.old.pattern.now ≡ text_of entry.now.pattern }
         ensures met { HoldsOfEntry (texts_of entry.now) (λ one. result ≡ entry_meets reach one text.now) }
@@ -50,7 +52,7 @@ impl<'c> Kept<'c> {
         entry.answer(self.finds(reach, text))
     }
 
-    // The ids of the texts that meet an entry of this pattern's text.
+    // Returns the numbers of those texts that meet an entry of this pattern's text. The first text has number 1.
     pub(crate) fn ids(
         &mut self,
         alloc: Global,

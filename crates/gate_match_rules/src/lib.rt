@@ -1,4 +1,4 @@
-//! Rules against one batch of events: each entry is tried once on each distinct text of the batch.
+//! Asks rules of one batch of events: each entry is tried once on each distinct text of the batch.
 #![tactic(auto)]
 
 mod answers;

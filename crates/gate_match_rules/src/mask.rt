@@ -1,3 +1,4 @@
+//! `Mask`, the rows of a batch that are marked.
 ghost use Rattle.std.specs.Prelude.{◌≡◌, ◌%◌, IfOk, false, length, map, not, replicate};
 ghost use Rattle.std.specs.List.{range_with_len};
 ghost use Rattle.gate_lanes.specs.Masks.{is_among, is_in_row};
@@ -9,14 +10,14 @@ use gate_record::Memory;
 use std::alloc::Global;
 use std::marker::Model;
 
-// How a mask takes another one in: by the rows that both mark, or by those that either does.
+// How a mask is joined with another one: to the rows that both mark, or to the rows that either marks.
 #[derive(Clone, Copy, Drop)]
 pub(crate) enum Joining {
     Both,
     Either,
 }
 
-/// A mask of a batch, which contracts see as whether each row is marked.
+/// A mask of a batch. Contracts see it as a list of flags: whether each row is marked.
 #[derive(Drop)]
 pub struct Mask {
     words: Vec<u32>,
@@ -34,7 +35,7 @@ impl Model for Mask {
 }
 
 impl Mask {
-    /// No row is marked. `Memory` where so many words find no room.
+    /// Returns a mask of so many rows, of which none is marked.
     pub fn none(alloc: Global, rows: usize) -> Result<Mask, Memory>
         ensures { IfOk result (λ mask. mask ≡ replicate rows false) }
     {
@@ -43,7 +44,7 @@ impl Mask {
         })
     }
 
-    /// The rows whose word is among the ids. `Memory` where a word for each row finds no room.
+    /// Returns the mask of the rows whose word in the column is one of the ids.
     pub fn of_ids(alloc: Global, column: &[u32], ids: &[u32]) -> Result<Mask, Memory>
         ensures { IfOk result (λ mask. mask ≡ map (is_among ids.now) column.now) }
     {
@@ -52,7 +53,7 @@ impl Mask {
         Ok(Mask { words })
     }
 
-    // The rows that have the id in one of their cells.
+    // Returns the mask of the rows that have the id in one of their cells.
     pub(crate) fn of_slots(
         alloc: Global,
         cells: &[u32],
@@ -67,7 +68,7 @@ impl Mask {
         Ok(Mask { words })
     }
 
-    // Marks the rows that the other one marks, and no others.
+    // Marks exactly the rows that the other mask marks.
     pub(crate) fn copy_from(&mut self, other: &Mask)
         requires { length other.now ≡ length self.old }
         ensures { self.new ≡ other.now }
@@ -77,7 +78,7 @@ impl Mask {
             .copy_from_slice(other.words.as_slice());
     }
 
-    /// Leaves the rows that the other one, a mask of the same batch, marks too.
+    /// Leaves only rows marked that the other mask marks too. Both must be masks of the same batch.
     pub fn and(&mut self, other: &Mask)
         requires { length other.now ≡ length self.old }
         ensures value { self.new ≡ both self.old other.now }
@@ -86,7 +87,7 @@ impl Mask {
         and_into(self.words.as_mut_slice(), other.words.as_slice());
     }
 
-    // Adds the rows that the other one marks.
+    // Marks also the rows that the other mask marks.
     pub(crate) fn or(&mut self, other: &Mask)
         requires { length other.now ≡ length self.old }
         ensures value { self.new ≡ either self.old other.now }
@@ -95,7 +96,6 @@ impl Mask {
         or_into(self.words.as_mut_slice(), other.words.as_slice());
     }
 
-    // Takes the other one in.
     pub(crate) fn join(&mut self, joining: Joining, other: &Mask)
         requires { length other.now ≡ length self.old }
         ensures value { self.new ≡ joined joining self.old other.now }
@@ -107,7 +107,7 @@ impl Mask {
         }
     }
 
-    // Takes away the rows that the words mark.
+    // Unmarks the rows that the words mark.
     pub(crate) fn clear(&mut self, flags: &[u32])
         requires { length flags.now ≡ length self.old }
         ensures value { self.new ≡ without self.old (marks_of flags.now) }
@@ -116,14 +116,13 @@ impl Mask {
         clear_where(self.words.as_mut_slice(), flags);
     }
 
-    // Whether no row is marked.
     pub(crate) fn is_none(&self) -> bool
         ensures { result ≡ not (marks_any self.now) }
     {
         count(self.words.as_slice()) == 0
     }
 
-    /// The words, all ones where a row is marked, and 0 elsewhere.
+    /// Returns the words: all ones where a row is marked, and 0 elsewhere.
     pub fn into_words(self) -> Vec<u32>
         ensures { result.items ≡ words_of self }
     {

@@ -1,3 +1,4 @@
+//! `MatcherCache`, the matchers of all patterns of a tenant's rules, kept from batch to batch.
 ghost use Rattle.std.specs.Prelude.{◌≡◌, IfOk, IfSome, map};
 ghost use Rattle.gate_rule.specs.Pattern.{text_of};
 ghost use Rattle.gate_lanes.specs.Masks.{is_among};
@@ -15,23 +16,24 @@ use indexmap::IndexSet;
 use std::alloc::Global;
 use std::cell::Cell;
 
-// How many fields an entry may be asked of.
+// The number of fields of an event that an entry may be asked of: the variants of `Field`.
 const FIELDS: usize = 7;
 
-/// A matcher for each distinct text of patterns, by number, from when it is first asked. It is kept between batches.
-//
-// It is taken out while it is used. Nothing is known of what is in a cell, so the text is compared before a matcher is used, and where
-// another one lies there, or none, a fresh one is made.
+/// Has a matcher for each distinct pattern text of the compiled rules. A matcher is made when it is first needed, and kept for
+/// later batches.
 #[derive(Drop)]
 pub struct MatcherCache<'c> {
     texts: IndexSet<&'c str>,
+    // A matcher is taken out of its cell while it is used. No invariant says what is in a cell, so the text is compared before a
+    // matcher is used. If the cell has none, or that of another text, a fresh one is made.
     places: Vec<Cell<Option<Kept<'c>>>>,
-    // Which texts are asked in which fields, negated or not.
+    // Which pattern texts are asked in which fields, negated or not: each such question has a place here, at which `Answers`
+    // looks up its answer.
     questions: IndexSet<usize>,
 }
 
 impl<'c> MatcherCache<'c> {
-    /// No matchers.
+    /// Returns a cache without matchers. It takes no memory.
     pub fn new(alloc: Global) -> MatcherCache<'c> {
         MatcherCache {
             texts: IndexSet::new(alloc),
@@ -40,12 +42,12 @@ impl<'c> MatcherCache<'c> {
         }
     }
 
-    // How many different entries are asked, a field for itself.
+    // Returns how many different questions the rules ask: entries that differ in field, pattern text or `negate`.
     pub(crate) fn questions(&self) -> usize {
         self.questions.len()
     }
 
-    // The entry with the places of its pattern's text and of its answer in the field, which are made where it has none.
+    // Returns the entry with the number of its pattern's text and the place of its question, which are added if they are new.
     pub(crate) fn asked(&mut self, field: Field, entry: &'c Entry) -> Result<Asked<'c>, Memory>
         ensures { IfOk result (λ asked. asked.entry.now ≡ entry.entry.now) }
     {
@@ -63,7 +65,7 @@ impl<'c> MatcherCache<'c> {
         })
     }
 
-    // The rows of a column whose text meets the entry.
+    // Returns the mask of the rows of a column whose text meets the entry.
     pub(crate) fn rows(
         &self,
         alloc: Global,
@@ -80,7 +82,7 @@ impl<'c> MatcherCache<'c> {
         Mask::of_ids(alloc, column, ids?.as_slice())
     }
 
-    // A matcher for the text of the entry's pattern.
+    // Takes a matcher for the entry's pattern text out of its cell, or makes one.
     fn take(&self, alloc: Global, asked: &Asked<'c>) -> Result<Kept<'c>, Memory>
         ensures { IfOk result (λ kept. text_of kept.pattern.now ≡ text_of asked.now.entry.now.pattern) }
     {
@@ -104,7 +106,7 @@ impl<'c> MatcherCache<'c> {
     }
 }
 
-// A number for a pattern's number in a field, negated or not, which no other one has.
+// Returns a number that stands for this question alone: the pattern text of this number, in this field, negated or not.
 fn question(field: Field, number: usize, negate: bool) -> usize {
     number
         .wrapping_mul(FIELDS)

@@ -1,3 +1,4 @@
+//! Narrows the rows of a batch to those that meet one rule, attribute by attribute.
 ghost use Rattle.std.specs.Prelude.{◌≡◌, IfOk, OnOk, length};
 ghost use Rattle.gate_match_rules.specs.Knowing.{AreRight};
 ghost use Rattle.gate_match_rules.specs.Marks.{both};
@@ -13,7 +14,7 @@ use gate_intern::{Columns, Field};
 use gate_record::{Memory, Text};
 use std::alloc::Global;
 
-// Leaves of the rows those whose event meets the rule. Where none is left, nothing that remains of the rule is looked for.
+// Leaves of the rows those whose event meets the rule. As soon as no row is left, the remaining attributes aren't looked at.
 pub(crate) fn narrow<'c>(
     alloc: Global,
     cache: &MatcherCache<'c>,
@@ -130,7 +131,7 @@ fn narrow_rest<'c>(
     Ok(())
 }
 
-// Leaves of the rows those whose field meets one of the entries. With no entry all stay.
+// Leaves of the rows those whose field meets one of the entries. Without entries the attribute isn't listed, so all rows stay.
 fn narrow_in<'c>(
     alloc: Global,
     cache: &MatcherCache<'c>,
@@ -157,7 +158,7 @@ fn narrow_in<'c>(
     Ok(())
 }
 
-// The same where rows are left: where none is, nothing is looked for.
+// Does as `narrow_in`, but tries no entry if no row is left.
 fn narrow_left_in<'c>(
     alloc: Global,
     cache: &MatcherCache<'c>,
@@ -179,7 +180,7 @@ fn narrow_left_in<'c>(
     narrow_in(alloc, cache, columns, field, asked, answers, out)
 }
 
-// The rows whose field meets one of the entries.
+// Returns the rows whose field meets one of the entries.
 fn any_met<'c>(
     alloc: Global,
     cache: &MatcherCache<'c>,
@@ -199,7 +200,7 @@ fn any_met<'c>(
     Ok(met)
 }
 
-// Leaves of the rows those to which each of the categories is given, with its vote.
+// Leaves of the rows those that have each of these categories, with its vote.
 fn narrow_approved(
     alloc: Global,
     columns: &Columns<'_>,
@@ -219,7 +220,7 @@ fn narrow_approved(
     Ok(())
 }
 
-// Leaves of the rows those that aren't a deletion, if deletions are ignored.
+// Removes the rows of deletions, if the rule ignores deletions.
 fn narrow_deletes(columns: &Columns<'_>, ignores: bool, out: &mut Mask)
     requires { length out.old ≡ length columns.now }
     ensures len { length out.new ≡ length columns.now }

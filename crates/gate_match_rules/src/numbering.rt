@@ -1,9 +1,10 @@
+//! Collects the numbers of those texts of a column that pass a test.
 ghost use Rattle.std.specs.Prelude.{◌≡◌, ◌+◌, ◌++◌, ◌∷◌, [], IfOk, OnOk, if◌then◌else◌};
 
 use gate_record::Memory;
 
-/// Adds the number of the text behind the last one, if it passes, and gives that number. `Memory` where there is none for it, or where
-/// there are 2^32 texts.
+/// Counts one more text: returns its number, `last + 1`, and adds that number to `ids` if the text passes. `Memory` also means
+/// that the number would be 2^32.
 #[inline]
 pub fn number_text(ids: &mut Vec<u32>, last: u32, passes: bool) -> Result<u32, Memory>
     ensures next { IfOk result (λ next. next ≡ last + 1) }

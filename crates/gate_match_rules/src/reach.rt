@@ -1,18 +1,19 @@
+//! Which fields are searched for a pattern at their front, and which anywhere.
 ghost use Rattle.std.specs.Prelude.{◌≡◌};
 ghost use Rattle.gate_match_rules.specs.Finding.{reach_of};
 
 use gate_intern::Field;
 
-// Where a pattern is tried on a text.
 #[derive(Clone, Copy, Debug, PartialEq, Eq)]
 pub(crate) enum Reach {
-    // At its front, as `Pattern::front` says.
+    // The match must begin at byte 0, as `Pattern::front` says.
     Front,
-    // Anywhere in it, as `Pattern::within` says.
+    // The match may be anywhere, as `Pattern::within` says.
     Anywhere,
 }
 
-// Where patterns are tried on a field: on the account's texts and on the comment anywhere, on others at the front.
+// Returns where patterns are tried on a field: anywhere in the account's texts and in the comment, at the front of the other
+// fields.
 pub(crate) fn reach_in(field: Field) -> Reach
     ensures { result ≡ reach_of field }
 {

@@ -1,3 +1,5 @@
+//! Tests that a program selects in generated batches the same rows as each rule by itself, by several generations of a configuration.
+
 use crate::batches::{Numbers, events_of, numbers_of};
 use crate::plain::{Batch, TENANT, plain, shown};
 use gate_config::{Generations, read_generations};

@@ -1,6 +1,6 @@
--- The number that the standard gives: how long a phase of a pass is.
+-- The length of a phase of a pass.
 use Rattle.std.specs.Prelude.{ℕ}
 
--- the takings of a phase, after which the next one comes
+-- how many values are taken in a phase before the next one begins
 abbrev pub most_takings : ℕ
 most_takings = 256

@@ -1,4 +1,4 @@
--- Passes of a pipeline: from management events to results to triggers, and again.
+-- Passes of a pipeline: from management events to results to triggers, and then again.
 use Rattle.std.specs.Prelude.{◌+◌, List, [], ◌∷◌, nat_lt, if◌then◌else◌}
 use Rattle.gate_pipeline.specs.declared.pass.Phase.{Phase}
 use Rattle.gate_pipeline.specs.declared.pass.Phase.TheVariants.{Management, Result, Trigger}
@@ -18,12 +18,12 @@ first_pass = record { phase = Management; takings = 0 }
 abbrev pub next_pass : Pass → Pass
 next_pass pass = record { phase = next_phase pass.phase; takings = 0 }
 
--- an empty taking, or the 256th of a phase, moves the pass on
+-- the place after a taking: an empty taking, or the 256th of a phase, goes on to the next phase
 abbrev pub after_taking : Pass → Taking → Pass
 after_taking pass Value = if nat_lt (pass.takings + 1) most_takings then record { phase = pass.phase; takings = pass.takings + 1 } else next_pass pass
 after_taking pass Nothing = next_pass pass
 
--- where a pass stands after takings, one after another
+-- the place after takings, one after another
 abbrev pub pass_after : Pass → List Taking → Pass
 pass_after pass [] = pass
 pass_after pass (taking ∷ takings) = pass_after (after_taking pass taking) takings

@@ -1,4 +1,4 @@
--- The state of a pipeline's worker, and what its calls make of it.
+-- The state of a pipeline's worker, and how its calls change it.
 use Rattle.std.specs.Prelude.{◌≡◌, ℕ, List, [], ◌∷◌, ◌++◌, Bool, true, false, Option, Some, None, option_map, is_some, unwrap_or, slice_get, Result, Ok, Err, if◌then◌else◌}
 use Rattle.gate_record.specs.declared.ids.ManagerKind.{ManagerKind}
 use Rattle.gate_record.specs.declared.ids.ManagerKind.TheVariants.{Independent}
@@ -28,8 +28,8 @@ use Rattle.gate_pipeline.specs.declared.which.Which.TheVariants as which
 use Rattle.gate_pipeline.specs.Passes.{after_taking, first_pass}
 use Rattle.gate_pipeline.specs.Triggers.{trigger_of}
 
--- the numbers of the tenant and the pipeline; where its pass stands; what was taken and waits to be processed; the stamps
--- of the trigger events that were processed; whether the end mark was taken; and the queue items
+-- The parts of a state: the numbers of the tenant and the pipeline; the place in the pass; the value that was taken and is still
+-- to be processed; the stamps of the trigger events that were processed; whether the end mark was taken; and the queue items.
 pub record State : Type 0 where
   pub tenant : ℕ
   pub pipeline : ℕ
@@ -39,15 +39,15 @@ pub record State : Type 0 where
   pub finished : Bool
   pub items : items.State
 
--- the manager of pipeline p of tenant t; one that isn't there counts as independent
+-- the manager of pipeline p of tenant t; a pipeline that isn't there counts as independent
 abbrev pub manager_of : Config → ℕ → ℕ → ManagerKind
 manager_of config t p = unwrap_or (option_map (λ (pipeline : PipelineSpec). pipeline.manager) (slice_get (pipelines_of config t) p)) Independent
 
--- nothing was taken, and build sets are numbered from 0
+-- the state in which nothing was taken yet, and build sets are numbered from 0
 abbrev pub first_state : Config → ℕ → ℕ → State
 first_state config t p = record { tenant = t; pipeline = p; pass = first_pass; held = None; done = []; finished = false; items = start (manager_of config t p) 0 }
 
--- what a run says of it
+-- what a run reports of the pipeline
 abbrev pub report_of : State → PipelineReport
 report_of state = record { done = state.done; finished = state.finished }
 
@@ -58,18 +58,19 @@ queue_of phase.Management = which.Management
 queue_of phase.Result = which.Result
 queue_of phase.Trigger = which.Trigger
 
--- nothing once the end mark was taken; else what is held; else to take from the queue of the phase
+-- What is to be done next: nothing once the end mark was taken, else to process the held value, else to take from the queue of
+-- the phase.
 abbrev pub next_of : State → Which
 next_of state = if state.finished then which.Finished else (if is_some state.held then which.Held else queue_of state.pass.phase)
 
--- what is to be done by whoever hands this in
+-- what the worker must have asked for when this is handed in
 abbrev pub asked : Taken → Which
 asked (taken.Manage manage) = which.Management
 asked (taken.Result result) = which.Result
 asked (taken.Trigger item) = which.Trigger
 asked taken.Again = which.Held
 
--- a queue is to be taken from
+-- The worker is to take from a queue.
 abbrev pub is_taking : Which → Bool
 is_taking which.Management = true
 is_taking which.Result = true
@@ -79,7 +80,7 @@ is_taking which.Finished = false
 
 -- ---- takings
 
--- an action that was processed: the stamp of a trigger event, the action, and what came of it
+-- A processed action: the stamp of the trigger event if it came of one, the action, and its outcome.
 abbrev pub Processed : Type 0
 Processed = Option Stamp × Action × Outcome
 
@@ -89,17 +90,17 @@ counted state = record state { pass = after_taking state.pass Value }
 abbrev pub held_as : Option Held → State → State
 held_as waiting state = record state { held = waiting }
 
--- an action is applied to the items
+-- the state after an action is applied to the items, and what was processed
 abbrev pub applied : Option Stamp → Action → State → State × Processed
 applied stamp action state = (record state { items = (apply state.items action).0 }, (stamp, action, (apply state.items action).1))
 
--- and, where it is of a trigger event, its stamp is done
+-- The state after a value is processed, and what was processed. If the value is a trigger event, its stamp is done.
 abbrev pub processed : Config → Held → State → State × Processed
 processed config (held.Action action) state = applied None action state
 processed config (held.Event stamped) state =
     applied (Some stamped.stamp) (trigger_of config state.tenant state.pipeline stamped.stamp stamped.event) (record state { done = state.done ++ stamped.stamp ∷ [] })
 
--- what is to be processed of what was handed in; of the end mark nothing is
+-- The value that is to be processed when this is handed in. For the end mark there is none.
 abbrev pub to_process : Option Held → Taken → Option Held
 to_process waiting (taken.Manage manage) = Some (held.Action (action.Manage manage))
 to_process waiting (taken.Result result) = Some (held.Action (action.Result result))
@@ -107,7 +108,8 @@ to_process waiting (taken.Trigger (item.Event stamped)) = Some (held.Event stamp
 to_process waiting (taken.Trigger item.End) = None
 to_process waiting taken.Again = waiting
 
--- the end mark finishes the pipeline, and what was taken counts in its phase, once
+-- The state after this is handed in, before it is processed: a value that was taken counts in its phase, once, and the end mark
+-- finishes the pipeline.
 abbrev pub taken_in : Taken → State → State
 taken_in (taken.Manage manage) state = counted state
 taken_in (taken.Result result) state = counted state
@@ -119,21 +121,21 @@ abbrev pub with_processed : Config → Option Held → State → State × Option
 with_processed config None state = (state, None)
 with_processed config (Some waiting) state = ((processed config waiting (held_as None state)).0, Some (processed config waiting (held_as None state)).1)
 
--- what was handed in is processed
+-- The state after this is handed in and processed, and what was processed.
 abbrev pub takes : Config → State → Taken → State × Option Processed
 takes config state given = with_processed config (to_process state.held given) (taken_in given state)
 
--- It is processed; or memory was refused, and it is held.
+-- What is handed in is processed; or memory was refused, and the worker holds it.
 abbrev pub Takes : Config → State → Taken → State → Result (Option Processed) Memory → Type 0
 Takes config old given new (Ok answer) = (new, answer) ≡ takes config old given
 Takes config old given new (Err memory) = new ≡ held_as (to_process old.held given) (taken_in given old)
 
--- memory may be refused to a trigger event, and to an action that takes it; never to a result or the end mark
+-- Memory may be refused to a trigger event, and to an action that takes memory. It is never refused to a result or the end mark.
 abbrev pub MayBeRefused : ManagerKind → Option Held → Type 0
 MayBeRefused manager None = ⊥
 MayBeRefused manager (Some (held.Action action)) = MayTakeMemory manager action
 MayBeRefused manager (Some (held.Event stamped)) = Unit {0}
 
--- the queue of the phase was found empty
+-- the state after the queue of the phase was found empty
 abbrev pub found_empty : State → State
 found_empty state = record state { pass = after_taking state.pass Nothing }

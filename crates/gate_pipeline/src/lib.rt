@@ -1,4 +1,5 @@
-//! The worker of a pipeline: in which order it works off its queues, what it makes of what it takes, and what came of it.
+//! The worker of a pipeline: in which order it takes from its queues, which action each value stands for, and what became of the
+//! actions.
 #![tactic(auto)]
 
 mod laws;
@@ -15,5 +16,5 @@ pub use pass::{Pass, Phase, Taking};
 pub use pipeline::Pipeline;
 pub use which::{Held, Processed, Taken, Which};
 
-/// How many values a pipeline takes in one phase of a pass before it goes on (this project's profile).
+/// How many values a pipeline takes in one phase of a pass before it goes on to the next phase (this project's profile).
 pub const PHASE: u32 = 256;

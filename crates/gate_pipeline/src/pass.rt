@@ -1,9 +1,10 @@
+//! `Pass`, which tells from which of its three queues a pipeline takes next.
 ghost use Rattle.std.specs.Prelude.{◌≡◌};
 ghost use Rattle.gate_pipeline.specs.Limits.{most_takings};
 
 use crate::PHASE;
 
-/// Which queue a pipeline works off.
+/// The phases of a pass, by the queue from which values are taken.
 #[derive(Clone, Copy, Debug, PartialEq, Eq)]
 pub enum Phase {
     /// The queue of management events.
@@ -17,25 +18,25 @@ pub enum Phase {
 /// What a pipeline found in the queue of its phase.
 #[derive(Clone, Copy, Debug, PartialEq, Eq)]
 pub enum Taking {
-    /// A value, which it took.
+    /// There was a value, and the pipeline took it.
     Value,
     /// The queue was empty.
     Nothing,
 }
 
-/// Where a pipeline stands in a pass, which goes from management events to results to triggers, and begins again.
+/// The place of a pipeline in its pass. A pass goes from management events to results to triggers, and then begins again.
 #[derive(Clone, Copy, Debug, PartialEq, Eq)]
 pub struct Pass {
-    /// The phase that it is in.
+    /// The phase that the pipeline is in.
     pub phase: Phase,
-    /// How many values were taken in this phase, fewer than `PHASE`.
+    /// How many values were taken in this phase so far. That is fewer than `PHASE`.
     pub takings: u32,
 }
 
 impl Phase {
     ghost use Rattle.gate_pipeline.specs.Passes.{next_phase};
 
-    /// The phase that follows.
+    /// Returns the phase that follows.
     pub fn next(self) -> Phase
         ensures { result ≡ next_phase self }
     {
@@ -50,7 +51,7 @@ impl Phase {
 impl Pass {
     ghost use Rattle.gate_pipeline.specs.Passes.{first_pass, after_taking};
 
-    /// The beginning of the first pass.
+    /// Returns the beginning of the first pass.
     pub fn first() -> Pass
         ensures { result ≡ first_pass }
     {
@@ -60,7 +61,7 @@ impl Pass {
         }
     }
 
-    /// Where the pass stands after a taking: an empty one, or the 256th of its phase, moves it on.
+    /// Returns the place after a taking. An empty taking, or the 256th of a phase, goes on to the next phase.
     pub fn after(self, taking: Taking) -> Pass
         ensures { result ≡ after_taking self taking }
     {

@@ -1,3 +1,4 @@
+//! `Pipeline`, the worker of one pipeline.
 ghost use Rattle.std.specs.Prelude.{◌≡◌, IfOk, OnErr, MatchResult, true};
 ghost use Rattle.gate_pipeline.specs.States.{MayBeRefused, Takes, applied, asked, first_state, found_empty, is_taking, next_of, processed, report_of, to_process};
 
@@ -11,11 +12,11 @@ use gate_report::PipelineReport;
 use std::alloc::Global;
 use std::marker::Model;
 
-/// The worker of a pipeline: where its pass stands, what it has processed, and its queue items. Contracts see these, and
-/// the numbers of the pipeline and its tenant.
+/// The worker of a pipeline: its place in its pass, the value that it holds, the trigger events that it has processed, and its
+/// queue items. Contracts see these, and the numbers of the pipeline and its tenant.
 ///
-/// A pass goes from management events to results to triggers, and begins again. Whoever has the queues asks `wants`,
-/// takes from the queue that it names, and hands in what it took, or that the queue was empty.
+/// A pass goes from management events to results to triggers, and then begins again. The owner of the queues asks `wants`, takes
+/// from the queue that it names, and hands in the value, or says that the queue was empty.
 #[derive(Drop)]
 pub struct Pipeline {
     tenant: TenantId,
@@ -36,8 +37,8 @@ impl Model for Pipeline {
 }
 
 impl Pipeline {
-    /// The worker of a pipeline of a tenant before anything was taken. A pipeline that the configuration hasn't got counts
-    /// as an independent one. It takes no memory.
+    /// Returns the worker of a pipeline that has taken nothing yet. A pipeline that the configuration doesn't have counts as
+    /// independent. It takes no memory.
     pub fn new(alloc: Global, config: &Config, tenant: TenantId, pipeline: PipelineId) -> Pipeline
         ensures { result ≡ first_state config.now tenant.0 pipeline.0 }
     {
@@ -52,8 +53,8 @@ impl Pipeline {
         }
     }
 
-    /// What is to be done next: nothing once the end mark was taken, else what is held, else to take from the queue of the
-    /// phase.
+    /// Returns what is to be done next: nothing once the end mark was taken, else to process the held value, else to take from
+    /// the queue of the phase.
     pub fn wants(&self) -> Which
         ensures { result ≡ next_of self.now }
     {
@@ -70,13 +71,13 @@ impl Pipeline {
         }
     }
 
-    /// Processes what was taken, which is what `wants` asks for: it counts in its phase, and the action that it stands for
-    /// is applied to the items. It answers the action, with its stamp where it is of a trigger event, and its outcome, and
-    /// nothing for the end mark, which finishes the pipeline. A trigger event asks for the jobs of its project by this
-    /// configuration, and its stamp is done then, whether the action was applied or discarded.
+    /// Processes a value, which must be what `wants` asks for. The value counts in its phase, and its action is applied to the
+    /// items. The result is the action, its stamp if it came of a trigger event, and its outcome; for the end mark, which
+    /// finishes the pipeline, the result is `None`. A trigger event asks for the jobs that this configuration has for its
+    /// project. Its stamp is done as soon as the action was applied or discarded.
     ///
-    /// `Memory` where a trigger, or a reset of an independent pipeline, finds none: then it is held, and is the next one
-    /// processed.
+    /// Only a trigger, and a reset of an independent pipeline, can be refused memory. After `Memory` the worker holds the value,
+    /// and the value is the next to be processed.
     pub fn took(&mut self, config: &Config, given: Taken) -> Result<Option<Processed>, Memory>
         requires asked { next_of self.old ≡ asked given }
         ensures takes { Takes config.now self.old given self.new result }
@@ -99,7 +100,7 @@ impl Pipeline {
         Ok(Some(self.process(config, held)?))
     }
 
-    /// The queue that `wants` names was found empty: the pass goes on to the next phase.
+    /// Says that the queue which `wants` names was empty: the pass goes on to the next phase.
     pub fn found_empty(&mut self)
         requires asked { is_taking (next_of self.old) ≡ true }
         ensures { self.new ≡ found_empty self.old }
@@ -107,22 +108,22 @@ impl Pipeline {
         self.pass = self.pass.after(Taking::Nothing);
     }
 
-    /// The stamps of the trigger events that were processed, in order.
+    /// Returns the stamps of the trigger events that were processed, in order.
     pub fn done(&self) -> &[Stamp]
         ensures { result.now ≡ self.now.done }
     {
         self.done.as_slice()
     }
 
-    /// Whether the end mark was taken.
+    /// Returns whether the end mark was taken.
     pub fn finished(&self) -> bool
         ensures { result ≡ self.now.finished }
     {
         self.finished
     }
 
-    /// What a run says of the pipeline: the stamps of the trigger events that were processed, and whether the end mark was taken.
-    /// `Memory` where it is refused.
+    /// Returns what a run reports of the pipeline: the stamps of the trigger events that were processed, and whether the end mark
+    /// was taken.
     pub fn report(&self, alloc: Global) -> Result<PipelineReport, Memory>
         ensures { IfOk result (λ report. report ≡ report_of self.now) }
     {
@@ -133,7 +134,7 @@ impl Pipeline {
         })
     }
 
-    /// The queue items and the reports.
+    /// Returns the queue items and the reports.
     pub fn state(&self) -> &Items
         ensures { result.now ≡ self.now.items }
     {
@@ -145,7 +146,7 @@ impl Pipeline {
     ghost use Rattle.gate_pipeline.specs.declared.which.Held.TheVariants as held;
     ghost use Rattle.std.specs.Prelude.{Some, None};
 
-    // Counts a taking.
+    // Counts a value in its phase.
     fn count(&mut self, held: Held) -> Held
         ensures counts { self.new ≡ counted self.old }
         ensures same { result ≡ held }
@@ -154,7 +155,7 @@ impl Pipeline {
         held
     }
 
-    // Processes what was taken. Where memory is refused it is held.
+    // Processes a value. After `Memory` the worker holds the value.
     fn process(&mut self, config: &Config, held: Held) -> Result<Processed, Memory>
         requires free { self.old.held ≡ None }
         ensures processes { Processes config.now self.old held self.new result }
@@ -195,7 +196,7 @@ impl Pipeline {
 
     ghost use Rattle.gate_pipeline.specs.Inner.States.{Triggers};
 
-    // Processes a trigger event. Where memory is refused all is as it was.
+    // Processes a trigger event. After `Memory` the worker is unchanged.
     fn trigger(&mut self, config: &Config, stamped: &Stamped) -> Result<(Action, Outcome), Memory>
         ensures { Triggers config.now self.old stamped.now self.new result }
     {

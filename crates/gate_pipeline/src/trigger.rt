@@ -1,3 +1,4 @@
+//! Makes the action of a trigger event: the item's key, its patch set and the jobs to run.
 ghost use Rattle.std.specs.Prelude.{◌≡◌, IfOk, OnErr, is_some, true};
 ghost use Rattle.gate_pipeline.specs.States.{manager_of};
 ghost use Rattle.gate_pipeline.specs.Triggers.{key_of, patchset_of, project_of, ref_key, trigger_of};
@@ -9,7 +10,7 @@ use gate_record::{
 };
 use std::alloc::Global;
 
-// The manager of a pipeline, or an independent one where there is none.
+// Returns the manager of a pipeline. A pipeline that the configuration doesn't have counts as independent.
 pub(crate) fn manager_of(config: &Config, tenant: TenantId, pipeline: PipelineId) -> ManagerKind
     ensures { result ≡ manager_of config.now tenant.0 pipeline.0 }
 {
@@ -19,7 +20,7 @@ pub(crate) fn manager_of(config: &Config, tenant: TenantId, pipeline: PipelineId
     }
 }
 
-// The action that a trigger event asks for.
+// Returns the action that a trigger event asks for.
 pub(crate) fn trigger_of(
     alloc: Global,
     config: &Config,
@@ -82,7 +83,6 @@ fn patchset_of(event: &Event, key: &Option<Key>) -> i64
     }
 }
 
-// A copy of each name.
 fn copy_names(alloc: Global, names: &[Text]) -> Result<Sequence<Text>, Memory>
     ensures { IfOk result (λ copy. copy ≡ names.now) }
 {

@@ -1,42 +1,43 @@
+//! What a pipeline's worker is to do next, what is handed to it, and what it has processed.
 use gate_items::{Action, JobResult, Manage, Outcome};
 use gate_record::{PipelineItem, Stamp, Stamped};
 
-/// What was processed: the stamp of the trigger event, where it was one, the action, and its outcome.
+/// A processed action: the stamp of the trigger event if it came of one, the action, and its outcome.
 pub type Processed = (Option<Stamp>, Action, Outcome);
 
 /// What the worker of a pipeline is to do next.
 #[derive(Clone, Copy, Debug, PartialEq, Eq)]
 pub enum Which {
-    /// To take from the queue of management events, or to find it empty.
+    /// It is to take from the queue of management events, which may be empty.
     Management,
-    /// To take from the queue of results, or to find it empty.
+    /// It is to take from the queue of results, which may be empty.
     Result,
-    /// To take from the trigger queue, or to find it empty.
+    /// It is to take from the trigger queue, which may be empty.
     Trigger,
-    /// To process what is held, since memory was refused to it before. Nothing is taken from a queue.
+    /// It is to process the value that it holds, for which memory was refused before. Nothing is taken from a queue.
     Held,
-    /// Nothing: the end mark was taken.
+    /// It has nothing to do: the end mark was taken.
     Finished,
 }
 
-/// What the worker of a pipeline hands in.
+/// What is handed to the worker of a pipeline.
 #[derive(Debug, Drop)]
 pub enum Taken {
-    /// A management event, of its queue.
+    /// A management event that was taken from its queue.
     Manage(Manage),
-    /// A result, of its queue.
+    /// A result that was taken from its queue.
     Result(JobResult),
-    /// An event or the end mark, of the trigger queue.
+    /// An event or the end mark that was taken from the trigger queue.
     Trigger(PipelineItem),
-    /// What is held is to be tried again.
+    /// Nothing was taken: the held value is to be tried again.
     Again,
 }
 
-/// What was taken from a queue and waits to be processed, since memory was refused.
+/// A value that was taken from a queue and is still to be processed, since memory was refused.
 #[derive(Debug, Drop)]
 pub enum Held {
-    /// An action, as it is.
+    /// A management event or a result, as an action.
     Action(Action),
-    /// A trigger event, whose action is made when it is processed.
+    /// A trigger event. Its action is made when it is processed.
     Event(Stamped),
 }

@@ -14,11 +14,11 @@ module _ {T : Type 0} where
   abbrev pub batch_lender : Batch T → GName
   batch_lender b = b.head.ghost_name
 
-  -- how many values it still gives at most
+  -- how many more values the batch gives at most
   abbrev pub batch_left : Batch T → ℕ
   batch_left b = b.left
 
-  -- the next value comes from a sender of the queue and joins the list of the seat
+  -- the next value comes from a sender of the queue and joins the list of the taker's seat
   abbrev pub BatchGives : Batch T → Tagged T → Batch T → Type 0
   BatchGives b x c = (batch_head c ≡ with_taken (batch_head b) x) × (x.sender < (batch_head b).queue.senders) × (batch_left c + 1 ≡ batch_left b)
 

@@ -1,4 +1,4 @@
--- What only private contracts and proofs cite: no public contract rests on it.
+-- Definitions that only private contracts and proofs cite: no public contract rests on them.
 pub mod FreeSharing
 pub mod Sharing
 pub mod Views

@@ -1,4 +1,4 @@
--- That the two ways to say the rule of a queue agree.
+-- The two ways to say the rule of a queue, the threads' protocol and the states that it allows, agree.
 use Rattle.std.specs.Prelude.{◌≡◌, ◌≤◌, ℕ, List, [], ◌∷◌, length, map}
 use Rattle.std.specs.List.{range_with_len}
 use mathlib.Core.Option.{some}
@@ -14,17 +14,17 @@ use Rattle.gate_queue.specs.States.{Allows, State}
 use Rattle.gate_queue.specs.Tagged.{values_of}
 
 module _ {T : Type 0} where
-  -- what a seat knows is so in this state
+  -- what a seat knows is true in this state
   abbrev pub Knows : State T → Known T → Type 0
   Knows s (Sender v) = s.put v.sender ≡ v.put
   Knows s (Taker v) = s.taken ≡ v.taken
   Knows s Nothing = Unit {0}
 
-  -- the state that the protocol keeps: each sender has put its values of all, and these wait
+  -- the state that the protocol keeps: each sender has put its values among all, and these items wait
   abbrev pub state_in : (items : List (Tagged T)) (views : List (Known T)) → Shares items views → State T
   state_in items views shares = record { put = λ k. values_of k shares.all; taken = shares.taken; waiting = items }
 
-  -- what a sender's seat knows in this state, and what the taker's does before any seat is joined to it
+  -- what the seat of sender k knows in this state, and what the taker's seat knows before any seat is joined to it
   abbrev pub sender_in : Shape → State T → ℕ → Put T
   sender_in queue s k = record { sender = k; senders = queue.name.senders; put = s.put k }
 
@@ -35,8 +35,8 @@ module _ {T : Type 0} where
   abbrev pub seats_in : Shape → State T → List (Known T)
   seats_in queue s = Taker (taker_in queue s) ∷ map (λ k. Sender (sender_in queue s k)) (range_with_len 0 queue.name.senders)
 
--- What threads keep among them by the protocol is a state that the rule of the queue allows, as long as no more waits than there
--- are places, and each seat knows what is so in that state.
+-- Each state that the threads keep by the protocol is one that the rule of the queue allows, as long as no more values wait than there are
+-- places, and what each seat knows is true in that state.
 abbrev pub ProtocolKeepsTheRule : Type 0 → Type 0
 ProtocolKeepsTheRule T = (queue : Shape) (items : List (Tagged T)) (views : List (Known T)) (shares : Shares items views) →
     shares.senders ≡ queue.name.senders → length items ≤ queue.capacity →

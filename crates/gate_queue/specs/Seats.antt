@@ -4,17 +4,17 @@ use Rattle.atomic_table.specs.Seated.{TableId}
 use Rattle.atomic_blocks.specs.Laid.{WebId}
 use Rattle.gate_queue.specs.declared.tagged.Tagged.{Tagged}
 
--- What no other queue has: a bounded queue's table, or an unbounded one's web of blocks
+-- An identity that no two queues share: the table of a bounded queue, or the web of blocks of an unbounded one
 pub data QueueId : Type 0 where
   in_table : TableId → QueueId
   in_blocks : WebId → QueueId
 
--- Which queue it is: what no other queue has, and how many senders there are
+-- A queue's name: its identity, and how many senders it has
 pub record QueueName : Type 0 where
   pub id : QueueId
   pub senders : ℕ
 
--- A queue: which one it is, and how many values it can hold (without a bound, more than memory has room for)
+-- A queue: its name, and how many values it can hold. A queue without a bound has a capacity that no memory has room for.
 pub record Shape : Type 0 where
   pub name : QueueName
   pub capacity : ℕ

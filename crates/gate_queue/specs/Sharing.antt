@@ -1,4 +1,4 @@
--- The rule that every queue keeps, and what each step tells the seat that makes it.
+-- The rule that every queue keeps, and what the seats know while it is kept.
 use Rattle.std.specs.Prelude.{◌≡◌, ℕ, suc, ◌+◌, ◌-◌, ◌<◌, ◌≤◌, List, [], ◌∷◌, ◌++◌, length, slice_index_or}
 use mathlib.Core.Option.{some}
 use lib.ListN.{get_elem?}
@@ -11,18 +11,18 @@ use Rattle.gate_queue.specs.Tagged.{values_of}
 use Rattle.gate_queue.specs.States.{AreFrom}
 
 module _ {T : Type 0} where
-  -- A seat of a sender knows what the values in the queue's history have of it. Seat s is held by pass p where `holder s ≡ p + 1`
+  -- A sender's seat knows its own values among all that were ever put. Seat s is held by pass p where `holder s ≡ p + 1`
   pub record IsSender (senders : ℕ) (holder : ℕ → ℕ) (all : List (Tagged T)) (pass : ℕ) (v : Put T) : Type 0 where
     pub seat : holder v.sender ≡ suc pass
     pub put : v.put ≡ values_of v.sender all
     pub count : v.senders ≡ senders
     pub within : v.sender < senders
 
-  -- the number of the sender whose seat is the i-th of those that were joined: seats are joined from the last one on
+  -- The number of the sender whose seat is the i-th of the joined ones: seats are joined from the last one on
   abbrev pub joined_number : Got T → ℕ → ℕ
   joined_number v i = v.senders - length v.joined + i
 
-  -- The taker's seat knows what was taken. No pass holds a seat that isn't made yet or was joined
+  -- The taker's seat knows what was taken. No pass holds a seat that isn't made yet, or one that was joined
   pub record IsTaker (taker senders : ℕ) (holder : ℕ → ℕ) (all taken : List (Tagged T)) (pass : ℕ) (v : Got T) : Type 0 where
     pub here : pass ≡ taker
     pub got : v.taken ≡ taken
@@ -35,7 +35,7 @@ module _ {T : Type 0} where
   Fits taker senders holder all taken pass (Taker v) = IsTaker taker senders holder all taken pass v
   Fits taker senders holder all taken pass Nothing = Unit {0}
 
-  -- all that was ever put, in one order, is what was taken and then what waits
+  -- All values that were ever put, in one order, are those that were taken, followed by those that wait
   pub record Shares (items : List (Tagged T)) (views : List (Known T)) : Type 0 where
     pub taker : ℕ
     pub senders : ℕ

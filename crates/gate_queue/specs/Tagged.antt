@@ -1,4 +1,4 @@
--- Values with their senders.
+-- Values of a queue, each with the number of the sender that put it.
 use Rattle.std.specs.Prelude.{ℕ, ◌==◌, List, [], ◌∷◌, if◌then◌else◌}
 use Rattle.gate_queue.specs.declared.tagged.Tagged.{Tagged}
 

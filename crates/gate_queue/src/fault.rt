@@ -1,4 +1,4 @@
-//! What a queue refuses.
+//! What opening, putting and settling of a bounded queue may fail with.
 
 use crate::queue::EventQueue;
 use crate::seats::{Head, Tail};
@@ -10,7 +10,7 @@ use std::fmt;
 pub enum OpenFault {
     /// The capacity is 0.
     Capacity,
-    /// Memory ran out.
+    /// There was no memory for the places or the seats.
     Memory,
 }
 
@@ -25,7 +25,7 @@ impl fmt::Display for OpenFault {
 
 impl Error for OpenFault {}
 
-/// The value that was not put, since the queue was full at some moment of the call.
+/// The value that was not put, because the queue was full at some moment of the call.
 #[derive(Debug, PartialEq, Eq, Drop)]
 pub struct Full<T>(pub T);
 
@@ -37,7 +37,7 @@ impl<T> fmt::Display for Full<T> {
 
 impl<T: fmt::Debug + Drop> Error for Full<T> {}
 
-/// A queue that was not settled for want of memory, with all its seats. Everything waits in it as before.
+/// A queue that was not settled because memory was refused, with all its seats. All values wait in it as before.
 #[derive(Drop)]
 pub struct Unsettled<T> {
     /// The queue.

@@ -1,4 +1,4 @@
-//! A queue without a bound that several senders and one taker share.
+//! Queues without a bound that several senders and one taker share, with their seats.
 
 mod batch;
 mod fault;

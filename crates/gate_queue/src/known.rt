@@ -1,5 +1,4 @@
-//! What each seat of a queue knows, and what its steps tell. These types are for the proofs alone: no value of them is
-//! made.
+//! What the seats of a queue know, and what each step of a seat tells it, for the proofs alone: no value of these types is ever made.
 
 use crate::tagged::Tagged;
 use crossbeam_queue::protocol::{Join, Lesson, Outcome, Outcomes, Protocol, Split};
@@ -8,24 +7,24 @@ use std::collections::LinkedList;
 
 /// What a sender's seat knows: its number, how many senders there are, and what it put.
 pub struct Put<T> {
-    /// Its number, from 0.
+    /// The sender's number, from 0.
     pub sender: usize,
     /// How many senders the queue has.
     pub senders: usize,
-    /// What it put, in order.
+    /// What the sender put, in order.
     pub put: LinkedList<T>,
 }
 
-/// What the taker's seat knows: how many senders there are and how many have their seat, what it took, and what each
-/// seat that was joined had put. Seats are joined from the last sender's on.
+/// What the taker's seat knows: how many senders there are and how many of them have their seat, what was taken, and what each joined seat
+/// had put. Seats are joined to the taker's when the queue is settled, the last sender's first.
 pub struct Got<T> {
     /// How many senders the queue has.
     pub senders: usize,
     /// How many of them have their seat: those from 0 on, below this number.
     pub made: usize,
-    /// What it took, in order.
+    /// What was taken, in order.
     pub taken: LinkedList<Tagged<T>>,
-    /// What each joined sender had put, by number, up to the last.
+    /// What each joined sender had put, in the order of the senders' numbers. The last one is the queue's last sender.
     pub joined: LinkedList<LinkedList<T>>,
 }
 
@@ -35,11 +34,11 @@ pub enum Known<T> {
     Sender(Put<T>),
     /// The taker's seat.
     Taker(Got<T>),
-    /// One that was only counted, or was joined.
+    /// A seat that was only counted so far, or that was joined to the taker's.
     Nothing,
 }
 
-/// The rule of every queue.
+/// The rule that every queue keeps, as a protocol of the threads that share it.
 pub struct Sharing;
 
 impl<T> Protocol<Tagged<T>, Known<T>> for Sharing {
@@ -51,7 +50,7 @@ impl<T> Protocol<Tagged<T>, Known<T>> for Sharing {
     ghost first = { newcomer 0 };
 }
 
-/// A put.
+/// The step of a sender that puts a value.
 pub struct Puts;
 
 impl<T> Outcome<Tagged<T>, Known<T>> for Puts {
@@ -66,7 +65,7 @@ impl<T> Lesson<Tagged<T>, Known<T>> for Puts {
     ghost fact = { CanWait };
 }
 
-/// A taking, of one value or of several.
+/// The step of the taker that takes one value, or several at once.
 pub struct Takes;
 
 impl<T> Outcome<Tagged<T>, Known<T>> for Takes {
@@ -87,7 +86,7 @@ impl<T> Lesson<Tagged<T>, Known<T>> for Takes {
     ghost fact = { CanWait };
 }
 
-/// One more sender is planned, which has no seat yet.
+/// The step that counts one more sender, which has no seat yet.
 pub struct Plans;
 
 impl<T> Split<Known<T>> for Plans {
@@ -98,7 +97,7 @@ impl<T> Split<Known<T>> for Plans {
     ghost right = { nothing };
 }
 
-/// The next sender gets its seat.
+/// The step that gives the next sender its seat.
 pub struct Seats;
 
 impl<T> Split<Known<T>> for Seats {
@@ -109,7 +108,7 @@ impl<T> Split<Known<T>> for Seats {
     ghost right = { next_sender };
 }
 
-/// The seat of the last sender that is still apart is joined to the taker's.
+/// The step that joins to the taker's seat that of the last sender which isn't joined yet.
 pub struct Joins;
 
 impl<T> Join<Known<T>> for Joins {
@@ -121,8 +120,8 @@ impl<T> Join<Known<T>> for Joins {
     ghost spent = { Nothing };
 }
 
-/// The places of a queue.
+/// The array in which the values of a queue stand.
 pub type Places<T> = RuledArrayQueue<Tagged<T>, Known<T>, Sharing>;
 
-/// A seat's right to step.
+/// A seat's right to take steps in the protocol.
 pub type Right<T> = Pass<Tagged<T>, Known<T>>;

@@ -1,8 +1,8 @@
 //! Queues that several senders and one taker share: `EventQueue` has a bound, and `FreeQueue` has none.
 //!
-//! Each sender has a seat, a `Tail` or `FreeTail`, that counts what it put, and the taker has one, the `Head` or
-//! `FreeHead`, that counts what was taken. In the end `settle` gives what still waits, and then, sender by sender, what
-//! was taken followed by what waits is what was put.
+//! Each sender has a seat, a `Tail` or `FreeTail`, that records what the sender put. The taker has one, the `Head` or `FreeHead`, that
+//! records what was taken. `settle` ends a queue and gives the values that still wait: then, for each sender, the values taken from it,
+//! followed by those that wait, are the values that it put.
 #![tactic(auto)]
 
 mod fault;

@@ -1,4 +1,4 @@
-//! How a queue is opened, with all its seats.
+//! Opens a bounded queue together with all its seats.
 ghost use Rattle.std.specs.Prelude.{◌≡◌, ◌≤◌, ◌↔◌, [], All, IfOk, IsErrOf, vec_len};
 ghost use Rattle.std.specs.Vec.{vec_capacity};
 ghost use Rattle.crossbeam_queue.specs.Passes.{view, IsPassOf};
@@ -15,7 +15,7 @@ use std::alloc::Global;
 /// Opens a queue of `capacity` places with one seat for each of `senders` senders, numbered from 0 in the order of the
 /// list, and the taker's seat. There may be no sender.
 ///
-/// `Capacity` where the capacity is 0, and else `Memory` where there is no memory for the places or the seats.
+/// `Capacity` comes first, exactly where `capacity` is 0. `Memory` says that there was no memory for the places or the seats.
 pub fn open<T>(
     alloc: Global,
     capacity: usize,
@@ -46,7 +46,7 @@ pub fn open<T>(
     Ok((queue, tails, Head { right }))
 }
 
-// Lets the taker know how many senders there will be, before any has its seat.
+// Tells the taker's seat how many senders there will be, before any of them has its seat.
 fn plan<T>(places: &Places<T>, mut right: Right<T>, senders: usize) -> Right<T>
     requires { IsPassOf places.now right × (view right ≡ opening 0 0) }
     ensures { IsPassOf places.now result × (view result ≡ opening senders 0) }

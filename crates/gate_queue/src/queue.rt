@@ -1,4 +1,4 @@
-//! The queue, and the two calls that threads make.
+//! The bounded queue, with the two calls that threads make on it: `put` and `take`.
 ghost use Rattle.std.specs.Prelude.{◌≡◌, ◌<◌, ◌≤◌, length, IfSome, IfNone, IfErr, OnOk, OnErr};
 
 use crate::fault::Full;
@@ -9,8 +9,8 @@ use std::alloc::Global;
 use std::marker::Model;
 use std::sync::Wait;
 
-/// A queue of so many places, which its senders and its taker share by reference. Contracts see which queue it is,
-/// how many senders it has, and how many values it can hold.
+/// A queue with a fixed number of places, which its senders and its taker share by reference. Contracts see which queue it is, how many
+/// senders it has, and how many values it can hold.
 #[derive(Drop)]
 pub struct EventQueue<T> {
     pub(crate) places: Places<T>,
@@ -34,11 +34,11 @@ impl<T> EventQueue<T> {
     ghost use Rattle.gate_queue.specs.Seats.{IsTailOf, IsHeadOf, with_put, with_taken};
     ghost use Rattle.gate_queue.specs.States.{MayBeFull, MayBeEmpty};
 
-    /// Puts a value behind those that wait, as one more of this seat's list and of no other. It takes no memory.
+    /// Puts a value at the back of the queue and at the end of this seat's list. No other seat's list changes. The call takes no memory.
     ///
-    /// `Full` hands the value back. It comes only where the queue was full at some moment of the call: where the queue's
-    /// rule allows a state with this seat's list as it is in which `capacity` values wait. So the only sender of a queue
-    /// is never refused before it has put `capacity` values. The seat is one of this queue's.
+    /// `Full` hands the value back. It comes only where the queue was full at some moment of the call: the queue's rule allows a state in
+    /// which `capacity` values wait and this seat has put just what it has. So the only sender of a queue is never refused before it has
+    /// put `capacity` values. The seat must be one of this queue's.
     pub fn put<R: Wait>(&self, rt: &R, tail: &mut Tail<T>, value: T) -> Result<(), Full<T>>
         requires { IsTailOf self.now tail.old }
         ensures ok { OnOk result (tail.new ≡ with_put tail.old value) }
@@ -57,10 +57,10 @@ impl<T> EventQueue<T> {
         }
     }
 
-    /// Takes the value that has waited longest, with its sender, as one more of the seat's list. It takes no memory.
+    /// Takes the value that has waited longest, with its sender's number, and adds it to the seat's list. The call takes no memory.
     ///
-    /// `None` comes only where the queue was empty at some moment of the call: where the queue's rule allows a state with
-    /// this seat's list as it is in which nothing waits. The seat is this queue's.
+    /// `None` comes only where the queue was empty at some moment of the call: the queue's rule allows a state in which nothing waits and
+    /// this seat has taken just what it has. The seat must be this queue's.
     pub fn take<R: Wait>(&self, rt: &R, head: &mut Head<T>) -> Option<Tagged<T>>
         requires { IsHeadOf self.now head.old }
         ensures some { IfSome result (λ x. head.new ≡ with_taken head.old x) }

@@ -1,4 +1,5 @@
-//! The seats of a queue.
+//! The seats of a bounded queue: one for each sender, and one for the taker. A thread owns its seat, so contracts can say what that thread
+//! put or took.
 ghost use Rattle.std.specs.Prelude.{◌≡◌};
 
 use crate::known::Right;
@@ -26,7 +27,7 @@ impl<T> Model for Tail<T> {
 impl<T> Tail<T> {
     ghost use Rattle.gate_queue.specs.Views.{sender_seat, IsSenderRight};
 
-    // What the seat steps with.
+    // Gives up the seat for its right to step.
     pub(crate) fn into_right(self) -> Right<T>
         ensures { IsSenderRight self.sender result × (sender_seat self.sender result ≡ self) }
     {
@@ -65,7 +66,7 @@ impl<T> Model for Head<T> {
 impl<T> Head<T> {
     ghost use Rattle.gate_queue.specs.Views.{taker_seat, IsTakerRight};
 
-    // What the seat steps with.
+    // Gives up the seat for its right to step.
     pub(crate) fn into_right(self) -> Right<T>
         ensures { IsTakerRight result × (taker_seat result ≡ self) }
     {

@@ -1,4 +1,4 @@
-//! The end of a queue: what still waits.
+//! Ends a bounded queue: gives the values that still wait, and accounts for all that each sender put.
 ghost use Rattle.std.specs.Prelude.{◌≡◌, ℕ, ◌<◌, ◌≤◌, [], ◌++◌, map, length, All, IfOk, IfErr, slice_index_or};
 ghost use Rattle.std.specs.Vec.{vec_capacity};
 ghost use Rattle.crossbeam_queue.specs.Passes.{view, IsPassOf, ruled_capacity};
@@ -16,12 +16,11 @@ use crate::tagged::Tagged;
 use std::sync::Wait;
 
 impl<T: Drop> EventQueue<T> {
-    /// Ends the queue and gives what still waits, the oldest first. All its seats are handed in, the senders' in the
-    /// order of their numbers.
+    /// Ends the queue and gives the values that still wait, the oldest first. The caller hands in all seats, the senders' in the order of
+    /// their numbers.
     ///
-    /// For each sender, what was taken of it, followed by what waits of it, is what it put, and nothing else was taken or
-    /// waits. Where there is no memory for `capacity` values the queue and its seats come back, and everything waits as
-    /// before.
+    /// For each sender, the values taken from it, followed by those of its that wait, are the values that it put, and no other value was
+    /// taken or waits. Where there is no memory for `capacity` values, the queue and its seats come back, and all values wait as before.
     pub fn settle<R: Wait>(
         self,
         rt: &R,
@@ -53,7 +52,7 @@ impl<T: Drop> EventQueue<T> {
     }
 }
 
-// Joins the seats of the senders to the taker's, from the last on. It then knows what each had put.
+// Joins the senders' seats to the taker's, the last one first. The taker's seat knows afterwards what each sender had put.
 fn join<T>(places: &Places<T>, mut right: Right<T>, mut tails: Vec<Tail<T>>) -> Right<T>
     requires right { IsPassOf places.now right × IsTakerRight right }
     requires tails { AreSeats (in_table places.now.table.shared.table_id) (as_taker (view right)).senders tails.items }
@@ -67,7 +66,7 @@ fn join<T>(places: &Places<T>, mut right: Right<T>, mut tails: Vec<Tail<T>>) -> 
     right
 }
 
-// Takes out all that waits.
+// Takes out all values that wait.
 fn drain<T, R: Wait>(
     rt: &R,
     places: &Places<T>,
@@ -83,7 +82,7 @@ fn drain<T, R: Wait>(
         AreFrom v.senders v.taken × AreFrom v.senders result.items }
     ensures room { length result.items ≤ ruled_capacity places.now }
 {
-    // The proof counts by it: so many values wait, and no more come, so they find room.
+    // The proof needs this count: so many values wait and no more can come, so all of them find room.
     let count = places.len_as::<Takes, R>(rt, &mut right);
     while let Some(item) = places.pop_as::<Takes, R>(rt, &mut right) {
         rest.push_reserved(item);

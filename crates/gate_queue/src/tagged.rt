@@ -1,4 +1,4 @@
-//! What a queue holds.
+//! The values that stand in a queue, each with the number of its sender.
 
 /// A value beside the number of the sender that put it.
 #[derive(Debug, PartialEq, Eq, Drop)]

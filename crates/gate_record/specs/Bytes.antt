@@ -1,15 +1,15 @@
--- Texts that consist of bytes.
+-- Texts whose numbers are bytes.
 use Rattle.std.specs.Prelude.{◌≡◌, ◌<◌, ℕ, List, All, IfSome, slice_index}
 use Rattle.gate_record.specs.declared.event.Event.{Event}
 use Rattle.gate_record.specs.declared.record.Record.{Record}
 use Rattle.gate_record.specs.declared.reading.Reading.TheVariants as reading
 use Rattle.gate_record.specs.Reading.{reading_of}
 
--- each number is one of a byte, as in every `&str`
+-- Each number of the text is below 256, as in every `&str`.
 abbrev pub AreBytes : List ℕ → Type 0
 AreBytes text = (place : ℕ) → slice_index text place < 256
 
--- the texts of an event consist of bytes
+-- All texts of the event consist of bytes.
 pub record HasBytes (event : Event) : Type 0 where
   pub kind : AreBytes event.kind
   pub project : IfSome event.project AreBytes
@@ -21,6 +21,6 @@ pub record HasBytes (event : Event) : Type 0 where
   pub email : IfSome event.email AreBytes
   pub approvals : All (λ approval. AreBytes approval.0) event.approvals
 
--- the texts of each event that was read consist of bytes
+-- The texts of each event that a record is read as consist of bytes.
 abbrev pub EventsHaveBytes : Type 0
 EventsHaveBytes = (record' : Record) (event : Event) → reading_of record' ≡ reading.Event event → HasBytes event

@@ -7,18 +7,18 @@ use Rattle.gate_record.specs.declared.record.Record.TheVariants.{Line, Oversize}
 use Rattle.gate_record.specs.Characters.{line_feed}
 use Rattle.gate_record.specs.Limits.{longest_line}
 
--- the record has its bytes
+-- The record has its bytes: it isn't oversize.
 abbrev pub IsLine : Record → Type 0
 IsLine (Line bytes) = Unit {0}
 IsLine Oversize = ⊥
 
--- the record of a line, its end aside: an empty line is none
+-- the record of a line without its line end; an empty line is no record
 abbrev pub record_of_line : List ℕ → Option Record
 record_of_line [] = None
 record_of_line (byte ∷ bytes) = if nat_lt longest_line (length (byte ∷ bytes)) then Some Oversize else Some (Line (byte ∷ bytes))
 
--- The records of a whole text. `lines` cuts it at each LF, and takes one CR away at the end of each line that ends with LF;
--- what follows the last LF is a line as it is.
+-- The records of a whole text. `lines` cuts the text at each LF, and removes one CR at the end of each line that ends with LF.
+-- The rest after the last LF is a line too, taken as it is.
 abbrev pub records_of : List ℕ → List Record
 records_of bytes = filter_map record_of_line (lines bytes)
 
@@ -35,14 +35,14 @@ last_of [] = []
 last_of (part ∷ []) = part
 last_of (part ∷ next ∷ parts) = last_of (next ∷ parts)
 
--- the lines of a text that have ended: what stands before each LF, less one CR at its end
+-- the finished lines of a text: what stands before each LF, without one CR at its end
 abbrev pub ended_lines : List ℕ → List (List ℕ)
 ended_lines bytes = map strip_carriage_return (all_but_last (slice_split is_line_feed bytes))
 
--- what follows the last LF
+-- the text after the last LF
 abbrev pub unfinished_line : List ℕ → List ℕ
 unfinished_line bytes = last_of (slice_split is_line_feed bytes)
 
--- the records of the lines that have ended
+-- the records of the finished lines
 abbrev pub ended_records : List ℕ → List Record
 ended_records bytes = filter_map record_of_line (ended_lines bytes)

@@ -1,4 +1,4 @@
--- What a record of Gerrit's stream-events is read as.
+-- What a record of Gerrit's `stream-events` is read as.
 use Rattle.std.specs.Prelude.{List, [], ◌∷◌, ℕ, Option, Some, None, codes, option_and_then, if◌then◌else◌}
 use Rattle.std.specs.Option.{option_or}
 use Rattle.std.specs.Str.{bytes_eq}
@@ -18,7 +18,7 @@ project_of value = option_or
     (text_at (codes "change" ∷ codes "project" ∷ []) value)
     (text_at (codes "refUpdate" ∷ codes "project" ∷ []) value)
 
--- whose account an event of this type has, by its key
+-- the key of the account whose event an event of this type is
 abbrev pub account_of : List ℕ → Option (List ℕ)
 account_of kind =
     if bytes_eq kind (codes "patchset-created") then Some (codes "uploader")
@@ -29,11 +29,11 @@ account_of kind =
     else (if bytes_eq kind (codes "change-restored") then Some (codes "restorer")
     else None)))))
 
--- a text of the account
+-- a text of the account at this key
 abbrev pub account_text : Option (List ℕ) → List ℕ → Data → Option (List ℕ)
 account_text account key value = option_and_then (λ name. text_at (name ∷ key ∷ []) value) account
 
--- where each field stands in a JSON object whose `type` is this text
+-- the event of a JSON object with this `type`, each field taken from its path
 abbrev pub event_of : Data → List ℕ → Event
 event_of value kind = record {
   kind = kind;
@@ -49,7 +49,7 @@ event_of value kind = record {
   approvals = approvals_of value;
 }
 
--- an object is an event where it has a text `type`
+-- An object is an event if it has a text `type`.
 abbrev pub reading_of_object : Data → Option (List ℕ) → Reading
 reading_of_object value None = reading.Nothing why.NoType
 reading_of_object value (Some kind) = reading.Event (event_of value kind)
@@ -62,7 +62,7 @@ abbrev pub reading_of_json : Option Data → Reading
 reading_of_json None = reading.Nothing why.NotJson
 reading_of_json (Some value) = reading_of_value value
 
--- the first of these causes, else the event
+-- What a record is read as: no event for the first cause that it has, else its event.
 abbrev pub reading_of : Record → Reading
 reading_of Oversize = reading.Nothing why.Oversize
 reading_of (Line bytes) = reading_of_json (json_of bytes)

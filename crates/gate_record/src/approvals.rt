@@ -1,3 +1,5 @@
+//! Reads the approvals (votes) of an event from a tree of JSON values, and turns a label's name into the category that trigger
+//! rules ask for.
 ghost use Rattle.std.specs.Prelude.{◌≡◌, ◌≤◌, ◌++◌, IfOk, OnOk, length, option_to_list, string_bytes, take};
 ghost use Rattle.serde_json.specs.View.{view};
 ghost use Rattle.gate_record.specs.Approvals.{approval_of, approvals_of, category, category_byte};
@@ -10,11 +12,11 @@ use crate::text::Text;
 use serde_json::Value;
 use std::alloc::Global;
 
-/// How many approvals of an event are kept.
+/// How many approvals of an event are kept. Approvals after these are ignored.
 pub const MAX_APPROVALS: usize = 64;
 
-/// The category of a label's name, as trigger rules write it: ASCII letters in lower case, and `-` for each space, as
-/// `code-review` for `Code Review`. `Memory` where it finds no room.
+/// Returns the category of a label's name, as trigger rules write it: ASCII letters in lower case, and `-` for each space. The
+/// category of `Code Review` is `code-review`.
 pub fn category(alloc: Global, text: &str) -> Result<String, Memory>
     ensures { IfOk result (λ name. string_bytes name ≡ category text.now) }
 {
@@ -40,7 +42,7 @@ fn category_byte(byte: u8) -> u8
     }
 }
 
-/// The approvals of a record.
+/// Returns the approvals of a record's JSON value, at most `MAX_APPROVALS`.
 pub(crate) fn approvals(alloc: Global, value: &Value) -> Result<Sequence<(Text, i64)>, Memory>
     ensures { IfOk result (λ approvals. approvals ≡ approvals_of (view value.now)) }
 {
@@ -51,7 +53,8 @@ pub(crate) fn approvals(alloc: Global, value: &Value) -> Result<Sequence<(Text, 
     Ok(approvals)
 }
 
-// Adds the approval of an entry, where it has both a category and a vote, and there is a place for it.
+// Adds the approval of an entry. An entry without a category or a vote, and an entry after the first `MAX_APPROVALS`, adds
+// nothing.
 fn push_approval(
     alloc: Global,
     entry: &Value,

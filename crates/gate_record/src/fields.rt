@@ -1,4 +1,4 @@
-// The fields of an event in a tape.
+//! Reads the fields and approvals of an event from a tape, the flat list of a line's JSON tokens over which `RecordReader` works.
 ghost use Rattle.std.specs.Prelude.{◌≡◌, ◌≤◌, ◌++◌, IfOk, OnOk, List, Option, codes, length, option_and_then, option_map, option_to_list, take};
 ghost use Rattle.std.specs.List.{filter_map};
 ghost use Rattle.std.specs.Option.{option_or};
@@ -21,7 +21,7 @@ use crate::text::Text;
 use json::{Element, Items};
 use std::alloc::Global;
 
-// The texts and numbers of an event, where they stand.
+// The texts and numbers of an event, borrowed from the line.
 #[derive(Drop)]
 pub(crate) struct Fields<'a> {
     pub(crate) project: Option<&'a str>,
@@ -36,7 +36,7 @@ pub(crate) struct Fields<'a> {
 }
 
 impl Fields<'_> {
-    /// The event of this type with these fields and approvals. `Memory` where a text finds no room.
+    /// Copies the fields into an event of this type with these approvals.
     pub(crate) fn event(
         &self,
         alloc: Global,
@@ -66,7 +66,8 @@ impl Fields<'_> {
     }
 }
 
-// Texts of an event. Few calls in one function may be refused memory, since each of them drops what was copied before.
+// Copies two texts of an event. Two copies share one function because each call that may be refused memory adds code that drops
+// what was copied before.
 fn copied_two(
     alloc: Global,
     first: Option<&str>,
@@ -86,7 +87,7 @@ fn copied(alloc: Global, text: Option<&str>) -> Result<Option<Text>, Memory>
     }
 }
 
-/// The event of a record's object, whose `type`, `comment` and `approvals` were looked up. `Memory` where a field finds no room.
+/// Reads the event of a record's object. The caller has already looked up `type`, `comment` and `approvals`.
 pub(crate) fn event(
     alloc: Global,
     object: &Element<'_, '_>,
@@ -100,7 +101,7 @@ pub(crate) fn event(
     fields_of(object, kind, comment).event(alloc, kind, approvals_at(alloc, approvals)?)
 }
 
-// The members of the change and of the update of a ref are gone through once each.
+// Looks up all fields in few passes: the members of the change and of the ref update are gone through once each.
 fn fields_of<'a>(
     object: &Element<'_, 'a>,
     kind: &str,
@@ -125,7 +126,7 @@ fn fields_of<'a>(
     }
 }
 
-// The text that was looked up first, or else the other.
+// Returns the first value if it is a text, else the second if that is one.
 fn first_text<'a>(
     first: &Option<Element<'_, 'a>>,
     second: &Option<Element<'_, 'a>>,
@@ -139,7 +140,7 @@ fn first_text<'a>(
     }
 }
 
-// The account whose event it is.
+// Looks up the account whose event it is.
 fn account_member<'t, 'a>(object: &Element<'t, 'a>, kind: &str) -> Option<Element<'t, 'a>>
     ensures { (value : Data) → Begins object.now value → Finds result (account_in (account_of kind.now) value) }
 {
@@ -149,7 +150,7 @@ fn account_member<'t, 'a>(object: &Element<'t, 'a>, kind: &str) -> Option<Elemen
     }
 }
 
-// The first approvals of a record's object, of a list that was looked up.
+// Returns the approvals in the list that was looked up, at most `MAX_APPROVALS`. Without a list there are none.
 fn approvals_at(
     alloc: Global,
     list: &Option<Element<'_, '_>>,
@@ -164,7 +165,7 @@ fn approvals_at(
     Ok(approvals)
 }
 
-// Adds the approvals of a list of entries, as long as there is a place for them.
+// Adds the approvals of a list of entries, until there are `MAX_APPROVALS`.
 fn push_approvals(
     alloc: Global,
     entries: Items<'_, '_>,
@@ -181,7 +182,8 @@ fn push_approvals(
     Ok(())
 }
 
-// Adds the approval of an entry, where it has both a category and a vote, and there is a place for it.
+// Adds the approval of an entry. An entry without a category or a vote, and an entry after the first `MAX_APPROVALS`, adds
+// nothing.
 fn push_approval(
     alloc: Global,
     entry: &Element<'_, '_>,
@@ -209,7 +211,7 @@ fn approval(alloc: Global, entry: &Element<'_, '_>) -> Result<Option<(Text, i64)
     labelled(alloc, first_text(&description, &kind), number_of(&vote))
 }
 
-// The approval of this label and vote, where there are both.
+// Returns the approval of this label and vote, or `None` if either is missing.
 fn labelled(
     alloc: Global,
     label: Option<&str>,

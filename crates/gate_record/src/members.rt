@@ -1,4 +1,4 @@
-// What stands at several keys of an object in a tape, of which each member is looked at once.
+//! Looks up three keys of a JSON object in a tape in one pass over the members of the object.
 ghost use Rattle.std.specs.Prelude.{◌≡◌, Option, false, option_and_then};
 ghost use Rattle.std.specs.Str.{bytes_eq};
 ghost use Rattle.serde_json.specs.Data.{Data};
@@ -7,14 +7,14 @@ ghost use Rattle.gate_record.specs.Inner.Tapes.{Begins, Finds};
 
 use json::Element;
 
-// What stands at each of three keys, if anything does.
+// The values at three keys, each `None` if the object lacks the key.
 pub(crate) type Three<'t, 'a> = (
     Option<Element<'t, 'a>>,
     Option<Element<'t, 'a>>,
     Option<Element<'t, 'a>>,
 );
 
-/// What stands at each of three keys, of which no two are alike.
+/// Looks up three keys, of which no two are alike. A key that stands twice has its last value, as with serde_json.
 pub(crate) fn three_members<'t, 'a>(
     outer: &Element<'t, 'a>,
     first: &str,
@@ -44,7 +44,7 @@ pub(crate) fn three_members<'t, 'a>(
     (at_first, at_second, at_third)
 }
 
-/// The same of an object that was looked up.
+/// Looks up three keys in an object that was itself looked up. If nothing was found, there is nothing at its keys.
 pub(crate) fn three_members_in<'t, 'a>(
     outer: &Option<Element<'t, 'a>>,
     first: &str,

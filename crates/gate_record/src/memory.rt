@@ -1,8 +1,11 @@
+//! `Memory`, the error of every call that may need memory and is refused it.
 use std::alloc::{AllocError, AllocFailed};
 use std::error::Error;
 use std::fmt;
 
-/// Memory was refused. What the call was given is unchanged, unless the call says otherwise.
+/// The answer of a call to which memory was refused. The call had to grow something and the growth was really refused: a call that
+/// needs no more room than it has doesn't give this answer. A few calls give it also when a count would overflow, and say so.
+/// Nothing is lost. The receiver and the other arguments are unchanged, unless the contract of the call says otherwise.
 #[derive(Clone, Copy, Debug, PartialEq, Eq)]
 pub struct Memory;
 

@@ -1,3 +1,4 @@
+//! `Queue`, a first-in first-out list that one thread owns.
 ghost use Rattle.std.specs.Prelude.{◌≡◌, ◌==◌, ◌<◌, ◌+◌, List, length, [], ◌∷◌, ◌++◌, slice_get, option_map, IfErr, OnOk, OnErr, MatchOption, MatchResult};
 ghost use Rattle.std.specs.Option.{option_copied};
 
@@ -5,8 +6,8 @@ use std::alloc::{AllocFailed, Global};
 use std::collections::VecDeque;
 use std::marker::Model;
 
-/// A list that grows at its back and is taken from its front, both in constant time, and that contracts see as that
-/// list. What room it has reserved is no part of it.
+/// A list that grows at its back and is taken from its front, both in constant time. Contracts see it as that list: its capacity
+/// is no part of its value.
 #[derive(Drop)]
 pub struct Queue<T> {
     items: VecDeque<T>,
@@ -19,7 +20,7 @@ impl<T> Model for Queue<T> {
 }
 
 impl<T> Queue<T> {
-    /// The queue with nothing in it. It takes no memory.
+    /// Returns an empty queue. It takes no memory.
     pub fn new(alloc: Global) -> Queue<T>
         ensures { result ≡ [] }
     {
@@ -28,28 +29,28 @@ impl<T> Queue<T> {
         }
     }
 
-    /// How many values wait.
+    /// Returns how many values wait.
     pub fn len(&self) -> usize
         ensures { result ≡ length self.now }
     {
         self.items.len()
     }
 
-    /// Whether nothing waits.
+    /// Returns whether no value waits.
     pub fn is_empty(&self) -> bool
         ensures { result ≡ (length self.now == 0) }
     {
         self.items.is_empty()
     }
 
-    /// The value at a place, from 0 at the front.
+    /// Returns the value at a place, counted from 0 at the front.
     pub fn get(&self, place: usize) -> Option<&T>
         ensures { option_copied result ≡ slice_get self.now place }
     {
         self.items.get(place)
     }
 
-    /// Adds a value at the back. Where memory is refused the value comes back.
+    /// Adds a value at the back. When memory is refused, the value comes back in the error.
     pub fn push(&mut self, value: T) -> Result<(), AllocFailed<T>>
         ensures { MatchResult result (λ _. self.new ≡ self.old ++ value ∷ [])
             (λ refused. (self.new ≡ self.old) × (refused.value ≡ value)) }
@@ -65,7 +66,7 @@ impl<T> Queue<T> {
         self.items.pop_front()
     }
 
-    /// Takes everything out.
+    /// Drops all values.
     pub fn clear(&mut self)
     where
         T: Drop,

@@ -1,3 +1,5 @@
+//! `read_record`, the plain way to read a record as an event: over a tree of `serde_json` values. `RecordReader` does the same
+//! faster.
 ghost use Rattle.std.specs.Prelude.{◌≡◌, IfOk, OnErr, option_map};
 ghost use Rattle.serde_json.specs.View.{view};
 ghost use Rattle.gate_record.specs.Inner.Fields.{AreFields};
@@ -16,8 +18,8 @@ use serde_json::Value;
 use serde_json::error::Category;
 use std::alloc::Global;
 
-/// Reads a record as an event. Each field is taken from the JSON value by its path in Gerrit's documentation of
-/// `stream-events`. `Memory` where the value or a field of a line finds no room.
+/// Reads a record as an event. Each field is taken from the JSON value by its path in Gerrit's documentation of `stream-events`.
+/// A record without its line, `Record::Oversize`, takes no memory.
 pub fn read_record(alloc: Global, record: &Record) -> Result<Reading, Memory>
     ensures reads { IfOk result (λ reading. reading ≡ reading_of «record».now) }
     ensures needs { OnErr result (IsLine «record».now) }
@@ -84,7 +86,7 @@ fn project(value: &Value) -> Option<&str>
     }
 }
 
-// The key of the account whose event it is.
+// Returns the key of the account whose event an event of this type is.
 pub(crate) fn account(kind: &str) -> Option<&'static str>
     ensures { option_map (λ t. t.now) result ≡ account_of kind.now }
 {
@@ -98,7 +100,6 @@ pub(crate) fn account(kind: &str) -> Option<&'static str>
     }
 }
 
-// A text of the account at this key.
 fn account_text<'v>(value: &'v Value, account: Option<&str>, key: &str) -> Option<&'v str>
     ensures { option_map (λ t. t.now) result ≡ account_text (option_map (λ t. t.now) account.entry) key.now (view value.now) }
 {

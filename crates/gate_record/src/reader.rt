@@ -1,3 +1,4 @@
+//! `RecordReader`, the fast way to read records as events, one after another over the same room.
 ghost use Rattle.std.specs.Prelude.{◌≡◌, ℕ, List, IfOk, IsSome, OnErr, is_some};
 ghost use Rattle.json.specs.Json.{document};
 ghost use Rattle.json.specs.Lex.{tokens};
@@ -21,12 +22,12 @@ use json::{Element, Error, Scratch, Tape};
 use std::alloc::Global;
 use std::marker::Model;
 
-/// Reads records one after another, each as [`read_record`](crate::read_record) does, and at a third of the cost: over
-/// one flat list of what stands in the line, in place of a tree of values.
+/// Reads records one after another, each as [`read_record`](crate::read_record) does, at a third of the cost: over a tape, which
+/// is one flat list of the line's JSON tokens, in place of a tree of values.
 ///
-/// It keeps the room that this takes from record to record: 16 KB, and at most ten bytes for each byte of the longest
-/// line so far. The list itself, at most 24 bytes for each byte of the line, goes with each record. What is left in that
-/// room says nothing to the next record, so contracts see nothing of a reader.
+/// A reader keeps its scratch room from record to record: 16 KB, and at most ten bytes for each byte of the longest line so far.
+/// The tape itself, at most 24 bytes for each byte of the line, is dropped after each record. What is left in the scratch room
+/// has no influence on the next record, so contracts see nothing of a reader.
 #[derive(Drop)]
 pub struct RecordReader {
     scratch: Option<Box<Scratch>>,
@@ -41,13 +42,13 @@ impl Model for RecordReader {
 }
 
 impl RecordReader {
-    /// A reader that has read nothing. It takes no memory.
+    /// Returns a reader that has read nothing. It takes no memory.
     pub fn new() -> RecordReader {
         RecordReader { scratch: None }
     }
 
-    /// Reads a record as an event. `Memory` where the reader's room, the list or a field of a line finds none; the reader can
-    /// go on after that as before.
+    /// Reads a record as an event. A record without its line, `Record::Oversize`, takes no memory. After `Memory` the reader can
+    /// go on as before.
     pub fn read(&mut self, alloc: Global, record: &Record) -> Result<Reading, Memory>
         ensures reads { IfOk result (λ reading. reading ≡ reading_of «record».now) }
         ensures needs { OnErr result (IsLine «record».now) }
@@ -67,7 +68,7 @@ impl RecordReader {
         }
     }
 
-    // The room is taken along while it is lent, and comes back.
+    // The scratch room is taken out of the reader while the tape borrows it, and put back afterwards.
     fn read_text(&mut self, alloc: Global, text: &str) -> Result<Reading, Memory>
         ensures { IfOk result (λ reading. reading ≡ reading_of_json (json_of text.now)) }
     {

@@ -1,3 +1,4 @@
+//! What a record is read as: an event, or the reason why it is none.
 use crate::event::Event;
 
 /// What a record is read as.
@@ -8,10 +9,10 @@ pub enum Reading {
     Nothing(Why),
 }
 
-/// Why a record is no event: the first of these causes that it has.
+/// Why a record is no event. If several of these causes hold, the first one listed is given.
 #[derive(Clone, Copy, Debug, PartialEq, Eq)]
 pub enum Why {
-    /// The line was too long, and its content is gone.
+    /// The line was too long, and its content wasn't kept.
     Oversize,
     /// The bytes aren't UTF-8, aren't JSON, hold a number too large for a float, or nest more than 127 levels deep.
     NotJson,

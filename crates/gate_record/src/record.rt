@@ -1,23 +1,24 @@
+//! `Record`, one line of Gerrit's event stream, and the longest line that is read.
 ghost use Rattle.std.specs.Prelude.{◌≡◌, IfOk};
 
 use crate::memory::Memory;
 use crate::sequence::Sequence;
 use std::alloc::Global;
 
-/// How many bytes a line of a stream has at most, its end aside (this project's profile).
+/// How many bytes a line of a stream has at most, without its line end (this project's profile).
 pub const MAX_LINE: usize = 1_048_576;
 
-/// One record of a stream: what stands on one line.
+/// One record of a stream: one line.
 #[derive(Debug, Drop)]
 pub enum Record {
-    /// The bytes of the line, of which there are at most `MAX_LINE` where a stream was cut.
+    /// The bytes of the line. A stream that is cut into records has at most `MAX_LINE` of them.
     Line(Sequence<u8>),
-    /// A line of more bytes than that, without its content.
+    /// A line of more than `MAX_LINE` bytes, without its content.
     Oversize,
 }
 
 impl Record {
-    /// A copy of the record. `Memory` where its bytes find no room.
+    /// Returns a copy of the record. An oversize record takes no memory.
     pub fn copy(&self, alloc: Global) -> Result<Record, Memory>
         ensures { IfOk result (λ copy. copy ≡ self.now) }
     {

@@ -1,3 +1,4 @@
+//! `Shared`, an `Arc` that contracts see as the value that it points to.
 ghost use Rattle.std.specs.Prelude.{◌≡◌, IfOk};
 ghost use Rattle.std.specs.Arc.{arc_value};
 
@@ -6,7 +7,7 @@ use std::alloc::Global;
 use std::marker::Model;
 use std::sync::Arc;
 
-/// A value that is shared by reference count, and that contracts see as that value.
+/// A value with several owners, by reference count. Contracts see it as that value.
 #[derive(Debug, Drop)]
 pub struct Shared<T> {
     arc: Arc<T>,
@@ -19,7 +20,7 @@ impl<T> Model for Shared<T> {
 }
 
 impl<T> Shared<T> {
-    /// Moves a value to where it can be shared. `Memory` where it finds no room there.
+    /// Moves a value to the heap, where it can be shared.
     pub fn new(alloc: Global, value: T) -> Result<Shared<T>, Memory>
     where
         T: Drop,
@@ -30,7 +31,7 @@ impl<T> Shared<T> {
         })
     }
 
-    /// Another owner of the same value, without a copy. `Memory` where there are too many to be counted.
+    /// Returns another owner of the same value, without a copy. `Memory` means here that the reference count is at its limit.
     pub fn share(&self) -> Result<Shared<T>, Memory>
         ensures { IfOk result (λ shared. shared ≡ self.now) }
     {
@@ -39,7 +40,7 @@ impl<T> Shared<T> {
         })
     }
 
-    /// The value.
+    /// Borrows the shared value.
     pub fn get(&self) -> &T
         ensures { result.now ≡ self.now }
     {

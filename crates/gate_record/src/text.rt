@@ -1,3 +1,4 @@
+//! `Text`, an owned UTF-8 text. A copy of a short text is kept inline and takes no memory.
 ghost use Rattle.std.specs.Prelude.{◌≡◌, string_bytes, IfOk};
 
 use crate::memory::Memory;
@@ -6,16 +7,15 @@ use std::alloc::Global;
 use std::fmt;
 use std::marker::Model;
 
-// So many bytes of a text take no memory of their own: most names of projects, branches, refs and accounts have no more.
+// Copies of at most this many bytes are kept inline. Most names of projects, branches, refs and accounts are no longer.
 const INLINE: usize = 32;
 
-/// A text that contracts see as the list of its UTF-8 bytes. A copy of at most 32 bytes takes no memory.
+/// A text. Contracts see it as the list of its UTF-8 bytes. A copy of at most 32 bytes takes no memory.
 #[derive(Drop)]
 pub struct Text {
     bytes: TextBytes,
 }
 
-// Where a text's bytes are.
 #[derive(Drop)]
 enum TextBytes {
     Inline(ArrayString<INLINE>),
@@ -32,7 +32,7 @@ impl Model for Text {
 }
 
 impl Text {
-    /// Takes over a string, without memory.
+    /// Takes over a string. It takes no memory.
     pub fn new(string: String) -> Text
         ensures { result ≡ string_bytes string }
     {
@@ -41,7 +41,7 @@ impl Text {
         }
     }
 
-    /// A copy of a text. `Memory` where its bytes find no room.
+    /// Returns a copy of a text. At most 32 bytes take no memory.
     pub fn copy(alloc: Global, text: &str) -> Result<Text, Memory>
         ensures { IfOk result (λ copy. copy ≡ text.now) }
     {
@@ -52,7 +52,7 @@ impl Text {
         Ok(Text { bytes })
     }
 
-    /// The text itself.
+    /// Borrows the text.
     pub fn as_str(&self) -> &str
         ensures { result.now ≡ self.now }
     {

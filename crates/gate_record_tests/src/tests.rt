@@ -1,3 +1,5 @@
+//! The tests of gate_record, a module for each subject.
+
 mod accounts;
 mod approvals;
 mod events;

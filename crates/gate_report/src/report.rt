@@ -1,46 +1,46 @@
+//! `RunReport`, what a run tells at its end: how far each connection and each pipeline came.
 use gate_record::{Sequence, Stamp};
 
-/// Why a connection takes no more records.
+/// Whether a connection takes more records, and if not, why.
 #[derive(Clone, Copy, Debug, PartialEq, Eq)]
 pub enum EndCause {
-    /// It still does.
+    /// The connection still takes records.
     Unclosed,
-    /// It was closed.
+    /// The connection was closed.
     Ended,
     /// A stop was asked for.
     Stopped,
-    /// Its feed failed.
+    /// The connection's feed failed.
     Failed,
     /// Memory was refused.
     Memory,
 }
 
-/// What a run says of a connection.
+/// What a run reports of a connection.
 #[derive(Debug, Drop)]
 pub struct ConnectionReport {
-    /// How many records were accepted.
+    /// How many records the connection accepted.
     pub accepted: u64,
-    /// For each generation of the configuration behind the first that was put in force, how many records were accepted before
-    /// it.
+    /// How many records were accepted before each renewal, one number for each generation after the first that was put in force.
     pub renewals: Sequence<u64>,
-    /// Whether it takes more records, and if not, why.
+    /// Whether the connection takes more records, and if not, why.
     pub cause: EndCause,
 }
 
-/// What a run says of a pipeline.
+/// What a run reports of a pipeline.
 #[derive(Debug, Drop)]
 pub struct PipelineReport {
-    /// The stamps of the trigger events that were processed, in order.
+    /// The stamps of the trigger events that the pipeline processed, in order.
     pub done: Sequence<Stamp>,
-    /// Whether the end mark was met: then all that was wanted of the accepted records is done.
+    /// Whether the pipeline met its end mark. If so, it has processed all events that it wanted of the accepted records.
     pub finished: bool,
 }
 
-/// What a run says.
+/// What a run reports at its end.
 #[derive(Debug, Drop)]
 pub struct RunReport {
-    /// By connection number.
+    /// The connections, by number.
     pub connections: Sequence<ConnectionReport>,
-    /// By tenant number and pipeline number.
+    /// The pipelines, by tenant number and then by pipeline number.
     pub pipelines: Sequence<Sequence<PipelineReport>>,
 }

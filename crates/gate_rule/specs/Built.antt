@@ -1,4 +1,4 @@
--- What `regex` reads in a text, and which texts are built.
+-- Which texts `regex` reads, and what is known of a text that becomes no pattern.
 use Rattle.std.specs.Prelude.{◌≡◌, ◌<◌, ◌⊎◌, ℕ, List, None, IfSome, chars}
 use Rattle.regex.specs.declared.string.regex.Regex.{Regex}
 use Rattle.regex.specs.Failures.{IsPattern}
@@ -8,26 +8,26 @@ use Rattle.regex_syntax.specs.Grammar.{read}
 use Rattle.gate_rule.specs.declared.pattern.PatternFault.{PatternFault}
 use Rattle.gate_rule.specs.declared.pattern.PatternFault.TheVariants as fault
 
--- it is read in its text by the grammar of `regex`, under the default options
+-- The expression is what the grammar of `regex` reads in its text under the default options.
 abbrev pub IsReadByDefault : Regex → Type 0
 IsReadByDefault regex = (regex_config regex ≡ default_config) × IsReadFromSource regex
 
--- the grammar of `regex` reads nothing in the text, or what nests deeper than its limit
+-- The grammar of `regex` reads nothing in the text, or an expression that nests deeper than the limit.
 abbrev pub IsUnread : List ℕ → Type 0
 IsUnread text =
     (read default_config (chars text) ≡ None)
     ⊎ IfSome (read default_config (chars text)) (λ (re, names). default_config.nest_limit < re.depth)
 
--- the grammar reads the text
+-- The grammar of `regex` reads the text.
 abbrev pub IsRead : List ℕ → Type 0
 IsRead text = IsPattern default_config text
 
--- What is told of a text that is refused: the grammar of `regex` doesn't read it, or reads it. Which texts are too large to be built no
--- definition says, so this rules out no text.
+-- What is known of a text that is refused: the grammar of `regex` doesn't read it, or reads it. No definition says which texts
+-- are too large to be built, so this rules out no text.
 abbrev pub IsRefused : List ℕ → Type 0
 IsRefused text = IsUnread text ⊎ IsRead text
 
--- the same of a text that is no pattern
+-- what is known of a text that became no pattern, by its fault
 abbrev pub IsNoPattern : List ℕ → PatternFault → Type 0
 IsNoPattern text fault.Memory = Unit {0}
 IsNoPattern text fault.Refused = IsRefused text

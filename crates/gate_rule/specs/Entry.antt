@@ -1,9 +1,9 @@
--- Entries of attributes of patterns: a pattern, or its negation.
+-- Entries of attributes that list patterns: a pattern or its negation.
 use Rattle.std.specs.Prelude.{ℕ, List, Bool, not, if◌then◌else◌}
 use Rattle.gate_rule.specs.declared.entry.Entry.{Entry}
 use Rattle.gate_rule.specs.Pattern.{front, within}
 
--- a pattern's answer, turned round where it is negated
+-- a pattern's answer, inverted where the entry is negated
 abbrev pub turned : Bool → Bool → Bool
 turned negate found = if negate then not found else found
 

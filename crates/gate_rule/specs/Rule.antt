@@ -9,22 +9,22 @@ use Rattle.gate_rule.specs.declared.entry.Entry.{Entry}
 use Rattle.gate_rule.specs.declared.rule.Rule.{Rule}
 use Rattle.gate_rule.specs.Entry.{entry_front, entry_within}
 
--- An attribute whose entries are tried on a field: one of them is met. With no entry it isn't listed, and asks nothing. A
--- listed attribute whose field is missing isn't met, negated or not.
+-- An attribute whose entries are tried on a field is met if one entry is met. An attribute without entries isn't listed, and asks
+-- nothing. A listed attribute whose field is missing isn't met, whether its entries are negated or not.
 abbrev pub is_met : (Entry → List ℕ → Bool) → List Entry → Option (List ℕ) → Bool
 is_met meets [] field = true
 is_met meets (entry ∷ entries) None = false
 is_met meets (entry ∷ entries) (Some text) = list_any (λ e. meets e text) (entry ∷ entries)
 
--- the category is among the approvals, with this vote
+-- The category is among the approvals, with this vote.
 abbrev pub is_given : List ℕ × ℤ → List (List ℕ × ℤ) → Bool
 is_given wanted given = list_any (λ approval. bytes_eq approval.0 wanted.0 && int_eq approval.1 wanted.1) given
 
--- each of the categories that a rule asks for is given
+-- Each approval that a rule asks for is among those of the event.
 abbrev pub is_approved : List (List ℕ × ℤ) → List (List ℕ × ℤ) → Bool
 is_approved asked given = list_all (λ wanted. is_given wanted given) asked
 
--- each listed attribute is met, and a deletion isn't ignored
+-- The event meets each listed attribute, and isn't a deletion that the rule ignores.
 abbrev pub meets : Rule → Event → Bool
 meets rule event =
     is_met entry_front rule.event (Some event.kind)

@@ -1,3 +1,4 @@
+//! `Entry`, one alternative in an attribute of a trigger rule: a pattern or its negation.
 ghost use Rattle.std.specs.Prelude.{◌≡◌, IfOk};
 ghost use Rattle.gate_rule.specs.Entry.{entry_front, entry_within, turned};
 
@@ -5,8 +6,8 @@ use crate::pattern::Pattern;
 use gate_record::Memory;
 use std::alloc::Global;
 
-/// An entry of an attribute of patterns: a pattern, which is to match, or its negation, which is met where the pattern doesn't match
-/// (this project's profile).
+/// An entry of an attribute that lists patterns. An entry is met where its pattern matches or, if it is negated, where the
+/// pattern doesn't match (this project's profile).
 #[derive(Drop)]
 pub struct Entry {
     /// What is searched for.
@@ -16,7 +17,7 @@ pub struct Entry {
 }
 
 impl Entry {
-    /// An entry of a pattern, or of its negation. It takes no memory.
+    /// Returns an entry of a pattern, or of its negation. It takes no memory.
     pub fn new(pattern: Pattern, negate: bool) -> Entry
         ensures pattern { result.pattern ≡ pattern }
         ensures negate { result.negate ≡ negate }
@@ -24,8 +25,7 @@ impl Entry {
         Entry { pattern, negate }
     }
 
-    /// Whether a text meets the entry at its front: what `Pattern::front` answers, turned round where the entry is negated.
-    /// `Memory` where a search finds no room.
+    /// Returns whether a text meets the entry at its front: the answer of `Pattern::front`, inverted if the entry is negated.
     pub fn front(&self, alloc: Global, text: &str) -> Result<bool, Memory>
         ensures { IfOk result (λ met. met ≡ entry_front self.now text.now) }
     {
@@ -33,8 +33,7 @@ impl Entry {
         Ok(self.answer(found))
     }
 
-    /// Whether a text meets the entry anywhere: what `Pattern::within` answers, turned round where the entry is negated.
-    /// `Memory` where a search finds no room.
+    /// Returns whether a text meets the entry anywhere: the answer of `Pattern::within`, inverted if the entry is negated.
     pub fn within(&self, alloc: Global, text: &str) -> Result<bool, Memory>
         ensures { IfOk result (λ met. met ≡ entry_within self.now text.now) }
     {
@@ -42,7 +41,7 @@ impl Entry {
         Ok(self.answer(found))
     }
 
-    /// What the entry answers where its pattern answers `found`.
+    /// Returns the entry's answer where its pattern answers `found`.
     pub fn answer(&self, found: bool) -> bool
         ensures { result ≡ turned self.now.negate found }
     {

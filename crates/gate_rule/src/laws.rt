@@ -1,7 +1,8 @@
+//! The law that lets matching ask one pattern in place of all patterns of the same text.
 ghost use Rattle.gate_rule.specs.Laws.{SameTextSameAnswers};
 
-/// Two patterns of one text give the same answers on every text: what `regex` reads in a text under its default options
-/// finds the same matches each time it is read. So what was asked of one needs not be asked of the other.
+/// Two patterns of one text give the same answers on every text, because `regex` reads a text under its default options the same
+/// way each time. So an answer of one needn't be asked of the other again.
 pub fn patterns_of_one_text_answer_alike()
     ensures { SameTextSameAnswers }
 {}

@@ -1,4 +1,4 @@
-//! Trigger rules of a pipeline: which events they ask for.
+//! The trigger rules of a pipeline: patterns, entries of attributes, and which events meet a rule.
 #![tactic(auto)]
 
 mod entry;

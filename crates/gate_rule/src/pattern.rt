@@ -1,3 +1,4 @@
+//! `Pattern`, a regular expression of a trigger rule, and the two ways in which a text is searched for it.
 ghost use Rattle.std.specs.Prelude.{◌≡◌, IfErr, IfOk};
 ghost use Rattle.regex.specs.Strings.{regex_source};
 ghost use Rattle.gate_rule.specs.Built.{IsNoPattern, IsReadByDefault};
@@ -10,8 +11,8 @@ use std::alloc::Global;
 use std::error::Error;
 use std::fmt;
 
-/// A pattern of a trigger rule, in the syntax of `regex` under its default options. What was built of its text can
-/// have several owners.
+/// A pattern of a trigger rule, in the syntax of `regex` under its default options. Several owners can share the compiled
+/// expression.
 #[derive(Drop)]
 pub struct Pattern {
     regex: Shared<Regex>,
@@ -23,17 +24,16 @@ pub struct Pattern {
 pub enum PatternFault {
     /// Memory was refused.
     Memory,
-    /// `regex` doesn't read the text, or what it makes of it is too large.
+    /// The grammar of `regex` doesn't read the text, or the compiled expression would be too large.
     Refused,
 }
 
-// Why nothing was built of a text.
+// Why `regex` built nothing. Proofs need the two causes of `PatternFault::Refused` apart.
 pub(crate) enum BuildFault {
-    // Memory was refused.
     Memory,
-    // The grammar of `regex` doesn't read the text, or it nests too deep.
+    // The grammar of `regex` doesn't read the text, or the expression nests too deep.
     Unread,
-    // What is built of the text is too large.
+    // The compiled expression would be too large.
     TooLarge,
 }
 
@@ -51,7 +51,7 @@ impl Error for PatternFault {}
 impl Pattern {
     ghost use Rattle.gate_rule.specs.Pattern.{text_of, tree_of, tree_in, front, within};
 
-    /// Builds the pattern of a text. `Memory` where memory is refused, else `Refused` where `regex` refuses the text.
+    /// Builds the pattern of a text. The error is `Memory` when memory is refused, and `Refused` when `regex` refuses the text.
     pub fn new(alloc: Global, text: &str) -> Result<Pattern, PatternFault>
         ensures built { IfOk result (λ pattern. text_of pattern ≡ text.now) }
         ensures refused { IfErr result (IsNoPattern text.now) }
@@ -66,7 +66,8 @@ impl Pattern {
         }
     }
 
-    /// Another owner of the same pattern, which isn't built anew. `Memory` where there are too many to be counted.
+    /// Returns another owner of the same pattern, which isn't built anew. `Memory` means here that the reference count is at its
+    /// limit.
     pub fn share(&self) -> Result<Pattern, Memory>
         ensures { IfOk result (λ pattern. pattern ≡ self.now) }
     {
@@ -75,14 +76,14 @@ impl Pattern {
         })
     }
 
-    /// The text that the pattern was built from.
+    /// Returns the text that the pattern was built from.
     pub fn text(&self) -> &str
         ensures { result.now ≡ text_of self.now }
     {
         self.regex.get().as_str()
     }
 
-    /// The pattern, ready for many texts. `Memory` where what the searches need finds no room.
+    /// Returns a matcher, with which many texts can be tried without further memory.
     pub fn matcher(&self, alloc: Global) -> Result<Matcher<'_>, Memory>
         ensures { IfOk result (λ matcher. tree_in matcher ≡ tree_of self.now) }
     {
@@ -91,15 +92,14 @@ impl Pattern {
         })
     }
 
-    /// Whether the first match that `regex` finds in the text begins at byte 0. It need not end at the last.
-    /// `Memory` where a search finds no room.
+    /// Returns whether the first match that `regex` finds in the text begins at byte 0. The match need not end at the last byte.
     pub fn front(&self, alloc: Global, text: &str) -> Result<bool, Memory>
         ensures { IfOk result (λ found. found ≡ front self.now text.now) }
     {
         Ok(self.matcher(alloc)?.front(text))
     }
 
-    /// Whether `regex` finds a match in the text. `Memory` where a search finds no room.
+    /// Returns whether `regex` finds a match anywhere in the text.
     pub fn within(&self, alloc: Global, text: &str) -> Result<bool, Memory>
         ensures { IfOk result (λ found. found ≡ within self.now text.now) }
     {
@@ -107,7 +107,7 @@ impl Pattern {
     }
 }
 
-// What `regex` builds of a text under its default options.
+// Builds the expression of a text under the default options of `regex`.
 fn build(alloc: Global, text: &str) -> Result<Regex, BuildFault>
     ensures source { IfOk result (λ regex. regex_source regex ≡ text.now) }
     ensures by_default { IfOk result IsReadByDefault }

@@ -1,3 +1,4 @@
+//! The two ways in which the entries of an attribute are tried on a field: at its front, or anywhere in it.
 ghost use Rattle.std.specs.Prelude.{◌≡◌, IfOk};
 ghost use Rattle.gate_rule.specs.Inner.Reaching.{tried};
 
@@ -5,16 +6,14 @@ use crate::entry::Entry;
 use gate_record::Memory;
 use std::alloc::Global;
 
-// Where the entries of an attribute are tried on its field.
 #[derive(Clone, Copy)]
 pub(crate) enum Reach {
-    // As `Entry::front` does.
+    // Entries are tried by `Entry::front`.
     Front,
-    // As `Entry::within` does.
+    // Entries are tried by `Entry::within`.
     Within,
 }
 
-// Whether a text meets an entry there.
 pub(crate) fn meets(alloc: Global, reach: Reach, entry: &Entry, text: &str) -> Result<bool, Memory>
     ensures { IfOk result (λ met. met ≡ tried reach entry.now text.now) }
 {

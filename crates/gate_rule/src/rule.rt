@@ -1,3 +1,4 @@
+//! `Rule`, one trigger rule of a pipeline, and whether an event meets it.
 ghost use Rattle.std.specs.Prelude.{◌≡◌, IfOk, option_map};
 ghost use Rattle.std.specs.List.{list_any};
 ghost use Rattle.gate_rule.specs.Entry.{entry_front, entry_within};
@@ -11,31 +12,32 @@ use std::alloc::Global;
 
 type Met = Result<bool, Memory>;
 
-/// A trigger rule (Zuul's documentation, "Gerrit", trigger configuration, in this project's profile). An event meets it
-/// where it meets each attribute that is listed; an empty list isn't listed. A listed attribute isn't met by an event
-/// in which its field is missing, also where its entries are negated. The entries of one attribute are alternatives.
+/// A trigger rule (Zuul's documentation, "Gerrit", trigger configuration, in this project's profile). An event meets the rule if
+/// it meets each attribute that is listed. An attribute with an empty list counts as not listed. An event that lacks the field of
+/// a listed attribute doesn't meet it, even if the entries are negated. The entries of one attribute are alternatives, those of
+/// `approval` excepted.
 #[derive(Drop)]
 pub struct Rule {
-    /// One of these is met at the front of the event's type.
+    /// One of these entries must be met at the front of the event's type.
     pub event: Sequence<Entry>,
-    /// One of these is met at the front of the branch.
+    /// One of these entries must be met at the front of the branch.
     pub branch: Sequence<Entry>,
-    /// The attribute `ref`: one of these is met at the front of the ref's name, as Gerrit gives it.
+    /// The attribute `ref`: one of these entries must be met at the front of the ref's name, as Gerrit gives it.
     pub refname: Sequence<Entry>,
-    /// One of these is met anywhere in the account's username.
+    /// One of these entries must be met anywhere in the account's username.
     pub username: Sequence<Entry>,
-    /// One of these is met anywhere in the account's email address.
+    /// One of these entries must be met anywhere in the account's email address.
     pub email: Sequence<Entry>,
-    /// One of these is met anywhere in the comment.
+    /// One of these entries must be met anywhere in the comment.
     pub comment: Sequence<Entry>,
-    /// Each of these categories is among the event's approvals, with the same vote.
+    /// Each of these categories must be among the event's approvals, with the same vote.
     pub approval: Sequence<(Text, i64)>,
-    /// Whether the rule isn't met by a `ref-updated` that tells that its ref was deleted.
+    /// If set, a `ref-updated` that tells that its ref was deleted doesn't meet the rule.
     pub ignore_deletes: bool,
 }
 
 impl Rule {
-    /// Whether an event meets the rule. `Memory` where a search finds no room.
+    /// Returns whether an event meets the rule.
     pub fn matches(&self, alloc: Global, event: &Event) -> Result<bool, Memory>
         ensures { IfOk result (λ met. met ≡ meets self.now event.now) }
     {

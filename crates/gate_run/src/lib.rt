@@ -1,4 +1,4 @@
-//! The running threads: their queues and seats, all of them at once, and what comes of it.
+//! A whole run of `serve`: its queues are opened, all of its threads run and are waited for, and their results are put together.
 #![tactic(auto)]
 
 mod gathering;

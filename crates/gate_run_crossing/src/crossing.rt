@@ -1,5 +1,6 @@
-//! That works may be given to threads, as far as the check doesn't find it by itself: a built pattern is too large for its search, so
-//! each type below, up to a configuration, is shown to cross by what it is made of.
+//! Shows that a configuration is `Send` and `Sync`, so that threads may have it. The check can't find this by itself, because a built
+//! pattern is too large for its search. So the types of which a configuration is made are shown to be `Send` and `Sync` one after another,
+//! from the inmost on.
 ghost use denote.Param.Send.{IsSend, IsSync};
 ghost use Rattle.regex_hir.specs.contracts.hir.Hir as hir_type;
 ghost use Rattle.regex.specs.contracts.string.regex.Regex as regex_type;
@@ -14,7 +15,7 @@ use gate_config::{Config, PipelineSpec, TenantSpec};
 use gate_rule::{Pattern, Rule};
 use regex_hir::Hir;
 
-// Of a type that crosses, that it does.
+// `T` is `Send` and `Sync`.
 fn crosses<T: Send + Sync>()
     ensures send { IsSend T.row }
     ensures sync { IsSync T.row }
@@ -65,7 +66,7 @@ fn pipeline_crosses()
     crosses::<PipelineSpec>();
 }
 
-/// A configuration may be given and lent to other threads: a law, for those that start some of their own.
+/// A configuration is `Send` and `Sync`: a law, for callers that start threads of their own.
 pub fn config_crosses()
     ensures send { IsSend config_type.the_row }
     ensures sync { IsSync config_type.the_row }
@@ -75,7 +76,7 @@ pub fn config_crosses()
     crosses::<Config>();
 }
 
-/// The generations of one may be given and lent to other threads: a law, for those that start some of their own.
+/// The generations of a configuration are `Send` and `Sync`: a law, for callers that start threads of their own.
 pub fn generations_cross()
     ensures send { IsSend generations_type.the_row }
     ensures sync { IsSync generations_type.the_row }

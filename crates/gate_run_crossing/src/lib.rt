@@ -1,4 +1,4 @@
-//! That a configuration may be given and lent to threads: laws, for those that start some.
+//! Laws that a configuration and its generations are `Send` and `Sync`, for all who start threads that use them.
 #![tactic(auto)]
 
 mod crossing;

@@ -1,4 +1,4 @@
--- The ends of one pipeline's queues, without what wakes its worker; and what is posted there.
+-- What contracts see of the ends of one pipeline's queues, and how a post there is answered.
 use Rattle.std.specs.Prelude.{◌≡◌, ℕ, List, None, Result, Ok, Err, Some}
 use Rattle.gate_queue.specs.States.{MayBeFull}
 use Rattle.gate_run_posts.specs.declared.posts.PostFault.{PostFault}
@@ -18,8 +18,8 @@ abbrev pub HandsBack : {T : Type 0} → T → PostFault T → Type 0
 HandsBack value (NoPipeline back) = back ≡ value
 HandsBack value (Full back) = back ≡ value
 
--- A post is answered `NoPipeline` exactly where pipeline p of tenant t isn't there, and `Full` only where the queue's rule allows a
--- full queue with this seat's list.
+-- A post is answered `NoPipeline` exactly where there is no pipeline p of tenant t. It is answered `Full` only where the queue's rule
+-- allows a full queue while this seat has put just what it has.
 abbrev pub Judges : {T : Type 0} → (PostEnds → PostEnd T) → ℕ → ℕ → List (List PostEnds) → Result (Unit {0}) (PostFault T) → Type 0
 Judges {T} kind t p pipelines (Ok done) = (ends : PostEnds) × (at_pipeline t p pipelines ≡ Some ends)
 Judges {T} kind t p pipelines (Err (NoPipeline value)) = at_pipeline t p pipelines ≡ None

@@ -1,4 +1,4 @@
-//! What a run is asked for from outside: to stop, and to put later generations of its configuration in force.
+//! What a run can be asked for from outside: to stop, and to put later generations of its configuration in force.
 ghost use Rattle.std.specs.Prelude.{◌≡◌, ◌<◌, ◌+◌, IfErr, IfOk, None, OnErr, is_some, length};
 
 use crate::stopper::Stopper;
@@ -10,22 +10,22 @@ use std::marker::Model;
 /// Why the next generation was not asked for.
 #[derive(Debug, Clone, Copy, PartialEq, Eq)]
 pub enum RenewPostFault {
-    /// There is no generation after the last one that was asked for.
+    /// All later generations were asked for already.
     Last,
     /// Memory was refused.
     Memory,
 }
 
-/// What one side knows of what is asked of a run: whoever posts, or whoever runs. Both share a cell for the cause to stop, and
-/// one for each generation behind the first, which is set once that generation is asked for.
+/// What one side of a run knows of what the run was asked for. One side posts, and the other runs the threads. Both share a cell for the
+/// cause to stop, and a cell for each generation after the first, which is set once that generation is asked for.
 #[derive(Drop)]
 pub struct Asked {
     stop: Shared<StopCell>,
     note: StopNote,
-    // Whether the note knows a cause.
+    // Whether the note knows a cause to stop.
     knows: bool,
     cells: Shared<Sequence<StopCell>>,
-    // Of the first of these cells, in order; each knows that its generation was asked for.
+    // Notes of the first of these cells, in order. Each one knows that its generation was asked for.
     known: Vec<StopNote>,
 }
 
@@ -43,7 +43,7 @@ impl Model for Asked {
     ghost invariant = { λ a. IsNoteOf a.stop a.note × (a.knows ≡ is_some a.note.cause) × (length a.cells < most_generations) × AreKnown a.cells a.known.items };
 }
 
-// So many cells that nobody has asked yet.
+// Makes `count` cells that nobody has asked yet.
 fn open_cells(alloc: Global, count: usize) -> Result<Sequence<StopCell>, Memory>
     ensures { IfOk result (λ cells. length cells ≡ count) }
 {
@@ -61,8 +61,7 @@ impl Asked {
     ghost use Rattle.gate_run_posts.specs.Asked.{AsksForNext, KnowsStill, MayNotAsk, knows_as_much, longer};
     ghost use Rattle.gate_run_posts.specs.Inner.Asked.{AreSides, nothing_asked};
 
-    /// Both sides of a run that was asked for nothing yet, and that can be asked for so many later generations. `Memory` where
-    /// there is none for them.
+    /// Both sides of a run that was asked for nothing yet, and that has `later` generations after the first.
     pub(crate) fn open(alloc: Global, later: usize) -> Result<(Asked, Asked), Memory>
         requires few { later < most_generations }
         ensures { IfOk result (λ sides. AreSides later sides.0 sides.1) }
@@ -92,7 +91,7 @@ impl Asked {
         }
     }
 
-    /// Asks for the stop: the answer is the cause that counts.
+    /// Asks for the stop. The answer is the cause that the cell holds, this one or that of whoever asked before.
     pub(crate) fn stop(&mut self, cause: StopCause) -> Result<StopCause, Memory>
         ensures stops { IfOk result (λ held. Learns self.old.note held self.new.note) }
         ensures memory { OnErr result ((self.old.note.cause ≡ None) × (self.new ≡ self.old)) }
@@ -104,14 +103,14 @@ impl Asked {
         Ok(held)
     }
 
-    /// Whether it knows a cause to stop.
+    /// Whether this side knows a cause to stop.
     pub(crate) fn stopped(&self) -> bool
         ensures { result ≡ is_some self.now.note.cause }
     {
         self.knows
     }
 
-    /// Asks for the next generation: the answer is its number.
+    /// Asks for the next generation. The answer is its number.
     pub(crate) fn renew(&mut self) -> Result<u32, RenewPostFault>
         ensures number { IfOk result (λ generation. generation ≡ length self.old.asked + 1) }
         ensures asks { IfOk result (λ generation. AsksForNext self.old.cells self.old.asked self.new.asked) }
@@ -133,7 +132,7 @@ impl Asked {
         Ok(self.known.len() as u32)
     }
 
-    /// Asks for the stop from another place.
+    /// Makes a `Stopper`, by which another place may ask for the stop.
     pub(crate) fn stopper(&self) -> Result<Stopper, Memory>
         ensures cell { IfOk result (λ stopper. stopper.cell ≡ self.now.note.cell) }
         ensures knows_none { IfOk result (λ stopper. stopper.cause ≡ None) }
@@ -148,21 +147,22 @@ impl Asked {
         self.stop.get()
     }
 
-    /// The cells of the generations behind the first, in order.
+    /// The cells of the generations after the first, in order.
     pub fn cells(&self) -> &[StopCell]
         ensures { result.now ≡ self.now.cells }
     {
         self.cells.get().as_slice()
     }
 
-    /// Whatever a side knows, its notes are of the first of its cells, and know their causes.
+    /// A law: the notes that a side has of the generations are of its first cells, in order, and know that these generations were asked
+    /// for.
     pub fn notes_know(&self)
         ensures { AreKnown self.now.cells self.now.asked }
     {
         let _known = &self.known;
     }
 
-    /// Takes over another note of the cell of the cause to stop, if that knows a cause. It is the one that is known, if one is.
+    /// Takes over another note of the stop cell if that note knows a cause. If this side knows a cause too, it is the same one.
     pub fn take_stop(&mut self, note: StopNote)
         requires { IsNoteOf self.old.note.cell note }
         ensures of_cell { self.new.note.cell ≡ self.old.note.cell }
@@ -180,7 +180,7 @@ impl Asked {
         }
     }
 
-    /// Takes over other notes of the cells of the generations, if they are more.
+    /// Takes over other notes of the generations' cells if they are more than this side has.
     pub fn take_asked(&mut self, known: Vec<StopNote>)
         requires { AreKnown self.old.cells known.items }
         ensures { self.new ≡ record self.old { asked = longer self.old.asked known.items } }

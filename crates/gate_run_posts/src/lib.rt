@@ -1,4 +1,4 @@
-//! What is posted to a run from outside while its threads work: management events and results, a stop, later generations.
+//! What reaches a run from outside while its threads work: management events, results, the wish to stop, and that for later generations.
 #![tactic(auto)]
 
 mod asked;

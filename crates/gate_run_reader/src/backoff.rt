@@ -1,18 +1,19 @@
-//! How a reader waits for a feed that has nothing yet.
+//! How long a reader sleeps while its feed has nothing.
 
 use std::sync::Wait;
 use std::thread;
 use std::time::{Clock, Duration};
 
-// A first wait is a yield; the sleeps behind it are 20 microseconds and then each twice the one before, up to 10 milliseconds.
+// The first wait only yields. The sleeps after it last 20 microseconds at first, and each one twice as long as the one before, up to 10
+// milliseconds.
 const SHORTEST: u64 = 20;
 
 const LONGEST: u64 = 10_000;
 
-/// How long a feed has had nothing.
+/// How long the next wait of a reader is to be.
 #[derive(Clone, Copy, Debug)]
 pub(crate) struct Backoff {
-    // Microseconds of the next sleep, none where it is a yield.
+    // The microseconds of the next sleep. `None` stands for a yield.
     next: Option<u64>,
 }
 

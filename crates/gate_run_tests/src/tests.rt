@@ -1,3 +1,5 @@
+//! The tests of gate_run, a module for each subject.
+
 mod asking;
 mod failing;
 mod late;

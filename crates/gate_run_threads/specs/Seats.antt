@@ -1,4 +1,4 @@
--- Seats of queues, by what stands in them, and which seats they are.
+-- The seats of queues: what was put or taken by them, and which seats they are.
 use Rattle.std.specs.Prelude.{◌≡◌, ◌<◌, ◌==◌, ◌++◌, ◌∷◌, if◌then◌else◌, ℕ, List, [], map, length, slice_index_or}
 use Rattle.gate_queue.specs.declared.tagged.Tagged.{Tagged}
 use Rattle.gate_queue.specs.Seats.{SenderSeat, Shape, TakerSeat, QueueName}
@@ -8,7 +8,7 @@ module _ {T : Type 0} where
   abbrev pub values : List (Tagged T) → List T
   values xs = map (λ (x : Tagged T). x.value) xs
 
-  -- that seat, by which nothing was put
+  -- the seat of sender c of a queue, by which nothing was put
   abbrev pub fresh_tail : ℕ → Shape → SenderSeat T
   fresh_tail c queue = record { queue = queue.name; sender = c; put = [] }
 
@@ -16,12 +16,12 @@ module _ {T : Type 0} where
   abbrev pub fresh_head : Shape → TakerSeat T
   fresh_head queue = record { queue = queue.name; taken = [] }
 
--- which seat it is: that of sender c of this queue
+-- the identity of the seat of sender c of this queue
 abbrev pub seat_in : ℕ → Shape → QueueName × ℕ
 seat_in c queue = (queue.name, c)
 
 module _ {T : Type 0} where
-  -- which seat it is: its queue, and the sender's number
+  -- the identity of a seat: its queue, and the sender's number
   abbrev pub seat_of : SenderSeat T → QueueName × ℕ
   seat_of tail = (tail.queue, tail.sender)
 

@@ -1,4 +1,4 @@
-//! Lists that are used up side by side, and tables of lists.
+//! Lists that are used up side by side, and the columns of tables.
 ghost use Rattle.std.specs.Prelude.{◌≡◌, ◌<◌, ◌∷◌, ◌++◌, [], IfOk, OnOk, length, map};
 ghost use Rattle.std.specs.Vec.Iter.{into_iter_items};
 ghost use Rattle.gate_run_threads.specs.Tables.{dealt, dealt_all, empties};
@@ -7,7 +7,7 @@ use gate_record::Memory;
 use std::alloc::Global;
 use std::vec::IntoIter;
 
-/// The next of those that are left, where there is one.
+/// The next value of an iterator that has one left.
 pub fn next_of<T>(rest: &mut IntoIter<T>) -> T
     requires left { 0 < length (into_iter_items rest.old) }
     ensures next { into_iter_items rest.old ≡ result ∷ into_iter_items rest.new }
@@ -18,7 +18,7 @@ pub fn next_of<T>(rest: &mut IntoIter<T>) -> T
     next
 }
 
-// The columns of a table of so many, as lists.
+// The columns of a table of `width` columns.
 pub(crate) fn columns_of<T: Drop>(
     alloc: Global,
     width: usize,
@@ -45,7 +45,7 @@ fn empty_lists<T: Drop>(alloc: Global, count: usize) -> Result<Vec<Vec<T>>, Memo
     Ok(lists)
 }
 
-// One more element for each column.
+// Adds one element to the end of each column.
 fn deal<T: Drop>(alloc: Global, columns: Vec<Vec<T>>, row: Vec<T>) -> Result<Vec<Vec<T>>, Memory>
     requires { length row.items ≡ length columns.items }
     ensures dealt { IfOk result (λ longer. map (λ column. column.items) longer.items ≡ dealt (map (λ column. column.items) columns.items) row.items) }
@@ -60,7 +60,7 @@ fn deal<T: Drop>(alloc: Global, columns: Vec<Vec<T>>, row: Vec<T>) -> Result<Vec
     Ok(longer)
 }
 
-/// Puts a value last. Where memory is refused it is dropped here, so that who calls has no more to say of it.
+/// Adds a value at the end of a list. Where memory is refused the value is dropped here, so that callers need no word about it.
 pub fn push<T: Drop>(list: &mut Vec<T>, value: T) -> Result<(), Memory>
     ensures { OnOk result (list.new.items ≡ list.old.items ++ value ∷ []) }
 {

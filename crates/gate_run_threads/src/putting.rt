@@ -1,21 +1,21 @@
-//! Threads that put into several queues.
+//! What forwarders and tenants' workers have in common: they take from one queue, and put into several.
 ghost use Rattle.std.specs.Prelude.{◌≡◌, ℕ, map, IfErr, OnOk};
 ghost use Rattle.gate_run_threads.specs.Seats.{PutAt, seat_of};
 
 use gate_queue::{FreeQueue, FreeTail, Memory};
 use std::sync::Wait;
 
-/// The seats of a thread that took from one queue and put into several.
+/// The seats of a thread that took from one queue and put into several, as the thread hands them back.
 #[derive(Drop)]
 pub struct PassedOn<H, T> {
     /// The taker's seat.
     pub head: H,
-    /// By queue: the sender's seat.
+    /// The sender's seat in each queue, by queue number.
     pub tails: Vec<FreeTail<T>>,
 }
 
-/// Puts a value into the queue of this number, by the seat of that number. The value comes back where memory was refused, and where
-/// there is no queue of this number.
+/// Puts a value into the queue of this number by the seat of the same number. The value comes back where memory was refused, and where
+/// there is no such queue.
 pub fn put_at<T: Drop, R: Wait>(
     rt: &R,
     queues: &[FreeQueue<T>],

@@ -1,10 +1,12 @@
-/// What a step of a thread came to.
+//! Whether a thread goes on, parks or returns after a step.
+
+/// What came of a step of a thread.
 #[derive(Clone, Copy, Debug, PartialEq, Eq)]
 pub enum StepOutcome {
-    /// Something was done, and the next step may be made at once.
+    /// The step did something, and the next one may be made at once.
     Ready,
-    /// Nothing can be done until another thread wakes this one.
+    /// The thread has nothing to do until another one wakes it.
     Pending,
-    /// Nothing is left to be done, or memory was refused: the thread returns.
+    /// The thread is to return, because nothing is left to do or memory was refused.
     Done,
 }

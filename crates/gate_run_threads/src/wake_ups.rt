@@ -1,20 +1,20 @@
-//! Wake-ups that a thread has yet to give to others.
+//! Wake-ups that a thread still owes to other threads.
 //!
-//! Whoever puts something for a thread that may be parked has to wake it. Where many values are put one after another, a wake-up for
-//! each costs more than all else, so a thread notes for whom one is pending, and gives them when much was put and before it parks
-//! or returns. It never waits for anything while one is pending, so none stays out.
+//! Whoever puts a value for a thread that may be parked has to wake that thread. A wake-up for each of many values would cost more than all
+//! else. So a thread notes which wake-ups are pending, and gives them after it has put many values, and before it parks or returns. It
+//! never waits for anything while one is pending, so none is forgotten.
 //!
-//! Nor is one given late without bound: a forwarder gives its own once it put 256 values or took 1,024 entries, whatever became of
-//! these, and a tenant's worker before it takes its next batch.
+//! No wake-up is put off without bound: a forwarder gives its own after it put 256 values or took 1,024 entries, whatever became of these,
+//! and a tenant's worker before it takes its next batch.
 
 use crossbeam_utils::sync::Unparker;
 use gate_record::Memory;
 use std::alloc::Global;
 
-// How many values may be put before those that they are for are woken: as many as a tenant matches at once.
+// How many values may be put before the threads that they are for are woken: as many as a tenant matches at once.
 const MANY: u32 = 256;
 
-/// Which threads of a kind have a wake-up pending, by number.
+/// For which threads of one kind a wake-up is pending, by their number.
 #[derive(Drop)]
 pub struct PendingWakeUps {
     threads: Vec<bool>,
@@ -23,13 +23,13 @@ pub struct PendingWakeUps {
 }
 
 impl PendingWakeUps {
-    /// None is pending, for so many threads.
+    /// No wake-up is pending, for `count` threads.
     pub fn none(alloc: Global, count: usize) -> Result<PendingWakeUps, Memory> {
         let threads = vec![in alloc; false; count]?;
         Ok(PendingWakeUps { threads, puts: 0 })
     }
 
-    /// A value was put for the thread of this number.
+    /// Notes that a value was put for the thread of this number.
     pub fn add(&mut self, number: u32) {
         if let Some(pending) = self.threads.get_mut(number as usize) {
             *pending = true;
@@ -37,12 +37,12 @@ impl PendingWakeUps {
         self.puts = self.puts.saturating_add(1);
     }
 
-    /// Whether so many values were put that the wake-ups are due.
+    /// Whether so many values were put that the pending wake-ups should be given.
     pub fn is_due(&self) -> bool {
         self.puts >= MANY
     }
 
-    /// Gives those that are pending.
+    /// Gives the pending wake-ups.
     pub fn give(&mut self, wakers: &[Unparker]) {
         if self.puts == 0 {
             return;

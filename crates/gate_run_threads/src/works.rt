@@ -1,4 +1,4 @@
-//! Works of one kind, each in a thread of its own, which come back in order.
+//! Starts the threads of one kind, waits for them, and gets back in order what they hand back.
 ghost use Rattle.std.specs.Prelude.{◌≡◌, All, IfOk, map};
 ghost use Rattle.gate_run_threads.specs.Lists.{Pairwise};
 
@@ -11,21 +11,21 @@ use std::thread;
 use std::thread::{Promise, PromisedHandle, Scope, Threads};
 use std::time::Clock;
 
-/// What a thread is started for, and what it hands back.
+/// The work of a thread: the thread begins with `Self`, and hands back an `E`.
 pub trait Work<E> {
-    /// It can be begun.
+    /// What must be true for the work to begin.
     ghost ready: { Self → Type 0 };
 
-    /// It may come to this.
+    /// What is true of the work and of what its thread hands back.
     ghost comes_to: { Self → E → Type 0 };
 
-    /// Does it.
+    /// Does the whole work of the thread, and returns when it is done or all threads are to return.
     fn work<R: Threads + Wait + Clock + Sync>(self, rt: &R, signals: &Signals) -> E
         requires { ready self }
         ensures { comes_to self result };
 }
 
-/// That a work comes back as what it comes to.
+/// The promise of a started thread: what it hands back is what its work may come to.
 #[derive(Drop)]
 pub struct Begun<W> {
     work: Snapshot<W>,
@@ -35,11 +35,11 @@ impl<E, W: Work<E>> Promise<E> for Begun<W> {
     ghost kept_by = { λ promise end. W.comes_to promise.work.value end };
 }
 
-/// A thread that does a work.
+/// The handle of a thread that does a work.
 pub type Thread<E, W> = PromisedHandle<E, Begun<W>>;
 
-/// Starts a thread for each of these works, in order. `Thread` where one can't be started, and `Memory` where its handle finds no
-/// room; then all that run are told to halt.
+/// Starts a thread for each of these works, in order. `Thread` says that a thread couldn't be started, and `Memory` that its handle found
+/// no room. In both cases all threads that run are told to return.
 pub fn start_all<
     's,
     S,
@@ -102,7 +102,7 @@ fn start<
     }
 }
 
-/// Starts a thread for each of these works, list by list.
+/// Starts a thread for each of these works, list by list. It fails as `start_all` does.
 pub fn start_lists<
     's,
     S,
@@ -130,7 +130,7 @@ pub fn start_lists<
     Ok(threads)
 }
 
-/// Waits for each of these threads. `Memory` where what they hand back finds no room; then all that run are told to halt.
+/// Waits for each of these threads. `Memory` says that what they hand back found no room, and that all threads that run are told to return.
 pub fn join_all<E: Drop, W: Work<E>, R: Threads>(
     rt: &R,
     signals: &Signals,
@@ -147,8 +147,7 @@ pub fn join_all<E: Drop, W: Work<E>, R: Threads>(
     }
 }
 
-/// Waits for each of these threads, list by list. `Memory` where what they hand back finds no room; then all that run are told to
-/// halt.
+/// Waits for each of these threads, list by list. It fails as `join_all` does.
 pub fn join_lists<E: Drop, W: Work<E>, R: Threads>(
     rt: &R,
     alloc: Global,

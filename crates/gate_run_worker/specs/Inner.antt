@@ -1,2 +1,2 @@
--- What only private contracts and proofs cite: no public contract rests on it.
+-- Definitions that only private contracts and proofs cite: no public contract rests on them.
 pub mod Workers

@@ -1,11 +1,13 @@
+//! The trait by which others follow what the pipelines do: the status board, and the journal.
+
 use gate_pipeline::{Pipeline, Processed};
 use gate_record::{PipelineId, TenantId};
 use std::sync::Wait;
 
-/// What is told of the pipelines while they work, by their own threads. A call may wait, and then its pipeline waits with it; it
-/// can't change the pipeline. What an implementation leaves out does nothing.
+/// Is told of the actions of pipelines by the pipelines' own threads. A call may wait, and its pipeline waits with it. A call can't change
+/// the pipeline. A method that an implementation leaves out does nothing.
 pub trait Gate {
-    /// Before an action is processed.
+    /// Called before an action is processed.
     fn before<R: Wait>(
         &self,
         _rt: &R,
@@ -14,8 +16,8 @@ pub trait Gate {
         _state: &Pipeline,
     ) {}
 
-    /// Behind an action that was processed, with what came of it; not where memory was refused for it. The pipeline's next action comes
-    /// after the call.
+    /// Called after an action was processed, with what came of it, and before the pipeline's next action. It isn't called where memory was
+    /// refused for the action.
     fn after<R: Wait>(
         &self,
         _rt: &R,
@@ -25,6 +27,6 @@ pub trait Gate {
         _processed: &Processed,
     ) {}
 
-    /// Once, as the pipeline's worker returns.
+    /// Called once, when the pipeline's worker returns.
     fn last<R: Wait>(&self, _rt: &R, _tenant: TenantId, _pipeline: PipelineId, _state: &Pipeline) {}
 }

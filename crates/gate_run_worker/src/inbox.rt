@@ -1,4 +1,4 @@
-//! Where the worker of a pipeline takes management events and results.
+//! The seats by which a pipeline's worker takes management events and results.
 ghost use Rattle.std.specs.Prelude.{◌≡◌, IfNone, IfSome};
 ghost use Rattle.gate_queue.specs.Seats.{IsHeadOf, with_taken};
 
@@ -7,7 +7,7 @@ use gate_record::Shared;
 use std::marker::Model;
 use std::sync::Wait;
 
-/// The taker's seat, with its queue. Contracts see it as the seat.
+/// The taker's seat of a queue, with the queue. Contracts see the seat.
 #[derive(Drop)]
 pub struct InboxSeat<T> {
     queue: Shared<EventQueue<T>>,
@@ -32,7 +32,7 @@ impl<T> InboxSeat<T> {
         InboxSeat { queue, head }
     }
 
-    /// Takes what has waited longest, if anything waits.
+    /// Takes the value that has waited longest, if one waits.
     pub fn take<R: Wait>(&mut self, rt: &R) -> Option<Tagged<T>>
         ensures some { IfSome result (λ taken. self.new ≡ with_taken self.old taken) }
         ensures none { IfNone result (self.new ≡ self.old) }

@@ -1,4 +1,4 @@
--- A stream in pieces, and what is true of every cutting.
+-- A stream in pieces, and what is true however it is cut.
 use Rattle.std.specs.Prelude.{◌≡◌, ℕ, List, [], ◌∷◌, ◌++◌, Option}
 use Rattle.std.specs.List.{concat}
 use Rattle.std.specs.Option.{option_to_list}
@@ -6,7 +6,7 @@ use Rattle.gate_record.specs.declared.record.Record.{Record}
 use Rattle.gate_record.specs.Lines.{ended_records, records_of}
 use Rattle.gate_source.specs.Splitting.{Feeds, Finishes, IsFed}
 
--- a new splitter was fed these pieces, one after another; it gave these records, and keeps this
+-- A new splitter was fed these pieces, one after another. It gave these records, and keeps these bytes
 pub data IsSplit : (pieces : List (List ℕ)) → (records : List Record) → (kept : Option (List ℕ)) → Type 0 where
   begins : {kept : Option (List ℕ)} → IsFed [] kept → IsSplit [] [] kept
   feeds : {pieces : List (List ℕ)} {records : List Record} {kept : Option (List ℕ)} (piece : List ℕ) (more : List Record) (kept' : Option (List ℕ)) →
@@ -17,7 +17,7 @@ abbrev pub EndedLinesAreGiven : Type 0
 EndedLinesAreGiven = (pieces : List (List ℕ)) (records : List Record) (kept : Option (List ℕ)) →
     IsSplit pieces records kept → records ≡ ended_records (concat pieces)
 
--- whatever the pieces, the records, with that of the end, are those of the whole text
+-- whatever the pieces, the records so far, with the one of the end, are those of the whole text
 abbrev pub CuttingDoesNotMatter : Type 0
 CuttingDoesNotMatter = (pieces : List (List ℕ)) (records : List Record) (kept : Option (List ℕ)) (last : Option Record) →
     IsSplit pieces records kept → Finishes kept last → records ++ option_to_list last ≡ records_of (concat pieces)

@@ -1,4 +1,4 @@
--- What contracts see of a connection's source, and what its calls make of it.
+-- What contracts see of a connection's source, and what its calls change.
 use Rattle.std.specs.Prelude.{◌≡◌, ◌≤◌, ◌<◌, ◌+◌, ◌^◌, ◌∷◌, ◌++◌, ℕ, List, [], All, true, false, length, None, Result, Ok, Err}
 use Rattle.gate_record.specs.declared.record.Record.{Record}
 use Rattle.gate_record.specs.declared.transit.ConnEntry.{ConnEntry}
@@ -13,13 +13,13 @@ use Rattle.gate_source.specs.declared.source.OfferFault.TheVariants.{Stopped, Fu
 use Rattle.gate_source.specs.declared.stop.StopCause.{StopCause}
 use Rattle.gate_source.specs.Stops.{Learns, Note}
 
--- the seat in the connection's queue, how many records were accepted, and the generation of the configuration in force
+-- A source: its seat in the connection's queue, how many records were accepted, and the generation of the configuration in force
 pub record State : Type 0 where
   pub seat : SenderSeat ConnEntry
   pub count : ℕ
   pub generation : ℕ
 
--- one more record is put, with the count before it as its number
+-- one more record is put, and its number is the count before it
 abbrev pub accepted : State → Record → State
 accepted source line = record source { seat = with_put source.seat (entry.Numbered source.count line); count = source.count + 1 }
 
@@ -32,37 +32,37 @@ abbrev pub HandsBack : Record → OfferFault → Type 0
 HandsBack line (Stopped back) = back ≡ line
 HandsBack line (Full back) = back ≡ line
 
--- An offer is stopped exactly where the note knows a cause in the end, the one that it knew before if it knew any. All else
--- leaves a note that knows nothing.
+-- An offer is stopped exactly where the note knows a cause in the end, which is the one that the note knew before if it knew any. Every
+-- other answer leaves a note that knows nothing.
 abbrev pub Tells : Note → Note → Result ℕ OfferFault → Type 0
 Tells old new (Err (Stopped line)) = (cause : StopCause) × Learns old cause new
 Tells old new (Err (Full line)) = (old.cause ≡ None) × (new ≡ old)
 Tells old new (Ok number) = (old.cause ≡ None) × (new ≡ old)
 
--- the queue may be full; that of an only sender is so only once the sender has put as much as it holds
+-- The queue may be full. The queue of an only sender is full only once the sender has put as many values as the queue holds
 pub record IsFull (queue : Shape) (seat : SenderSeat ConnEntry) : Type 0 where
   pub may : MayBeFull queue seat
   pub only_sender : queue.name.senders ≡ 1 → queue.capacity ≤ length seat.put
 
--- `Full` comes only there, or after 2^62 records
+-- `Full` comes only where the queue may be full, or after 2^62 records
 abbrev pub IsNeeded : Shape → State → OfferFault → Type 0
 IsNeeded queue source (Full line) = source.count < 2 ^ 62 → IsFull queue source.seat
 IsNeeded queue source (Stopped line) = Unit {0}
 
--- a renewal fails so: there are only so many generations, or the queue was full
+-- Why a renewal fails: the last generation is in force already, or the queue was full
 abbrev pub MayRenewFault : Shape → State → ℕ → RenewFault → Type 0
 MayRenewFault queue source count Last = count ≤ source.generation + 1
 MayRenewFault queue source count NoPlace = (source.generation + 1 < count) × IsFull queue source.seat
 
--- ---- what was put so far
+-- ---- what a source has put so far
 
--- each number is at most all that follow it
+-- each number is at most every one that follows it
 abbrev pub NeverFalls : List ℕ → Type 0
 NeverFalls [] = Unit {0}
 NeverFalls (n ∷ numbers) = All (λ m. n ≤ m) numbers × NeverFalls numbers
 
--- From this seat on, a source has accepted these records, one after another, and has put the generations behind the first in
--- force, each when so many records were accepted, of so many generations.
+-- A source that started from this seat has accepted these records, one after another, and has put later generations in force, of so many
+-- generations in all. The list of numbers says, for each renewal, how many records were accepted before it.
 pub data HasAccepted (seat : SenderSeat ConnEntry) (generations : ℕ) : State → List Record → List ℕ → Type 0 where
   begins : HasAccepted seat generations (record { seat = seat; count = 0; generation = 0 }) [] []
   accepts : {source : State} {records : List Record} {renewals : List ℕ} (line : Record) → HasAccepted seat generations source records renewals →
@@ -70,9 +70,9 @@ pub data HasAccepted (seat : SenderSeat ConnEntry) (generations : ℕ) : State �
   renews : {source : State} {records : List Record} {renewals : List ℕ} → HasAccepted seat generations source records renewals → source.generation + 1 < generations →
       HasAccepted seat generations (renewed source) records (renewals ++ length records ∷ [])
 
--- What a source has put are the records that it accepted, numbered from 0, and the marks of its renewals between them; its count is
--- the number of the records, and its generation that of the renewals, of which there are fewer than generations. The end mark, if
--- it is put, is behind them. The renewals never fall, and each stands behind no more records than there are.
+-- What a source has put is the records that it accepted, numbered from 0, and the marks of its renewals between them. The end mark, if it
+-- is put, follows them. The source's count is the number of the records, and its generation is that of the renewals, of which there are
+-- fewer than generations. The numbers of the renewals never fall, and each is at most the number of records.
 pub record AreNumbered (seat : SenderSeat ConnEntry) (generations : ℕ) (source : State) (records : List Record) (renewals : List ℕ) : Type 0 where
   pub put : AreEntriesOf source.seat.put (beside renewals records) source.generation false
   pub ended : AreEntriesOf (with_put source.seat entry.End).put (beside renewals records) source.generation true

@@ -5,21 +5,21 @@ use Rattle.gate_record.specs.declared.record.Record.{Record}
 use Rattle.gate_record.specs.Limits.{longest_line}
 use Rattle.gate_record.specs.Lines.{ended_records, records_of, unfinished_line}
 
--- What is kept of a line that hasn't ended: its bytes, up to one above the limit (a CR may belong to the line's end), and
--- nothing of a longer one.
+-- What is kept of a line that hasn't ended: its bytes, up to one above the limit (a CR may belong to the line's end). Nothing is kept of a
+-- longer line.
 abbrev pub kept_of : List ℕ → Option (List ℕ)
 kept_of line = if nat_lt (longest_line + 1) (length line) then None else Some line
 
--- a splitter that keeps this was fed these bytes
+-- a splitter that keeps these bytes was fed those
 abbrev pub IsFed : List ℕ → Option (List ℕ) → Type 0
 IsFed bytes kept = kept ≡ kept_of (unfinished_line bytes)
 
--- Whatever was fed before, the records so far were those of the lines that had ended; now they are those of the lines that
--- have ended with this piece.
+-- Whatever was fed before: the records that the splitter gave before were those of the lines that had ended, and these are those of the
+-- lines that end with this piece.
 abbrev pub Feeds : Option (List ℕ) → (piece : List ℕ) → List Record → Option (List ℕ) → Type 0
 Feeds kept piece records kept' =
     (bytes : List ℕ) → IsFed bytes kept → IsFed (bytes ++ piece) kept' × (ended_records bytes ++ records ≡ ended_records (bytes ++ piece))
 
--- whatever was fed before, the records so far and this one are those of the whole text
+-- whatever was fed before: the records of the lines that had ended, with this one, are those of the whole text
 abbrev pub Finishes : Option (List ℕ) → Option Record → Type 0
 Finishes kept last = (bytes : List ℕ) → IsFed bytes kept → ended_records bytes ++ option_to_list last ≡ records_of bytes

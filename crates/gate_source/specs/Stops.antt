@@ -16,6 +16,6 @@ pub record Learns (old : Note) (cause : StopCause) (new : Note) : Type 0 where
   pub knows : new ≡ record { cell = old.cell; cause = Some cause }
   pub knew : IfSome old.cause (λ known. known ≡ cause)
 
--- what one of them knows the other doesn't know otherwise
+-- if both notes know a cause, they know the same one
 abbrev pub Agree : Note → Note → Type 0
 Agree one other = IfSome one.cause (λ cause. IfSome other.cause (λ known. known ≡ cause))

@@ -1,4 +1,4 @@
-//! Where a connection's records come from.
+//! Feeds: what a reader thread gets a connection's records from, one by one. A feed may be a file, a socket or a text in memory.
 ghost use Rattle.std.specs.Prelude.{◌≡◌, ◌-◌, ◌<◌, ◌^◌, ℕ};
 ghost use Rattle.gate_source.specs.Feeds.{Steps, Told, faults_after};
 
@@ -10,38 +10,39 @@ use std::sync::Wait;
 pub enum FeedStep {
     /// The next record.
     Got(Record),
-    /// None yet: the feed is asked again, after a while where it is idle.
+    /// There is no record yet. The feed is to be asked again: after a while if it is idle, at once otherwise.
     Pending,
     /// No record follows.
     Ended,
-    /// The feed failed, and is asked no more.
+    /// The feed failed. It is to be asked no more.
     Fault,
-    /// Memory was refused, and the feed is asked no more.
+    /// Memory was refused. The feed is to be asked no more.
     Memory,
 }
 
-/// The records of one connection, one after another. A feed may tell its records: then contracts know which are still to come
-/// (`to_come`). One over a file or a socket can't.
+/// The records of one connection, one after another. A feed may tell its records (`to_come`): then contracts know which ones are still to
+/// come. A feed over a file or a socket can't tell them.
 pub trait RecordFeed {
     /// The records that are still to come, where the feed tells them.
     ghost to_come: { Self → Told };
 
-    /// How many faults it has answered.
+    /// How many faults the feed has answered.
     ghost fault_count: { Self → ℕ };
 
-    /// The next step. It may wait for whoever writes the records. The feed has answered fewer than 2^64 - 1 faults.
+    /// Gives the next step. The call may wait for whoever writes the records. The feed must have answered fewer than 2^64 - 1 faults
+    /// before.
     fn next<R: Wait>(&mut self, rt: &R) -> FeedStep
         requires few { fault_count self.old < 2 ^ 64 - 1 }
         ensures steps { Steps (to_come self.old) result (to_come self.new) }
         ensures faults { fault_count self.new ≡ faults_after result (fault_count self.old) };
 
-    /// After `Pending`: whether it had nothing at all, so that it is asked again after a while. One that got a part of a record is asked
-    /// again at once.
+    /// Whether the last step, a `Pending`, found nothing at all, so that the reader sleeps before it asks again. A feed that got a part of
+    /// a record isn't idle and is asked again at once.
     fn is_idle(&self) -> bool {
         true
     }
 
-    /// How many faults it has answered.
+    /// How many faults the feed has answered.
     fn faults(&self) -> u64
         ensures { result ≡ fault_count self.now };
 }

@@ -1,10 +1,10 @@
-//! Where records come from.
+//! Where a connection's records come from, up to the connection's queue.
 //!
-//! A `LineSplit` cuts a stream into records, in whatever pieces it comes: `the_cutting_does_not_matter`. A `StopCell` holds
-//! the cause to stop, which whoever asks first sets for good; each thread has a note of it, and two notes that know a cause
-//! know the same one (`StopNote::agree`). A `Source` numbers the records that it accepts, and puts them into its connection's
-//! queue, and the end mark behind them (`accepted_records_are_numbered`); it accepts none once its note knows a cause to stop. No call but `offer` and `close`
-//! may wait.
+//! A `LineSplit` cuts a stream into records, and the pieces in which the stream comes don't matter (`the_cutting_does_not_matter`). A
+//! `StopCell` holds the cause to stop, which whoever asks first sets for good. Each thread has a note of the cell, and two notes that know
+//! a cause know the same one (`StopNote::agree`). A `Source` numbers the records that it accepts and puts them into its connection's queue,
+//! with the end mark after them (`accepted_records_are_numbered`). It accepts none once its note knows a cause to stop. Only
+//! `RecordFeed::next` and the `offer`, `renew` and `close` of a source may wait.
 #![tactic(auto)]
 
 mod feed;

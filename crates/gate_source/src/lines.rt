@@ -1,4 +1,4 @@
-//! The lines of a piece, each in one place, and the records that they are.
+//! Finds the lines that end within one piece of a stream, and makes records of them.
 ghost use Rattle.std.specs.Prelude.{◌≡◌, ◌++◌, ◌∷◌, IfNone, IfOk, IfSome, OnOk, option_to_list, position};
 ghost use Rattle.std.specs.Str.Lines.{strip_carriage_return};
 ghost use Rattle.gate_record.specs.Lines.{ended_records, is_line_feed, record_of_line, unfinished_line};
@@ -8,7 +8,7 @@ use gate_record::{MAX_LINE, Memory, Record, Sequence};
 use memchr::memchr;
 use std::alloc::Global;
 
-/// Adds the records of the lines that end in a piece which begins with a line. The answer is what follows its last LF.
+/// Adds the records of the lines that end in a piece, which starts at the beginning of a line. The answer is the part after its last LF.
 pub(crate) fn push_lines<'a>(
     alloc: Global,
     piece: &'a [u8],
@@ -25,7 +25,7 @@ pub(crate) fn push_lines<'a>(
     Ok(rest)
 }
 
-/// Adds a record, if there is one.
+/// Adds a record to a list, if there is one.
 pub(crate) fn push_record(records: &mut Vec<Record>, found: Option<Record>) -> Result<(), Memory>
     ensures { OnOk result (records.new.items ≡ records.old.items ++ option_to_list found) }
 {
@@ -35,7 +35,7 @@ pub(crate) fn push_record(records: &mut Vec<Record>, found: Option<Record>) -> R
     Ok(())
 }
 
-/// The first line of a piece that ends in it, without its LF, and what follows it.
+/// The bytes before the first LF of a piece, and those after it. `None` says that the piece has no LF.
 pub(crate) fn split_line(piece: &[u8]) -> Option<(&[u8], &[u8])>
     ensures none { IfNone result (HasNoFeed piece.now) }
     ensures line { IfSome result (λ parts. HasNoFeed parts.0.now) }
@@ -53,7 +53,8 @@ fn line_end(piece: &[u8]) -> Option<usize>
     memchr(b'\n', piece)
 }
 
-/// The record of a line that has ended, whose bytes are copied. `Memory` where they find no room.
+/// Makes the record of a line that has ended, without its LF, by copying its bytes. One CR at its end isn't part of the line. An empty line
+/// gives no record.
 pub(crate) fn copied(alloc: Global, line: &[u8]) -> Result<Option<Record>, Memory>
     ensures { IfOk result (λ made. made ≡ record_of_line (strip_carriage_return line.now)) }
 {
@@ -64,7 +65,7 @@ pub(crate) fn copied(alloc: Global, line: &[u8]) -> Result<Option<Record>, Memor
     Ok(record_of(line.to_vec(alloc)?))
 }
 
-/// The record of a line, its end aside. It takes no memory.
+/// Makes the record of a line without its line end. An empty line gives no record. The call takes no memory.
 pub(crate) fn record_of(line: Vec<u8>) -> Option<Record>
     ensures { result ≡ record_of_line line.items }
 {
@@ -77,7 +78,7 @@ pub(crate) fn record_of(line: Vec<u8>) -> Option<Record>
     }
 }
 
-/// A line without the one CR at its end, if it has one.
+/// A line without the one CR at its end, if there is one.
 pub(crate) fn without_return(line: &[u8]) -> &[u8]
     ensures { result.now ≡ strip_carriage_return line.now }
 {

@@ -1,3 +1,4 @@
+//! The feed over anything that implements `Read`: a file, a socket, or a text in memory.
 ghost use Rattle.std.specs.Prelude.{◌≡◌, IfOk};
 
 use crate::feed::{FeedStep, RecordFeed};
@@ -8,18 +9,18 @@ use std::collections::VecDeque;
 use std::io::Read;
 use std::sync::Wait;
 
-/// For how many bytes one read asks at the most.
+/// How many bytes one read asks for at most.
 pub const READ_SIZE: usize = 65_536;
 
-/// The records of a stream that a reader gives: a file, a socket, or a text in memory. Each step reads once at the most; the records
-/// that one read completes are handed out one by one. It tells its records where its reader tells its bytes.
+/// The records of a stream that a reader gives: a file, a socket, or a text in memory. Each step reads at most once. Records that one read
+/// completes are handed out one by one. The feed tells its records where its reader tells its bytes.
 #[derive(Drop)]
 pub struct ReaderFeed<R> {
     alloc: Global,
     reader: R,
     buffer: Vec<u8>,
     split: LineSplit,
-    // What was read and not handed out.
+    // The records that were read and not handed out yet.
     waiting: VecDeque<Record>,
     has_ended: bool,
     faults: u64,
@@ -36,7 +37,7 @@ impl<R: Read + Drop> ReaderFeed<R> {
     ghost use Rattle.gate_source.specs.Streams.{still_of, still_told, told_of};
     ghost use Rattle.gate_source.specs.Inner.Streams.{StepsOver};
 
-    /// A feed over a reader of which nothing was read. `Memory` where its buffer finds no room.
+    /// A feed over a reader of which nothing was read.
     pub fn new(alloc: Global, reader: R) -> Result<ReaderFeed<R>, Memory>
         ensures tells { IfOk result (λ feed. ⟦<ReaderFeed<R> as RecordFeed>⟧.to_come feed ≡ told_of (R.remaining reader)) }
         ensures faults { IfOk result (λ feed. ⟦<ReaderFeed<R> as RecordFeed>⟧.fault_count feed ≡ 0) }
@@ -52,7 +53,7 @@ impl<R: Read + Drop> ReaderFeed<R> {
         })
     }
 
-    // Reads once, and keeps what that completes.
+    // Reads once, and keeps the records that the read completes.
     fn read(&mut self) -> FeedStep
         requires few { self.old.faults < 2 ^ 64 - 1 }
         requires none { self.old.waiting.items ≡ [] }
@@ -70,7 +71,7 @@ impl<R: Read + Drop> ReaderFeed<R> {
         }
     }
 
-    // Cuts what was read, and hands out the first record that it completes, if it does.
+    // Cuts the bytes that were read, and hands out the first record that they complete, if there is one.
     fn feed(&mut self, count: usize) -> FeedStep
         requires count { count ≤ vec_len self.old.buffer }
         requires none { self.old.waiting.items ≡ [] }
@@ -91,7 +92,7 @@ impl<R: Read + Drop> ReaderFeed<R> {
         }
     }
 
-    // The record of what follows the last LF, now that nothing more comes.
+    // Gives the record of the bytes after the last LF, because the stream has ended.
     fn end(&mut self) -> FeedStep
         requires none { self.old.waiting.items ≡ [] }
         ensures steps { Steps (Some (still_of self.old.split [])) result (Some []) }
@@ -126,7 +127,7 @@ impl<R: Read + Drop> RecordFeed for ReaderFeed<R> {
         self.read()
     }
 
-    // `Pending` comes of a read that gave bytes.
+    // `Pending` follows only a read that gave bytes.
     fn is_idle(&self) -> bool {
         false
     }
@@ -146,7 +147,7 @@ fn first_of(waiting: &mut VecDeque<Record>) -> Option<Record>
     waiting.pop_front()
 }
 
-// Room for a read.
+// Makes the buffer for a read.
 fn buffer(alloc: Global) -> Result<Vec<u8>, Memory>
     ensures { IfOk result (λ room. vec_len room ≡ READ_SIZE) }
 {

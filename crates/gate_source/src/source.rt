@@ -1,4 +1,4 @@
-//! The way of one connection's records into its queue.
+//! The source of a connection: it numbers the connection's records and puts them into the connection's queue.
 ghost use Rattle.std.specs.Prelude.{◌≡◌, ◌<◌, ◌+◌, ◌^◌, IfErr, IfOk, OnErr};
 ghost use Rattle.gate_queue.specs.Seats.{IsTailOf, with_put};
 ghost use Rattle.gate_record.specs.declared.transit.ConnEntry.TheVariants as entry;
@@ -12,7 +12,7 @@ use std::sync::Wait;
 /// How many records a source accepts at most.
 pub const MOST_RECORDS: u64 = 1 << 62;
 
-/// Why a record was not accepted; it comes back.
+/// Why a record was not accepted. The record comes back.
 #[derive(Debug, Drop)]
 pub enum OfferFault {
     /// A stop was asked for, and the note knows its cause.
@@ -30,9 +30,9 @@ pub enum RenewFault {
     Full,
 }
 
-/// The source of one connection: it numbers the records that it accepts, from 0, and puts them into the connection's queue, and
-/// between them a mark for each generation of the configuration behind the first that it puts in force. Contracts see its seat in
-/// the queue, with all that was put, how many records it accepted, and the generation in force.
+/// The source of one connection. It numbers the records that it accepts, from 0, and puts them into the connection's queue. Between them it
+/// puts a mark for each later generation of the configuration that it puts in force. Contracts see its seat in the queue, with all that was
+/// put, how many records it accepted, and the generation in force.
 #[derive(Drop)]
 pub struct Source {
     tail: Tail<ConnEntry>,
@@ -48,12 +48,12 @@ impl Model for Source {
     ghost view = { λ s. record { seat = s.tail; count = s.count; generation = s.generation } };
 }
 
-/// What is left of a source once its end mark was put.
+/// What is left of a source once it has put its end mark.
 #[derive(Drop)]
 pub struct ClosedSource {
-    /// How many records it accepted.
+    /// How many records the source accepted.
     pub count: u64,
-    /// Its seat, in whose list the end mark is the last.
+    /// The source's seat, in whose list the end mark is the last.
     pub tail: Tail<ConnEntry>,
 }
 
@@ -61,7 +61,7 @@ impl Source {
     ghost use Rattle.gate_source.specs.Stops.{IsNoteOf};
     ghost use Rattle.gate_source.specs.Sources.{HandsBack, IsFull, IsNeeded, MayRenewFault, Tells, accepted, renewed};
 
-    /// The source of a seat, which accepted nothing yet. It takes no memory.
+    /// The source of a seat. It has accepted nothing yet. The call takes no memory.
     pub fn new(tail: Tail<ConnEntry>) -> Source
         ensures seat { result.seat ≡ tail }
         ensures count { result.count ≡ 0 }
@@ -74,18 +74,18 @@ impl Source {
         }
     }
 
-    /// How many records it accepted.
+    /// How many records were accepted so far.
     pub fn count(&self) -> u64
         ensures { result ≡ self.now.count }
     {
         self.count
     }
 
-    /// Offers a record. The answer is its number, the count of those that were accepted before. It takes no memory.
+    /// Offers a record. The answer is the record's number, which is the count of those accepted before it. The call takes no memory.
     ///
-    /// `Stopped` comes first, exactly where the note knows a cause to stop or finds one in the cell. `Full` comes only where
-    /// the queue was full at some moment of the call, or after `MOST_RECORDS` records. Neither changes anything but what the
-    /// note knows, and both hand the record back. The seat is one of this queue's, and the note one of this cell's.
+    /// `Stopped` comes first, exactly where the note knows a cause to stop or finds one in the cell. `Full` comes only where the queue was
+    /// full at some moment of the call, or after `MOST_RECORDS` records. Both hand the record back and change nothing but what the note
+    /// knows. The seat must be one of this queue's, and the note one of this cell's.
     pub fn offer<R: Wait>(
         &mut self,
         rt: &R,
@@ -121,11 +121,11 @@ impl Source {
         }
     }
 
-    /// Puts the next of so many generations of the configuration in force for the records that are offered from then on, by a
-    /// mark behind those that were accepted. The answer is its number. It takes no memory.
+    /// Puts a mark after the records accepted so far: the next generation of the configuration is in force for the records that follow.
+    /// `count` is the number of all generations. The answer is the number of the new one. The call takes no memory.
     ///
-    /// `Last` comes first, exactly where there is no later generation. `Full` comes only where the queue was full at some moment
-    /// of the call. Neither changes anything. The seat is one of this queue's.
+    /// `Last` comes first, exactly where there is no later generation. `Full` comes only where the queue was full at some moment of the
+    /// call. Neither changes anything. The seat must be one of this queue's.
     pub fn renew<R: Wait>(
         &mut self,
         rt: &R,
@@ -153,8 +153,8 @@ impl Source {
         }
     }
 
-    /// Puts the end mark, and spends the source: it puts nothing behind the mark. Only where the queue was full at some moment
-    /// of the call it comes back, as it was. It takes no memory. The seat is one of this queue's.
+    /// Puts the end mark and spends the source, so that nothing is put after the mark. The source comes back as it was only where the queue
+    /// was full at some moment of the call. The call takes no memory. The seat must be one of this queue's.
     pub fn close<R: Wait>(
         self,
         rt: &R,
@@ -181,7 +181,7 @@ impl Source {
         }
     }
 
-    /// How many records it accepted, and its seat, without an end mark. It takes no memory.
+    /// Gives up the source without an end mark, for the number of records that it accepted and its seat. The call takes no memory.
     pub fn leave(self) -> (u64, Tail<ConnEntry>)
         ensures count { result.0 ≡ self.count }
         ensures seat { result.1 ≡ self.seat }

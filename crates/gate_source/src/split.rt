@@ -1,4 +1,4 @@
-//! A stream that comes in pieces.
+//! Cuts a stream that comes in pieces into records, one for each line.
 ghost use Rattle.std.specs.Prelude.{◌≡◌, [], ◌++◌, IfOk, OnErr, OnOk, option_map, Some};
 
 use crate::lines::{push_lines, push_record, record_of, split_line, without_return};
@@ -6,10 +6,10 @@ use gate_record::{MAX_LINE, Memory, Record, Sequence};
 use std::alloc::Global;
 use std::marker::Model;
 
-/// Cuts a stream into records, piece by piece. It keeps the line that hasn't ended, up to one byte above `MAX_LINE` (a CR
-/// may belong to the line's end), and nothing of a line that is longer.
+/// Cuts a stream into records, piece by piece. A splitter keeps the line that hasn't ended, up to one byte above `MAX_LINE` (a CR may
+/// belong to the line's end), and nothing of a longer line.
 ///
-/// Contracts see these bytes, or `None` where the line is too long already, whatever follows.
+/// Contracts see the bytes that are kept, or `None` where the line is too long already, whatever follows.
 #[derive(Debug, Drop)]
 pub struct LineSplit {
     alloc: Global,
@@ -32,7 +32,7 @@ impl LineSplit {
     ghost use Rattle.gate_source.specs.Splitting.{Feeds, Finishes, IsFed};
     ghost use Rattle.gate_source.specs.Inner.Splitting.{kept_with, record_with};
 
-    /// A splitter that was fed nothing. It takes no memory.
+    /// A splitter that was fed nothing yet. The call takes no memory.
     pub fn new(alloc: Global) -> LineSplit
         ensures { IsFed [] result }
     {
@@ -42,8 +42,8 @@ impl LineSplit {
         }
     }
 
-    /// Takes the next piece of the stream, and gives the records of the lines that end in it, in order. `Memory` leaves all as
-    /// before: the piece may be fed again.
+    /// Takes the next piece of the stream, and gives the records of the lines that end in it, in order. After `Memory` the same piece may
+    /// be fed again.
     pub fn feed(&mut self, piece: &[u8]) -> Result<Sequence<Record>, Memory>
         ensures ok { IfOk result (λ records. Feeds self.old piece.now records self.new) }
         ensures memory { OnErr result (self.new ≡ self.old) }
@@ -59,14 +59,15 @@ impl LineSplit {
         Ok(Sequence::new(records))
     }
 
-    /// The record of what follows the last LF, now that the stream has ended; none where nothing does. It takes no memory.
+    /// Gives the record of the bytes after the last LF, because the stream has ended, or `None` where no byte follows it. The call takes no
+    /// memory.
     pub fn finish(self) -> Option<Record>
         ensures { Finishes self result }
     {
         left(self.kept)
     }
 
-    // Adds more of the line that hasn't ended.
+    // Adds more bytes to the line that hasn't ended.
     fn keep(&mut self, more: &[u8]) -> Result<(), Memory>
         ensures ok { OnOk result (self.new ≡ kept_with self.old more.now) }
         ensures memory { OnErr result (self.new ≡ self.old) }
@@ -82,7 +83,7 @@ impl LineSplit {
         Ok(())
     }
 
-    // The record of the line, once this ends it.
+    // Makes the record of the kept line, which ends with these bytes.
     fn ended(&self, end: &[u8]) -> Result<Option<Record>, Memory>
         ensures { IfOk result (λ made. made ≡ record_with self.now end.now) }
     {
@@ -100,14 +101,14 @@ ghost use Rattle.gate_record.specs.Limits.{longest_line};
 ghost use Rattle.gate_source.specs.Splitting.{kept_of};
 ghost use Rattle.gate_source.specs.Inner.Splitting.{record_left};
 
-// Whether a line of so many bytes, and so many more, is too long, even if its last byte is a CR that belongs to its end.
+// Whether a line of `kept` and `more` bytes is too long, even if its last byte is a CR that belongs to the line's end.
 fn is_too_long(kept: usize, more: usize) -> bool
     ensures { result ≡ nat_lt (longest_line + 1) (kept + more) }
 {
     kept.saturating_add(more) > MAX_LINE + 1
 }
 
-// What is kept of a line that hasn't ended.
+// Copies the bytes to keep of a line that hasn't ended.
 fn kept_of(alloc: Global, line: &[u8]) -> Result<Option<Vec<u8>>, Memory>
     ensures { IfOk result (λ kept. option_map (λ bytes. bytes.items) kept ≡ kept_of line.now) }
 {
@@ -117,7 +118,7 @@ fn kept_of(alloc: Global, line: &[u8]) -> Result<Option<Vec<u8>>, Memory>
     Ok(Some(line.to_vec(alloc)?))
 }
 
-// The record of what is kept of a line.
+// Makes the record of what was kept of the last line.
 fn left(kept: Option<Vec<u8>>) -> Option<Record>
     ensures { result ≡ record_left (option_map (λ line. line.items) kept) }
 {
@@ -127,7 +128,7 @@ fn left(kept: Option<Vec<u8>>) -> Option<Record>
     }
 }
 
-// The record of a line of which this was kept, and which ends with that.
+// Makes the record of a line that starts with the kept bytes and ends with these.
 fn joined(alloc: Global, kept: &[u8], end: &[u8]) -> Result<Option<Record>, Memory>
     ensures { IfOk result (λ made. made ≡ record_of_line (strip_carriage_return (kept.now ++ end.now))) }
 {

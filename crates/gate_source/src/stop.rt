@@ -1,4 +1,4 @@
-//! The cause to stop, which is set once, and what each thread knows of it.
+//! The cause to stop a run, which is set once, and what each thread knows of it.
 ghost use Rattle.std.specs.Prelude.{◌≡◌, IfNone, IfOk, IfSome, None, OnErr};
 
 use gate_record::Memory;
@@ -6,7 +6,7 @@ use once_cell::race::{Note, OnceBox};
 use std::alloc::Global;
 use std::marker::Model;
 
-/// Who asked that the sources stop.
+/// Who asked that the sources stop, so that the run ends.
 #[derive(Clone, Copy, Debug, PartialEq, Eq)]
 pub enum StopCause {
     /// The status port.
@@ -15,8 +15,8 @@ pub enum StopCause {
     Caller,
 }
 
-/// The cause to stop, if there is one: that of whoever asks first, for good. Threads share the cell by reference, and no
-/// call waits for another. Contracts see which cell it is.
+/// Holds the cause to stop, if there is one. Whoever asks first sets it for good. Threads share the cell by reference, and no call waits
+/// for another. Contracts see which cell it is.
 #[derive(Drop)]
 pub struct StopCell {
     alloc: Global,
@@ -32,8 +32,8 @@ impl Model for StopCell {
     ghost view = { λ c. cell_name c.cause };
 }
 
-/// What a thread knows of a cell, which is used with the cell that gave it (`IsNoteOf`). Contracts see which cell that is,
-/// and the cause, once the note knows it; it never forgets it. It takes no memory, and may go to another thread.
+/// What one thread knows of a cell. A note is used with the cell that gave it (`IsNoteOf`). Contracts see which cell that is, and the cause
+/// once the note knows it. A note never forgets the cause. It takes no memory, and may go to another thread.
 #[derive(Drop)]
 pub struct StopNote {
     known: Note<StopCause>,
@@ -50,7 +50,7 @@ impl Model for StopNote {
 impl StopCell {
     ghost use Rattle.gate_source.specs.Stops.{IsNoteOf, Learns};
 
-    /// A cell that nobody has asked yet. It takes no memory.
+    /// A cell that nobody has asked to stop yet. The call takes no memory.
     pub fn new(alloc: Global) -> StopCell {
         StopCell {
             alloc,
@@ -58,7 +58,7 @@ impl StopCell {
         }
     }
 
-    /// A note that knows nothing yet. It takes no memory.
+    /// A note that knows nothing yet. The call takes no memory.
     pub fn note(&self) -> StopNote
         ensures { IsNoteOf self.now result × (result.cause ≡ None) }
     {
@@ -67,8 +67,8 @@ impl StopCell {
         }
     }
 
-    /// Asks for the stop. The answer is the cause that the cell holds, this one or that of whoever asked before, and the note
-    /// knows it from then on. `Memory` where it is refused to a note that knows nothing, and then nothing is changed.
+    /// Asks for the stop. The answer is the cause that the cell holds, either this one or that of whoever asked before. The note knows that
+    /// cause from then on. `Memory` comes only where the note knew no cause.
     pub fn request(&self, note: &mut StopNote, cause: StopCause) -> Result<StopCause, Memory>
         requires { IsNoteOf self.now note.old }
         ensures ok { IfOk result (λ held. Learns note.old held note.new) }
@@ -81,8 +81,8 @@ impl StopCell {
         Ok(*held)
     }
 
-    /// The cause that the cell holds, which the note knows from then on. A note that knows a cause gets that cause. It takes
-    /// no memory.
+    /// The cause that the cell holds, which the note knows from then on. A note that knows a cause gets that cause. The call takes no
+    /// memory.
     pub fn seen(&self, note: &mut StopNote) -> Option<StopCause>
         requires { IsNoteOf self.now note.old }
         ensures some { IfSome result (λ held. Learns note.old held note.new) }
@@ -95,7 +95,7 @@ impl StopCell {
 impl StopNote {
     ghost use Rattle.gate_source.specs.Stops.{Agree};
 
-    /// Two notes of one cell that know a cause know the same one, whichever threads they come from. The call does nothing.
+    /// Two notes of one cell that know a cause know the same one, whichever threads they come from. The call does nothing at run time.
     pub fn agree(&mut self, other: &mut StopNote)
         requires { other.old.cell ≡ self.old.cell }
         ensures agree { Agree self.old other.old }

@@ -1,4 +1,4 @@
--- What a line of a status session asks for.
+-- Which command a line of a status session is.
 use Rattle.std.specs.Prelude.{◌≡◌, List, ℕ, Bool, true, false, Option, Some, None, Result, Ok, Err, codes, IsTrue, if◌then◌else◌}
 use Rattle.std.specs.Str.{bytes_eq}
 use Rattle.gate_line.specs.declared.field.LineFault.{LineFault}
@@ -24,7 +24,7 @@ plain_of word =
     else (if bytes_eq word (codes "renew") then Some command.Renew
     else (if bytes_eq word (codes "quit") then Some command.Quit else None)))
 
--- a field that should be a number is told from the others
+-- the command's fault for a line's fault: a field that should be a number has a fault of its own
 abbrev pub fault_of : LineFault → CommandFault
 fault_of line.Unknown = Unknown
 fault_of (line.Missing expected) = Arguments
@@ -37,31 +37,31 @@ posted (Ok (post.Manage tenant pipeline manage)) = Ok (command.Manage tenant pip
 posted (Ok (post.Result tenant pipeline ended)) = Ok (command.Result tenant pipeline ended)
 posted (Err fault) = Err (fault_of fault)
 
--- what the first word asks for, with what stands behind it
+-- the command of a line, by its first word and the fields after that
 abbrev pub command_named : Option Command → Option PostKind → Rest → Result Command CommandFault
 command_named (Some plain) kind None = Ok plain
 command_named (Some plain) kind (Some more) = Err Arguments
 command_named None (Some kind) rest = posted (post_of kind rest)
 command_named None None rest = Err Unknown
 
--- What a line asks for. The fault of one that asks for nothing is never `Memory`.
+-- The command of a line, or the line's fault, which is never `Memory`.
 abbrev pub command_of : List ℕ → Result Command CommandFault
 command_of line = if is_blank line then Err Empty else command_named (plain_of (word_of line)) (kind_of (word_of line)) (rest_of line)
 
 -- ---- faults
 
--- texts are copied for a key of a ref, and for a result
+-- a command has texts to copy where it brings a key of a ref, or a result
 abbrev pub has_texts : Command → Bool
 has_texts (command.Manage tenant pipeline manage) = manage_has_texts manage
 has_texts (command.Result tenant pipeline ended) = true
 has_texts other = false
 
--- memory may be refused where texts are copied
+-- memory may be refused only where texts are copied
 abbrev pub MayBeRefused : Result Command CommandFault → Type 0
 MayBeRefused (Ok command) = IsTrue (has_texts command)
 MayBeRefused (Err fault) = ⊥
 
--- this fault may be answered where this is asked for: each other than `Memory` is the line's own
+-- This fault may be answered to a line with this command or fault. Every fault but `Memory` is the line's own
 abbrev pub IsFaultOf : Result Command CommandFault → CommandFault → Type 0
 IsFaultOf asked Memory = MayBeRefused asked
 IsFaultOf asked Empty = asked ≡ Err Empty

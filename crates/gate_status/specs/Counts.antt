@@ -6,7 +6,7 @@ pub record Device (D : Type 0) : Type 0 where
   pub device : D
   pub faults : ℕ
 
--- one more where the answer is an error, up to the last u64
+-- the count after a call: one more where the answer is an error, up to 2^64 - 1
 abbrev pub counted : {T E : Type 0} → Result T E → ℕ → ℕ
 counted (Ok value) faults = faults
 counted (Err error) faults = min (faults + 1) (2 ^ 64 - 1)

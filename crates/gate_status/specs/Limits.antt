@@ -1,6 +1,6 @@
--- The number that the standard gives: how much a session may send.
+-- How much a session may send.
 use Rattle.std.specs.Prelude.{ℕ}
 
--- the bytes that are read of a session
+-- how many bytes of a session are read at most
 abbrev pub longest_session : ℕ
 longest_session = 1048576

@@ -1,4 +1,4 @@
--- What a session may answer to a line, and what is posted by it.
+-- What a session may reply to a line, and what it posts for the line.
 use Rattle.std.specs.Prelude.{◌≡◌, ◌≤◌, ◌<◌, ℕ, suc, List, ◌++◌, codes, length, map, Option, Some, None, Result, Ok, Err, string_bytes}
 use Rattle.gate_record.specs.declared.record.Record.{Record}
 use Rattle.gate_record.specs.declared.record.Record.TheVariants.{Line, Oversize}
@@ -39,7 +39,7 @@ reply_text reply.Last = codes "last\n"
 reply_text reply.Bye = codes "bye\n"
 reply_text (reply.Refused why) = fault_line why
 
--- how a session ends with a reply, if it does
+-- how a session ends with this reply, if it does
 abbrev pub end_of : Reply → Option SessionEnd
 end_of reply.Stopping = Some end.Stop
 end_of reply.Bye = Some end.Quit
@@ -47,22 +47,22 @@ end_of other = None
 
 -- ---- which reply may be given
 
--- posts with a place for each pipeline of a configuration
+-- the posts have a place for each pipeline of the configuration
 abbrev pub ArePostsFor : Config → PostsView → Type 0
 ArePostsFor config posts = map length posts.pipelines ≡ pipeline_counts config
 
--- What a line asks for, or why it asks for nothing. A session reads fewer bytes than a line would have that is too long.
+-- The command of a line, or its fault. A line that is too long can't come, because a session reads fewer bytes than it would have.
 abbrev pub asked_by : Record → Result Command CommandFault
 asked_by (Line bytes) = command_of bytes
 asked_by Oversize = Err fault.Unknown
 
--- the pipeline to which something is to be posted
+-- the pipeline to which the command posts something
 abbrev pub addressed : Result Command CommandFault → Option (ℕ × ℕ)
 addressed (Ok (command.Manage tenant pipeline manage)) = Some (tenant.0, pipeline.0)
 addressed (Ok (command.Result tenant pipeline ended)) = Some (tenant.0, pipeline.0)
 addressed other = None
 
--- it is one of the configuration, and it isn't
+-- the pipeline is one of the configuration, and below: it isn't
 abbrev pub IsThere : Config → Option (ℕ × ℕ) → Type 0
 IsThere config None = ⊥
 IsThere config (Some at) = at.1 < length (pipelines_of config at.0)
@@ -71,7 +71,7 @@ abbrev pub IsMissing : Config → Option (ℕ × ℕ) → Type 0
 IsMissing config None = ⊥
 IsMissing config (Some at) = length (pipelines_of config at.0) ≤ at.1
 
--- a command for which memory may be refused: any but `quit`
+-- memory may be refused for this command, which is any but `quit`
 abbrev pub MayTakeMemory : Result Command CommandFault → Type 0
 MayTakeMemory (Err why) = ⊥
 MayTakeMemory (Ok command.Quit) = ⊥
@@ -84,9 +84,9 @@ MayRefuse asked fault.Arguments = asked ≡ Err fault.Arguments
 MayRefuse asked fault.Number = asked ≡ Err fault.Number
 MayRefuse asked fault.Memory = MayTakeMemory asked
 
--- The replies that may be given where this is asked for: the lines of all pipelines with any counts to `status`, `ok` or `full` where
--- the pipeline is there to which something is to be posted and else `no-pipeline`, `ok` to `stop`, `ok` or `last` to `renew`, `bye` to
--- `quit`, the line's own fault, and `memory`.
+-- The replies that may be given to a line. The reply to `status` is the lines of all pipelines with any counts. A post is answered `ok` or
+-- `full` where there is such a pipeline, and `no-pipeline` where there isn't. The reply to `stop` is `ok`, to `renew` `ok` or `last`, and
+-- to `quit` `bye`. A line that is no command gets its own fault. `memory` may come where memory may be refused.
 abbrev pub MayReply : Config → Result Command CommandFault → Reply → Type 0
 MayReply config asked (reply.Shown text) = (asked ≡ Ok command.Status) × (board : List (List Progress)) × (string_bytes text ≡ status_text config board ++ codes "ok\n")
 MayReply config asked reply.Posted = IsThere config (addressed asked)
@@ -100,7 +100,7 @@ MayReply config asked (reply.Refused why) = MayRefuse asked why
 
 -- ---- what a reply leaves
 
--- one more management event or result stands behind those that were posted to its pipeline
+-- one more management event or result is posted to its pipeline, after those that were posted before
 abbrev pub with_posted : Result Command CommandFault → List (List PostEnds) → List (List PostEnds)
 with_posted (Err why) posts = posts
 with_posted (Ok command.Status) posts = posts
@@ -112,24 +112,24 @@ with_posted (Ok (command.Manage tenant pipeline manage)) posts =
 with_posted (Ok (command.Result tenant pipeline ended)) posts =
     changed_at tenant.0 pipeline.0 (λ (ends : PostEnds). record ends { results = posted ended ends.results }) posts
 
--- just where that was answered `ok`
+-- a value is posted exactly where the reply to its line is `ok`
 abbrev pub posted_by : Result Command CommandFault → Reply → List (List PostEnds) → List (List PostEnds)
 posted_by asked reply.Posted posts = with_posted asked posts
 posted_by asked other posts = posts
 
--- how many generations were asked for: one more just where `renew` was answered `ok`
+-- how many generations were asked for: one more exactly where `renew` was answered `ok`
 abbrev pub asked_behind : ℕ → Reply → ℕ
 asked_behind asked reply.Renewed = suc asked
 asked_behind asked other = asked
 
--- Where there are so many later generations, and so many of them were asked for: `renew` is answered `ok` only where one is left, and
--- `last` only where none is.
+-- Where there are `later` later generations, of which `asked` were asked for: `renew` is answered `ok` only where one is left, and `last`
+-- only where none is.
 abbrev pub IsLeft : ℕ → ℕ → Reply → Type 0
 IsLeft later asked reply.Renewed = asked < later
 IsLeft later asked reply.Last = asked ≡ later
 IsLeft later asked other = Unit {0}
 
--- what is known of the cause to stop changes just where the session ends by `stop`: then a cause is known
+-- What the posts know of the cause to stop changes exactly where the session ends by `stop`: then they know a cause
 abbrev pub NoteAfter : Option SessionEnd → Note → Note → Type 0
 NoteAfter (Some end.Stop) old new = (cause : StopCause) × Learns old cause new
 NoteAfter other old new = new ≡ old

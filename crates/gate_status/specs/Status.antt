@@ -1,4 +1,4 @@
--- What is printed of how far the pipelines are.
+-- The text that `status` prints of a board.
 use Rattle.std.specs.Prelude.{ℕ, List, [], ◌∷◌, ◌++◌, codes, decimal, drop}
 use Rattle.gate_record.specs.Names.{name_text}
 use Rattle.gate_config.specs.declared.config.Config.{Config}
@@ -16,11 +16,11 @@ abbrev pub counts_text : Progress → List ℕ
 counts_text progress =
     (codes " done " ++ decimal progress.done ++ codes " items " ++ decimal progress.items ++ codes " reports " ++ decimal progress.reports ++ codes " ") ++ (state_word progress.finished ++ codes "\n")
 
--- a pipeline's line
+-- the line of a pipeline
 abbrev pub status_line : List ℕ → List ℕ → Progress → List ℕ
 status_line tenant pipeline progress = pipeline_start tenant pipeline ++ counts_text progress
 
--- the first entry of a board's row; a pipeline without one hasn't begun as far as the board knows
+-- The first entry of a board's row. A pipeline without an entry counts as one that hasn't begun
 abbrev pub first_of : List Progress → Progress
 first_of [] = no_progress
 first_of (progress ∷ entries) = progress
@@ -35,7 +35,7 @@ abbrev pub pipeline_lines : List ℕ → List PipelineSpec → List Progress →
 pipeline_lines tenant [] entries = []
 pipeline_lines tenant (spec ∷ specs) entries = status_line tenant spec.name (first_of entries) ++ pipeline_lines tenant specs (drop 1 entries)
 
--- the lines of tenants
+-- the lines of these tenants' pipelines
 abbrev pub tenant_lines : List TenantSpec → List (List Progress) → List ℕ
 tenant_lines [] rows = []
 tenant_lines (tenant ∷ tenants) rows = pipeline_lines tenant.name tenant.pipelines (row_of rows) ++ tenant_lines tenants (drop 1 rows)

@@ -1,4 +1,4 @@
-//! The answers to lines, one after another.
+//! Answers the lines of a session one after another: reads each as a command, carries it out, and writes the reply.
 ghost use Rattle.std.specs.Prelude.{◌≡◌, ◌≢◌, ◌∷◌, ◌<◌, ◌-◌, ◌^◌, ◌++◌, [], IfErr, IfOk, List, None, Ok, OnOk, codes, length, string_bytes};
 ghost use Rattle.std.specs.Io.KnownBytes.{Appends};
 ghost use Rattle.std.specs.Option.{option_to_list};
@@ -25,7 +25,7 @@ use gate_source::StopCause;
 use std::io::Write;
 use std::sync::{Mutex, Wait};
 
-// What a session answers by, besides what it posts.
+// What a session needs for its answers, besides the posts.
 #[derive(Drop)]
 pub(crate) struct Session<'a> {
     pub(crate) config: &'a Config,
@@ -33,7 +33,7 @@ pub(crate) struct Session<'a> {
 }
 
 impl Session<'_> {
-    /// Answers lines in order, until a reply ends the session.
+    /// Answers lines in order, until a reply ends the session. The answer says how the session ended, if it did.
     pub(crate) fn answer_all<X: AllocGlobal + Wait, W: Write>(
         &self,
         rt: &X,
@@ -58,7 +58,8 @@ impl Session<'_> {
         Ok(None)
     }
 
-    /// Answers what follows the last LF, if anything does, and says how the session ends: by the answer, or since the reader has ended.
+    /// Answers the bytes after the last LF, if there are any, after the reader has ended. The answer says whether the reply ended the
+    /// session, or the end of the reader did.
     pub(crate) fn answer_last<X: AllocGlobal + Wait, W: Write>(
         &self,
         rt: &X,
@@ -82,7 +83,7 @@ impl Session<'_> {
         }
     }
 
-    // Answers a line, and says how the session ends with it, if it does.
+    // Answers a line. The answer says how the session ended with it, if it did.
     fn answer_one<X: AllocGlobal + Wait, W: Write>(
         &self,
         rt: &X,
@@ -102,8 +103,8 @@ impl Session<'_> {
         Ok(reply.end())
     }
 
-    // Does what a line asks for, and gives the answer. Only what is posted changes, how many generations were asked for, and what is
-    // known of the cause to stop.
+    // Carries out a line's command, and gives the reply. Only three things can change: what is posted, how many generations were asked for,
+    // and what the posts know of the cause to stop.
     fn answer<X: AllocGlobal + Wait>(&self, rt: &X, posts: &mut Posts, line: &Record) -> Reply
         requires for_config { ArePostsFor self.now.config.now posts.old }
         ensures may { MayReply self.now.config.now (asked_by line.now) result }
@@ -201,7 +202,7 @@ impl Session<'_> {
         }
     }
 
-    // How far the pipelines are by the board, and `ok`.
+    // The text of the board and a line `ok`.
     fn shown<X: AllocGlobal + Wait>(&self, rt: &X) -> Result<String, Memory>
         ensures { IfOk result (λ text. (progress : List (List Progress)) × (string_bytes text ≡ status_text self.now.config.now progress ++ codes "ok\n")) }
     {
@@ -220,7 +221,7 @@ fn refusal<T: Drop>(fault: PostFault<T>) -> Reply
     }
 }
 
-// Writes a reply.
+// Writes a reply and flushes it.
 fn say<W: Write>(output: &mut Counted<W>, reply: &Reply) -> Result<(), SessionFault>
     requires few { output.old.faults < 2 ^ 64 - 1 }
     ensures says { OnOk result (Appends (W.contents output.old.device) (W.contents output.new.device) (reply_text reply.now)) }

@@ -1,3 +1,4 @@
+//! The board: how far each pipeline is. Workers write it after each action, and `status` prints it.
 ghost use Rattle.std.specs.Prelude.{◌≡◌, IfOk, replicate, slice_set};
 ghost use Rattle.gate_status.specs.Boards.{new_board, no_progress, with_progress};
 
@@ -38,8 +39,7 @@ impl Model for TenantBoard {
 }
 
 impl Board {
-    /// An entry for each pipeline of each tenant of a configuration, none of which has begun. `Memory` where there is no
-    /// room for them.
+    /// A board for a configuration, with an entry for each pipeline of each tenant. No pipeline has begun.
     pub fn new(alloc: Global, config: &Config) -> Result<Board, Memory>
         ensures { IfOk result (λ board. board ≡ new_board config.now) }
     {
@@ -50,7 +50,7 @@ impl Board {
         Ok(Board { tenants })
     }
 
-    /// Says how far a pipeline is. Of one that isn't there nothing is said. It takes no memory.
+    /// Sets how far a pipeline is. The call does nothing where there is no such pipeline. It takes no memory.
     pub fn set(&mut self, tenant: TenantId, pipeline: PipelineId, progress: Progress)
         ensures { self.new ≡ with_progress tenant.0 pipeline.0 progress self.old }
     {
@@ -59,7 +59,7 @@ impl Board {
         }
     }
 
-    /// The entries, by tenant number.
+    /// The rows of the tenants, by tenant number.
     pub(crate) fn tenants(&self) -> &[TenantBoard]
         ensures { result.now ≡ self.now }
     {
@@ -68,7 +68,7 @@ impl Board {
 }
 
 impl TenantBoard {
-    // So many pipelines, none of which has begun.
+    // A row of `count` pipelines, none of which has begun.
     fn new(alloc: Global, count: usize) -> Result<TenantBoard, Memory>
         ensures { IfOk result (λ pipelines. pipelines ≡ replicate count no_progress) }
     {
@@ -76,7 +76,7 @@ impl TenantBoard {
         Ok(TenantBoard { pipelines })
     }
 
-    // The pipeline of this number, if it is there, is so far.
+    // Sets how far the pipeline of this number is, if there is one.
     fn set(&mut self, pipeline: usize, progress: Progress)
         ensures { self.new ≡ slice_set self.old pipeline progress }
     {
@@ -85,7 +85,7 @@ impl TenantBoard {
         }
     }
 
-    /// The entries, by pipeline number.
+    /// The entries of the pipelines, by pipeline number.
     pub(crate) fn pipelines(&self) -> &[Progress]
         ensures { result.now ≡ self.now }
     {

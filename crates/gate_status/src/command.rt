@@ -1,4 +1,4 @@
-//! The commands of a status session.
+//! Reads the commands of a status session, one for each line.
 ghost use Rattle.std.specs.Prelude.{◌≡◌, IfErr, IfOk, None, option_copied};
 ghost use Rattle.gate_status.specs.Commands.{IsFaultOf, command_of};
 
@@ -10,26 +10,26 @@ use std::alloc::Global;
 /// What a line of a status session asks for.
 #[derive(Debug, Drop)]
 pub enum Command {
-    /// The items of each pipeline are to be shown.
+    /// The session is to show how far each pipeline is.
     Status,
-    /// The program is to end, once what it has read is done.
+    /// The program is to end, once it has processed what it has read.
     Stop,
     /// The next generation of the configuration is to be put in force.
     Renew,
     /// The session is to end.
     Quit,
-    /// An item of a pipeline is to be taken out (`dequeue`), or to get a new build set (`reset`).
+    /// An item of a pipeline is to be removed (`dequeue`), or to get a new build set (`reset`).
     Manage(TenantId, PipelineId, Manage),
-    /// A job of a build set of a pipeline has ended.
+    /// A job of a build set in a pipeline has ended.
     Result(TenantId, PipelineId, JobResult),
 }
 
-/// Why a line asks for nothing.
+/// Why a line is no command.
 #[derive(Clone, Copy, Debug, PartialEq, Eq)]
 pub enum CommandFault {
     /// The line has nothing but spaces.
     Empty,
-    /// The first word is no command.
+    /// The first word names no command.
     Unknown,
     /// A field is missing, empty, one too many, or none of the words or texts that may stand there.
     Arguments,
@@ -39,10 +39,10 @@ pub enum CommandFault {
     Memory,
 }
 
-/// Reads a line: `status`, `stop`, `renew`, `quit`, or a line `dequeue T P KEY`, `reset T P KEY` or `result T P SET success|failure JOB`
-/// of a script, without its line end. The first word decides, and then the fields from left to right; the first that is
-/// missing or wrong is the fault. Whether there is such a tenant, pipeline or connection isn't asked. `Memory` only where a
-/// line that asks for something has texts to copy: those of a ref's key, or the name of a job.
+/// Reads a line without its line end: `status`, `stop`, `renew`, `quit`, or one of a script's lines `dequeue T P KEY`, `reset T P KEY` and
+/// `result T P SET success|failure JOB`. The fault is the first word if it names no command, and otherwise the first field from the left
+/// that is missing or wrong. Whether there is such a tenant, pipeline or connection isn't checked. `Memory` comes only where the line is
+/// right and has texts to copy: those of a ref's key, or the name of a job.
 pub fn parse_command(alloc: Global, line: &[u8]) -> Result<Command, CommandFault>
     ensures ok { IfOk result (λ command. command_of line.now ≡ Ok command) }
     ensures fault { IfErr result (IsFaultOf (command_of line.now)) }
@@ -61,7 +61,7 @@ pub fn parse_command(alloc: Global, line: &[u8]) -> Result<Command, CommandFault
 ghost use Rattle.gate_line.specs.Posts.{kind_of, post_of};
 ghost use Rattle.gate_status.specs.Commands.{command_named, posted};
 
-// A command with fields behind its word.
+// Reads a command that has fields after its word.
 fn posted_of(alloc: Global, word: &[u8], rest: Option<&[u8]>) -> Result<Command, CommandFault>
     ensures ok { IfOk result (λ command. command_named None (kind_of word.now) (option_copied rest.entry) ≡ Ok command) }
     ensures fault { IfErr result (IsFaultOf (command_named None (kind_of word.now) (option_copied rest.entry))) }
@@ -99,7 +99,7 @@ fn fault_of(fault: LineFault) -> CommandFault
 
 ghost use Rattle.gate_status.specs.Commands.{plain_of};
 
-// A command of one word.
+// The command that consists of this one word.
 fn plain_of(word: &[u8]) -> Option<Command>
     ensures { result ≡ plain_of word.now }
 {

@@ -1,7 +1,7 @@
-//! Readers and writers whose errors are counted.
+//! Readers and writers whose errors are counted, so that contracts can say that a fault comes only after an error.
 //!
-//! A call of `read`, `read_exact`, `write`, `flush` or `write_all` that answers an error counts once, whatever it tried again within.
-//! The calls that read to the end can't have a body of their own: of them each `read` that they make counts.
+//! A call of `read`, `read_exact`, `write`, `flush` or `write_all` that answers an error counts once, however often it tried again within.
+//! The calls that read to the end have no body here: each `read` that they make counts by itself.
 ghost use Rattle.std.specs.Prelude.{◌≡◌, ℕ, List, Option, OnOk, length};
 ghost use Rattle.std.specs.Io.{ReadsAtMost, WritesAtMost};
 ghost use Rattle.std.specs.Io.KnownBytes.{Appends, Consumes, Keeps, ReadConsumes, WriteAppends};
@@ -11,7 +11,7 @@ use std::io;
 use std::io::{Read, Write};
 use std::marker::Model;
 
-/// A reader or a writer, and how many of its calls have answered an error.
+/// A reader or a writer, with the number of its calls that have answered an error.
 #[derive(Drop)]
 pub struct Counted<D> {
     device: D,
@@ -27,7 +27,7 @@ impl<D> Model for Counted<D> {
 }
 
 impl<D> Counted<D> {
-    /// Takes over a reader or a writer. It takes no memory.
+    /// Wraps a reader or a writer whose errors are to be counted. The call takes no memory.
     pub fn new(device: D) -> Counted<D>
         ensures device { result.device ≡ device }
         ensures faults { result.faults ≡ 0 }
@@ -35,21 +35,21 @@ impl<D> Counted<D> {
         Counted { device, faults: 0 }
     }
 
-    /// How many calls have answered an error, up to the last u64.
+    /// How many calls have answered an error. The count stays at 2^64 - 1 once it is there.
     pub fn faults(&self) -> u64
         ensures { result ≡ self.now.faults }
     {
         self.faults
     }
 
-    /// Gives the reader or the writer back.
+    /// Gives back the reader or the writer.
     pub fn into_inner(self) -> D
         ensures { result ≡ self.device }
     {
         self.device
     }
 
-    // Counts an error.
+    // Counts the answer if it is an error.
     fn count<T, E>(&mut self, answer: Result<T, E>) -> Result<T, E>
         ensures answer { result ≡ answer }
         ensures device { self.new.device ≡ self.old.device }

@@ -1,19 +1,21 @@
+//! How a session of the status port ends, and what may cut it short.
+
 use gate_record::Memory;
 
 /// How a session ended.
 #[derive(Clone, Copy, Debug, PartialEq, Eq)]
 pub enum SessionEnd {
-    /// The reader has ended.
+    /// The reader gave all of its bytes.
     End,
     /// `quit` was answered.
     Quit,
     /// `stop` was answered `ok`.
     Stop,
-    /// As many bytes were read as a session may have.
+    /// The session has read as many bytes as it may, 1,048,576.
     Limit,
 }
 
-/// Why a session is over before its end. Nothing is said of what it had posted or written.
+/// Why a session was cut short. Nothing is promised of what the session had posted or written.
 #[derive(Debug, Drop)]
 pub enum SessionFault {
     /// The reader answered an error.

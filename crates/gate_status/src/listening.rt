@@ -1,4 +1,4 @@
-//! What a session reads: bytes in pieces, up to its limit, and the records of the lines that end in them.
+//! The input of a session: bytes in pieces, up to the session's limit, cut into lines.
 ghost use Rattle.std.specs.Prelude.{◌≡◌, ◌+◌, ◌<◌, ◌≤◌, ◌-◌, ◌^◌, [], IfErr, IfOk, OnOk, nat_lt, take, vec_len};
 ghost use Rattle.gate_source.specs.Splitting.{Feeds, Finishes, IsFed};
 ghost use Rattle.gate_status.specs.Inner.Listened.{Hears, ReadRises};
@@ -11,13 +11,13 @@ use gate_source::LineSplit;
 use std::alloc::Global;
 use std::io::Read;
 
-/// How many bytes a session reads at the most.
+/// How many bytes a session reads at most.
 pub const MAX_SESSION: usize = 1_048_576;
 
-// For how many bytes one read asks at the most.
+// How many bytes one read asks for at most.
 const READ_SIZE: usize = 4_096;
 
-/// What a session has read, as far as it matters for what follows.
+/// The input of a session: the unfinished line, and how many bytes may still be read.
 #[derive(Drop)]
 pub(crate) struct Listening {
     alloc: Global,
@@ -28,7 +28,7 @@ pub(crate) struct Listening {
 }
 
 impl Listening {
-    /// Nothing was read yet.
+    /// The input of a session that has read nothing yet.
     pub(crate) fn new(alloc: Global) -> Result<Listening, Memory>
         ensures fed { IfOk result (λ listening. IsFed [] listening.split) }
         ensures room { IfOk result (λ listening. listening.room ≡ longest_session) }
@@ -41,7 +41,7 @@ impl Listening {
         })
     }
 
-    /// Reads once, and gives the records of the lines that this completes; none at the reader's end.
+    /// Reads once, and gives the records of the lines that these bytes complete. `None` says that the reader has ended.
     pub(crate) fn read<R: Read>(
         &mut self,
         input: &mut Counted<R>,
@@ -63,7 +63,7 @@ impl Listening {
         }
     }
 
-    // Cuts what was read.
+    // Cuts the bytes that were read.
     fn feed(&mut self, count: usize) -> Result<Sequence<Record>, Memory>
         requires some { 0 < count }
         requires count { count ≤ vec_len self.old.buffer }
@@ -76,14 +76,14 @@ impl Listening {
         Ok(lines)
     }
 
-    /// Whether more may be read.
+    /// Whether the session may read more bytes.
     pub(crate) fn has_room(&self) -> bool
         ensures { result ≡ nat_lt 0 self.now.room }
     {
         self.room > 0
     }
 
-    /// The record of what follows the last LF, now that nothing more comes.
+    /// The record of the bytes after the last LF, after the reader has ended.
     pub(crate) fn finish(self) -> Option<Record>
         ensures { Finishes self.split result }
     {
@@ -91,7 +91,7 @@ impl Listening {
     }
 }
 
-// Room for a read.
+// Makes the buffer for a read.
 fn buffer(alloc: Global) -> Result<Vec<u8>, Memory>
     ensures { IfOk result (λ room. vec_len room ≡ READ_SIZE) }
 {

@@ -1,4 +1,4 @@
-//! A whole session.
+//! One session of the status port, from its first byte to its end.
 ghost use Rattle.std.specs.Prelude.{◌<◌, ◌-◌, ◌^◌, IfErr, IfOk};
 ghost use Rattle.gate_status.specs.Listened.{Rises};
 ghost use Rattle.gate_status.specs.Replies.{ArePostsFor};
@@ -16,12 +16,13 @@ use std::io::{Read, Write};
 use std::sync::{Mutex, Wait};
 
 /// Reads lines and answers each, in order, until the reader ends, `quit` is answered, `stop` is answered `ok`, or 1,048,576 bytes were
-/// read; then the lines that have ended among these have their answers. An empty line has none.
+/// read. At that limit all lines that have ended have their answers. An empty line has no answer.
 ///
-/// `posts` were opened on this configuration, and each device has answered fewer than 2^64 - 1 errors.
+/// The posts must be those of this configuration, and each device must have answered fewer than 2^64 - 1 errors before.
 ///
-/// `Read` and `Write` where that device answered an error, and `Memory` where it was refused for what is read; the session is over
-/// then, and nothing is said of what it posted or wrote. Memory that is refused for what a line asks for is that line's answer.
+/// `Read` and `Write` say that the device answered an error, and `Memory` that memory was refused for what is read. The session is over
+/// then, and nothing is promised of what it posted or wrote. Where memory is refused for a line's command, the session goes on, and the
+/// line's answer says so.
 pub fn session<X: AllocGlobal + Wait, R: Read, W: Write>(
     rt: &X,
     input: &mut Counted<R>,

@@ -1,3 +1,4 @@
+//! How far one pipeline is, in the numbers that `status` prints.
 ghost use Rattle.std.specs.Prelude.{◌≡◌, length};
 ghost use Rattle.gate_status.specs.Boards.{no_progress, progress_of};
 
@@ -13,12 +14,12 @@ pub struct Progress {
     pub items: usize,
     /// How many items it has reported.
     pub reports: usize,
-    /// Whether it met its end mark: nothing more is processed then.
+    /// Whether the pipeline met its end mark. It processes nothing more then.
     pub finished: bool,
 }
 
 impl Progress {
-    /// That of a pipeline before anything was taken: no number is above 0, and it isn't finished.
+    /// The progress of a pipeline that has taken nothing yet: all numbers are 0, and it isn't finished.
     pub fn none() -> Progress
         ensures { result ≡ no_progress }
     {
@@ -30,7 +31,7 @@ impl Progress {
         }
     }
 
-    /// That of a pipeline as it is now. It takes no memory.
+    /// The progress of a pipeline as it is now. The call takes no memory.
     pub fn of(pipeline: &Pipeline) -> Progress
         ensures { result ≡ progress_of pipeline.now }
     {
@@ -43,7 +44,7 @@ impl Progress {
     }
 }
 
-// How many queue items there are.
+// Counts the queue items.
 fn count_items(items: &Items) -> usize
     ensures { result ≡ length items.now.items }
 {

@@ -1,4 +1,4 @@
-//! What a session answers to a line.
+//! The replies of a status session, and their texts.
 ghost use Rattle.std.specs.Prelude.{◌≡◌};
 ghost use Rattle.gate_status.specs.Replies.{end_of, fault_line, reply_text};
 
@@ -8,7 +8,7 @@ use crate::fault::SessionEnd;
 /// What a session answers to a line.
 #[derive(Debug, Drop)]
 pub enum Reply {
-    /// How far the pipelines are: the text, its last line `ok`.
+    /// How far the pipelines are: a text of lines, of which the last is `ok`.
     Shown(String),
     /// A management event or a result was posted: `ok`.
     Posted,
@@ -24,12 +24,12 @@ pub enum Reply {
     Last,
     /// The session ends: `bye`.
     Bye,
-    /// The line asks for nothing, or memory was refused for what it asks: `empty`, `unknown`, `arguments`, `number` or `memory`.
+    /// The line is no command, or memory was refused for its command: `empty`, `unknown`, `arguments`, `number` or `memory`.
     Refused(CommandFault),
 }
 
 impl Reply {
-    /// The text: lines, the last of which says how it went.
+    /// The lines to write. The last one says how the command went.
     pub fn text(&self) -> &str
         ensures { result.now ≡ reply_text self.now }
     {
@@ -46,7 +46,7 @@ impl Reply {
         }
     }
 
-    /// How the session ends with this, if it does.
+    /// How the session ends with this reply, if it does.
     pub fn end(&self) -> Option<SessionEnd>
         ensures { result ≡ end_of self.now }
     {

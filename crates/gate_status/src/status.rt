@@ -1,3 +1,4 @@
+//! The text that the command `status` prints of a board.
 ghost use Rattle.std.specs.Prelude.{◌≡◌, ◌++◌, string_bytes, IfOk, OnOk};
 ghost use Rattle.gate_status.specs.Status.{counts_text, pipeline_lines, pipeline_start, status_line, status_text, tenant_lines};
 
@@ -8,8 +9,8 @@ use gate_line::state_word;
 use gate_record::{Memory, name_text};
 use std::alloc::Global;
 
-/// How far the pipelines of a configuration are, as text: a line for each, by tenant and pipeline number. One that the board has no
-/// entry of hasn't begun. `Memory` where the text finds no room.
+/// How far the pipelines of a configuration are, as text: a line for each, by tenant and pipeline number. A pipeline without an entry on
+/// the board counts as one that hasn't begun.
 pub fn status_text(alloc: Global, config: &Config, board: &Board) -> Result<String, Memory>
     ensures { IfOk result (λ text. string_bytes text ≡ status_text config.now board.now) }
 {
@@ -98,7 +99,7 @@ fn push_line(
     push_counts(out, progress)
 }
 
-// What stands in a line before the counts.
+// Adds the part of a line before the counts: the names of tenant and pipeline.
 fn push_start(out: &mut String, tenant: &str, pipeline: &str) -> Result<(), Memory>
     ensures { OnOk result (string_bytes out.new ≡ string_bytes out.old ++ pipeline_start tenant.now pipeline.now) }
 {

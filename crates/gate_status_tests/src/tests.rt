@@ -1,3 +1,5 @@
+//! The tests of gate_status, a module for each subject.
+
 mod base;
 mod board_runs;
 mod boards;

@@ -1,6 +1,6 @@
--- The number that the standard gives: how large a batch is.
+-- The largest batch that a tenant gathers.
 use Rattle.std.specs.Prelude.{ℕ}
 
--- the items that are gathered before they are matched
+-- how many items are gathered at most before they are matched
 abbrev pub most_gathered : ℕ
 most_gathered = 256

@@ -1,10 +1,11 @@
+//! `Batch`, the events of gathered items in the three lists that matching takes.
 ghost use Rattle.std.specs.Prelude.{◌≡◌, ◌++◌, IfOk, OnOk, flat_map};
 ghost use Rattle.gate_tenant.specs.Inner.Batches.{conns_in, events_in, gens_in};
 
 use gate_record::{Event, Memory, Shared, TenantItem};
 use std::alloc::Global;
 
-// The events of gathered items, and the generation and the connection of each.
+// The events of gathered items, with the generation and the connection of each at the same place.
 #[derive(Drop)]
 pub(crate) struct Batch {
     pub(crate) events: Vec<Shared<Event>>,
@@ -29,7 +30,7 @@ impl Batch {
         Ok(batch)
     }
 
-    // Adds an item's event, if it is one.
+    // Adds the event of an item. An end mark adds nothing.
     fn add(&mut self, item: &TenantItem) -> Result<(), Memory>
         ensures events { OnOk result (self.new.events.items ≡ self.old.events.items ++ events_in item.now) }
         ensures gens { OnOk result (self.new.gens.items ≡ self.old.gens.items ++ gens_in item.now) }

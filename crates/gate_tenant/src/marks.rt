@@ -1,3 +1,4 @@
+//! `Marks`, which connections have had their end mark matched.
 ghost use Rattle.std.specs.Prelude.{◌≡◌};
 ghost use Rattle.gate_tenant.specs.Dispatching.{marks_after, no_marks, with_mark};
 
@@ -11,7 +12,6 @@ pub(crate) struct Marks {
 }
 
 impl Marks {
-    // No end mark.
     pub(crate) fn none() -> Marks
         ensures { result.seen ≡ no_marks }
     {
@@ -20,7 +20,7 @@ impl Marks {
         }
     }
 
-    // These marks and those of a list of items.
+    // Returns these marks with those of a list of items added.
     pub(crate) fn after(&self, items: &[TenantItem]) -> Marks
         ensures { result.seen ≡ marks_after items.now self.now.seen }
     {
@@ -31,7 +31,7 @@ impl Marks {
         marks
     }
 
-    // Adds the mark of an item, if it is one.
+    // Sets the mark of the connection whose end mark the item is. An event sets none.
     fn add(&mut self, item: &TenantItem)
         ensures { self.new.seen ≡ with_mark self.old.seen item.now }
     {

@@ -1,3 +1,4 @@
+//! Matches gathered items with the rules of a tenant's pipelines, and collects what each pipeline gets.
 ghost use Rattle.std.specs.Prelude.{◌≡◌, ◌≤◌, ◌<◌, ◌==◌, ◌+◌, ◌^◌, ◌++◌, IfOk, OnErr, OnOk, flat_map, length, map, option_map, true};
 ghost use Rattle.std.specs.List.{filter_map, list_any, range_with_len, zip};
 ghost use Rattle.std.specs.Option.{option_to_list};
@@ -19,7 +20,8 @@ use gate_record::{ConnId, Memory, PipelineId, PipelineItem, Stamped, TenantId, T
 use std::alloc::Global;
 use std::collections::VecDeque;
 
-// What the pipelines get of gathered items: item by item, and pipeline by pipeline in rising number.
+// Returns what the pipelines get of gathered items: item by item, and for each item in rising number of the pipelines. This needs
+// memory only if there is an event among the items.
 #[tactic(auto, using(crate::proofs::Eventless::nothing))]
 pub(crate) fn match_items(
     alloc: Global,
@@ -41,7 +43,7 @@ pub(crate) fn match_items(
     push_all(alloc, gens, tenant, masks.as_slice(), gathered)
 }
 
-// A mask for each pipeline, over the gathered events.
+// Returns a mask for each pipeline, over the gathered events.
 fn masks(
     alloc: Global,
     program: &Program<'_>,
@@ -79,7 +81,7 @@ fn has_event(items: &[TenantItem]) -> bool
         .any(|item| matches!(item, TenantItem::Event(_)))
 }
 
-// The gathered events, each for the pipelines whose masks mark its row.
+// Collects the gathered events, each for the pipelines whose masks mark its row.
 fn push_all(
     alloc: Global,
     gens: &Generations,
@@ -99,7 +101,7 @@ fn push_all(
     Ok(items)
 }
 
-// Adds what the pipelines get of an item, and gives the row of the next event.
+// Adds what the pipelines get of an item, and returns the row of the next event.
 fn push_item(
     config: &Config,
     tenant: TenantId,
@@ -121,7 +123,7 @@ fn push_item(
     }
 }
 
-// Adds an event for each of so many pipelines whose mask marks its row.
+// Adds an event for each of the first `count` pipelines whose mask marks its row.
 fn push_event(
     count: u32,
     masks: &[Vec<u32>],
@@ -137,7 +139,7 @@ fn push_event(
     Ok(())
 }
 
-// Adds an event for a pipeline, if its mask marks the event's row.
+// Adds an event for a pipeline, if the pipeline's mask marks the event's row.
 fn push_marked(
     masks: &[Vec<u32>],
     row: usize,
@@ -182,7 +184,7 @@ pub(crate) fn push_end_marks(
     Ok(())
 }
 
-// Whether each connection that the tenant lists has its end mark among these.
+// Returns whether these marks have the end mark of each connection that the tenant lists.
 pub(crate) fn all_marked(config: &Config, tenant: TenantId, marks: &[bool]) -> bool
     requires { length marks.now ≡ most_connections }
     ensures { result ≡ all_marked config.now tenant.0 marks.now }
@@ -195,7 +197,6 @@ pub(crate) fn all_marked(config: &Config, tenant: TenantId, marks: &[bool]) -> b
     true
 }
 
-// How many pipelines the tenant has.
 fn pipelines(config: &Config, tenant: TenantId) -> u32
     ensures { result ≡ length (pipelines_of config.now tenant.0) }
 {

@@ -1,3 +1,5 @@
+//! A feed of records in memory, which tells contracts its records.
+
 use gate_record::{Memory, Queue, Record};
 use gate_run::{FeedStep, RecordFeed};
 use gate_test_lines::record_of;

@@ -1,3 +1,5 @@
+//! A gate for runs whose pipelines nobody follows.
+
 use gate_run::Gate;
 
 /// A gate that does nothing.

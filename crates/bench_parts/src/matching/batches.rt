@@ -1,3 +1,5 @@
+//! Matches a load in batches, as a tenant's worker does.
+
 use super::load::Load;
 use anyhow::{Result, bail};
 use gate_intern::{Columns, MAX_ROWS};

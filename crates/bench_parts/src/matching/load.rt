@@ -1,3 +1,5 @@
+//! The events that the benchmark of matching matches, read from lines.
+
 use anyhow::{Result, bail};
 use gate_config::Generations;
 use gate_record::{Event, Memory, Reading, Record, Sequence, Shared, read_record};

@@ -1,3 +1,5 @@
+//! Matches a load event by event and rule by rule, the plain way beside that in batches.
+
 use super::TENANT;
 use super::load::Load;
 use anyhow::Result;

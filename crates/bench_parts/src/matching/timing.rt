@@ -1,3 +1,5 @@
+//! Measures the processor time of matching a load, in batches or rule by rule.
+
 use super::load::Load;
 use super::{batches, plain};
 use crate::clock::micros;

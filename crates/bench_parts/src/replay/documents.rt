@@ -1,3 +1,5 @@
+//! A configuration with many equal tenants and pipelines, and a script that brings records to all of them.
+
 use std::alloc::{AllocError, Global};
 
 const RECORD: &str =

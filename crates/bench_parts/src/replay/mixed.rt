@@ -1,3 +1,5 @@
+//! A configuration of sixteen generations and connections, and a script with records and renewals for it.
+
 use std::alloc::{AllocError, Global};
 
 // How many connections there are, and how many records come before each mark.

@@ -1,3 +1,5 @@
+//! A configuration with one pipeline, and a script that fills the pipeline's queue with changes and then lets all of them leave.
+
 use std::alloc::{AllocError, Global};
 
 // The steps of a record behind its offer, by which it comes to the pipeline and is processed.

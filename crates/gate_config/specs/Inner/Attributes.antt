@@ -1,14 +1,14 @@
--- A rule after one more of its attributes was read.
+-- A rule while its attributes are read one by one.
 use Rattle.std.specs.Prelude.{ℕ, List, [], true, Option, codes, if◌then◌else◌}
 use Rattle.std.specs.Str.{bytes_eq}
 use Rattle.serde_json.specs.Data.{Data}
 use Rattle.gate_config.specs.Document.{RuleTexts, flag, pattern_texts, votes}
 
--- no attribute was read
+-- the rule before any attribute was read
 abbrev pub unlisted : RuleTexts
 unlisted = record { event = []; branch = []; refname = []; username = []; email = []; comment = []; approval = []; ignore_deletes = true }
 
--- what stands at a key was read
+-- the rule after the attribute at this key was read
 abbrev pub with_attribute : List ℕ → Option Data → RuleTexts → RuleTexts
 with_attribute key value texts = record {
   event = if bytes_eq key (codes "event") then pattern_texts value else texts.event;

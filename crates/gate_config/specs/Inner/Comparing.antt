@@ -1,4 +1,4 @@
--- Whether two configurations are alike, test by test.
+-- Whether two configurations have in common what generations must have, test by test.
 use Rattle.std.specs.Prelude.{Bool, true, false, ◌&&◌, Option, String, string_bytes, is_some}
 use Rattle.std.specs.BTreeMap.{keys}
 use Rattle.std.specs.Bool.{beq}
@@ -27,11 +27,11 @@ same_manager Dependent Dependent = true
 abbrev pub same_pipeline : PipelineSpec → PipelineSpec → Bool
 same_pipeline first other = bytes_eq first.name other.name && same_manager first.manager other.manager
 
--- both have the same jobs for the project of this name
+-- Both have the same jobs for the project of this name.
 abbrev pub agree_on : Jobs → Jobs → String Global → Bool
 agree_on first other project = pointwise bytes_eq (jobs_under first (string_bytes project)) (jobs_under other (string_bytes project))
 
--- for each project that a third has jobs for
+-- They agree on each project for which a third has jobs.
 abbrev pub agree_at : Jobs → Jobs → Jobs → Bool
 agree_at first other projects = list_all (agree_on first other) (keys projects.lists)
 

@@ -1,4 +1,4 @@
--- A value and the position of the item that it was found at; a key.
+-- Values that were picked out of a list, and keys, as contracts see them.
 use Rattle.std.specs.Prelude.{ℕ, List, String, string_bytes}
 use Rattle.std.specs.Borrow.{Bor}
 use Rattle.std.specs.declared.alloc.Global.{Global}

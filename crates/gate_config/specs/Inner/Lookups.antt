@@ -1,4 +1,4 @@
--- Beside `Lookups`: what private contracts and proofs cite.
+-- Definitions about look-ups that private contracts and proofs cite, beside `Lookups`.
 use Rattle.std.specs.Prelude.{ℕ, List, map}
 use Rattle.gate_config.specs.declared.config.PipelineSpec.{PipelineSpec}
 

@@ -1,10 +1,10 @@
--- A place as it is kept while a document is read.
+-- A place of a document, as it is kept while the document is read.
 use Rattle.std.specs.Prelude.{List}
 use Rattle.gate_config.specs.Places.{below, nth, whole}
 use Rattle.gate_config.specs.declared.path.Step.{Step}
 use Rattle.gate_config.specs.declared.places.Place.{Place, Document, Member', Item'}
 
--- the steps to it from the whole document on
+-- the steps to a place, from the whole document on
 abbrev pub steps_of : Place → List Step
 steps_of Document = whole
 steps_of (Member' p up key) = below (steps_of up) key.now

@@ -1,4 +1,4 @@
--- What a configuration has in common with other generations.
+-- What a configuration must have in common with other generations.
 use Rattle.std.specs.Prelude.{map}
 use Rattle.gate_config.specs.declared.config.Config.{Config}
 use Rattle.gate_config.specs.Lookups.{connections_of, tenants_of}

@@ -1,4 +1,4 @@
--- What each item of a list is to be.
+-- What each item of a list must be.
 use Rattle.std.specs.Prelude.{ℕ, List, [], ◌∷◌, Bool, is_some}
 use Rattle.serde_json.specs.Data.{Data}
 use Rattle.gate_config.specs.declared.path.Step.{Step}

@@ -1,4 +1,4 @@
--- Beside `Needs`: what private contracts and proofs cite.
+-- Further definitions about `Needs`, which only private contracts and proofs cite.
 use Rattle.std.specs.Prelude.{ℕ}
 use Rattle.gate_config.specs.declared.config.Config.{Config}
 use Rattle.gate_core.specs.declared.connection.ConnectionStep.{ConnectionStep}
@@ -11,8 +11,8 @@ use Rattle.gate_core.specs.declared.tenant.TenantStep.TheVariants as of_tenant
 use Rattle.gate_core.specs.States.{ConnectionState, TenantState}
 use Rattle.gate_core.specs.Needs.{MatchNeeds, TakeNeeds, TurnNeeds}
 
--- a taking needs memory for a record, a matching for what it matches, and a turn for what it processes; other steps wherever
--- they change something
+-- When a step may be refused memory: a taking, only where it takes a record; a matching, only for what it matches; a turn, only for what it
+-- processes; and any other step wherever it changes something
 abbrev pub ConnectionNeeds : ConnectionStep → ConnectionState → Type 0
 ConnectionNeeds of_connection.Take conn = TakeNeeds conn
 ConnectionNeeds other conn = Unit {0}

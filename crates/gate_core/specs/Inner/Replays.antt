@@ -1,4 +1,4 @@
--- Beside `Replays`: what private contracts and proofs cite.
+-- Further definitions about `Replays`, which only private contracts and proofs cite.
 use Rattle.std.specs.Prelude.{◌≡◌, ℕ, List, ◌++◌, Option, Some, None, Result, Ok, Err}
 use Rattle.gate_config.specs.declared.generation_fault.GenerationFault.{GenerationFault}
 use Rattle.gate_config.specs.declared.generation_fault.GenerationFault.TheVariants as generations
@@ -22,12 +22,12 @@ abbrev pub of_script_fault : ScriptFault → ReplayFault
 of_script_fault script.Memory = replay.Memory
 of_script_fault (script.Script line) = replay.Script line
 
--- what a text becomes, and which state is left, where these lines are played
+-- the text and the state after these lines are played, or the line that is the fault
 abbrev pub played : Generations → State → List ℕ → Result (List Scripted) ℕ → Result (List ℕ × State) ℕ
 played gens state text (Ok lines) = Ok (text ++ script_lines gens state lines, left_by gens state (steps_in lines))
 played gens state text (Err line) = Err line
 
--- what line n stands for was played; or memory was refused; or the line is the fault
+-- what line n stands for was played; or memory was refused; or line n is the fault
 abbrev pub PlaysLine : Generations → State → List ℕ → Option (List Scripted) → State → List ℕ → ℕ → Result (Unit {0}) ScriptFault → Type 0
 PlaysLine gens state text None next longer n (Ok done) = ⊥
 PlaysLine gens state text (Some lines) next longer n (Ok done) = (next ≡ left_by gens state (steps_in lines)) × (longer ≡ text ++ script_lines gens state lines)

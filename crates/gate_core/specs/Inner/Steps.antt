@@ -1,4 +1,4 @@
--- Beside `Steps`: what private contracts and proofs cite.
+-- Further definitions about `Steps`, which only private contracts and proofs cite.
 use Rattle.std.specs.Prelude.{ℕ, Option, slice_get, slice_set}
 use Rattle.gate_config.specs.declared.generations.Generations.{Generations}
 use Rattle.gate_core.specs.declared.answer.Answer.{Answer}
@@ -27,7 +27,7 @@ abbrev pub refused_at : PipelineStep → ℕ → ℕ → State → State
 refused_at Turn t p state = refused_in t p (slice_get state.tenants t) state
 refused_at other t p state = state
 
--- a move of one part of a world, by what was found of it
+-- a move of one part of a world, where the part with that number was found or not
 abbrev pub with_connection : (ConnectionState → ConnectionState × Answer) → ℕ → Option ConnectionState → State → State × Answer
 with_connection move c found state = move_at (λ conn. record state { connections = slice_set state.connections c conn }) move found state
 

@@ -1,4 +1,4 @@
-//! The texts of a graph: in lines, and escaped as they stand within a quoted string of DOT.
+//! The labels of a graph: texts broken into lines, and escaped for a quoted string of DOT.
 use crate::names::{Added, front};
 use gate_record::Memory;
 use std::fmt;
@@ -9,7 +9,7 @@ const WIDTH: usize = 40;
 // How many lines of a text are drawn.
 const LINES: usize = 12;
 
-/// A line of a label: all of it, or its first 40 letters and `..`.
+/// A line of a label: the whole text, or its first 40 letters and `..`.
 #[derive(Clone, Copy)]
 pub struct Line<'t>(pub &'t str);
 
@@ -26,8 +26,9 @@ impl fmt::Display for Line<'_> {
     }
 }
 
-// A letter so that Graphviz shows it: a quote would end the string, a backslash begins an escape, and `&` the name of a letter. Of
-// those that can't be seen the number: control characters, line ends, what turns the direction of letters, and what no SVG may have.
+// Writes a letter so that Graphviz shows it. A quote would end the string, a backslash begins an escape, and `&` begins the name of a
+// letter. Letters that can't be seen are written as numbers: control characters, line ends, marks that turn the direction of letters, and
+// those that no SVG may have.
 fn write_letter<W: fmt::Write>(f: &mut fmt::Formatter<W>, letter: char) -> fmt::Result {
     match letter {
         '"' => f.write_str("\\\""),
@@ -42,13 +43,13 @@ fn write_letter<W: fmt::Write>(f: &mut fmt::Formatter<W>, letter: char) -> fmt::
     }
 }
 
-/// Adds a line of a label, and the escape that ends it and sets it to the left.
+/// Adds a line of a label, with the escape that ends the line and aligns it to the left.
 pub fn push_line(out: &mut String, text: &str) -> Added {
     Ok(write!(out, "{}\\l", Line(text))?)
 }
 
-/// Adds a text without line feeds as lines of a label. Each has at most 40 letters and ends between two words, behind a `;`, or
-/// within a word that is longer. In place of what is beyond the twelfth stands `..`.
+/// Adds a text without line feeds as lines of a label. Each line has at most 40 letters and ends between two words, after a `;`, or within
+/// a word that is longer. After the twelfth line `..` stands for the rest.
 pub fn push_lines(out: &mut String, text: &str) -> Added {
     let mut broken = String::new(*out.allocator());
     let mut letters: usize = 0;
@@ -64,7 +65,7 @@ pub fn push_lines(out: &mut String, text: &str) -> Added {
     Ok(())
 }
 
-// Adds a word behind a line of so many letters: at the end of the line, or as a new one. Gives how many letters the last line has then.
+// Adds a word to a line of `letters` letters, or as a new line if there is no room. The answer is how many letters the last line has then.
 fn push_word(out: &mut String, letters: usize, word: &str) -> Result<usize, Memory> {
     let mut letters = letters;
     if letters > 0 {

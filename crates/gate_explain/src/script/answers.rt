@@ -1,4 +1,4 @@
-//! What the lines of a script answer, in words.
+//! Says in words what the steps of a script answered.
 use crate::document::number_of;
 use crate::names::{Added, Named};
 use crate::script::part::Part;
@@ -9,7 +9,7 @@ use gate_record::{ConnId, Reading, Record, TenantId, Text, read_record};
 
 const NOT_THERE: &str = "there is none of this number";
 
-/// Adds what a step answered, and the end of the line.
+/// Adds what a step answered, and ends the line.
 pub fn push_answer(out: &mut String, config: &Config, step: &Step, answer: &Answer) -> Added {
     let said = match answer {
         Answer::Turned(Some(stamp), _, outcome) => {
@@ -71,7 +71,7 @@ fn said_of_idle(step: &Step) -> &'static str {
     }
 }
 
-/// Adds which tenants get a record of a connection, and the end of the line.
+/// Adds which tenants get this record of a connection, and ends the line.
 pub fn push_receivers(out: &mut String, config: &Config, conn: ConnId, record: &Record) -> Added {
     match read_record(*out.allocator(), record)? {
         Reading::Event(event) => push_tenants(out, config, conn, event.project.as_ref()),
@@ -120,7 +120,7 @@ fn reason(why: Discard) -> &'static str {
     }
 }
 
-/// Adds what a pipeline keeps, a line for each item and report of a text that shows it.
+/// Adds what a pipeline keeps: a line for each item and each report of a text that `show` prints.
 pub fn push_shown(out: &mut String, config: &Config, pipeline: Part, text: &str) -> Added {
     pipeline.push(out, config)?;
     if pipeline.name(config).is_none() {
@@ -134,7 +134,7 @@ pub fn push_shown(out: &mut String, config: &Config, pipeline: Part, text: &str)
     Ok(())
 }
 
-// A line `item KEY C ..` or `report KEY C ..`, with the name of the connection in place of its number; any other as it is.
+// Adds a line `item KEY C ..` or `report KEY C ..` with the connection's name in place of its number. Any other line is added as it is.
 fn push_kept(out: &mut String, config: &Config, line: &str) -> Added {
     let mut words = line.splitn(4, ' ');
     let (what, key) = (words.next().unwrap_or(""), words.next().unwrap_or(""));

@@ -1,9 +1,11 @@
+//! The connection, tenant or pipeline for which a step is, and its name.
+
 use crate::names::{Added, Named};
 use gate_config::Config;
 use gate_core::Step;
 use gate_record::{ConnId, PipelineId, TenantId};
 
-/// Who takes a step.
+/// Who takes a step: a connection, a tenant or a pipeline.
 #[derive(Clone, Copy)]
 pub enum Part {
     Connection(ConnId),
@@ -26,7 +28,7 @@ impl Part {
         }
     }
 
-    /// Its name, if it is there.
+    /// The name, if the configuration has such a part.
     pub fn name(self, config: &Config) -> Option<&str> {
         let name = match self {
             Part::Connection(id) => config.connections().get(id.0 as usize)?,
@@ -36,7 +38,7 @@ impl Part {
         Some(name.as_str())
     }
 
-    /// Adds its name, behind that of the tenant where it is a pipeline, or its number where it isn't there.
+    /// Adds the name, after that of the tenant where the part is a pipeline. Where there is no such part, its number is added instead.
     pub fn push(self, out: &mut String, config: &Config) -> Added {
         match self {
             Part::Connection(id) => push_name(out, self.name(config), "connection", id.0),

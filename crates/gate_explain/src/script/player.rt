@@ -1,3 +1,4 @@
+//! Plays the lines of a script on a world of the core, and tells what each answered.
 ghost use Rattle.gate_core.specs.Worlds.{AcceptedAtMost, state_of};
 
 use crate::names::Added;
@@ -8,21 +9,21 @@ use gate_core::{Answer, Scripted, Step, World, show_text};
 use gate_record::{Memory, PipelineId, TenantId};
 use std::alloc::Global;
 
-/// A script that is played: the world that its steps so far have left.
+/// A script in play: the world that its lines so far have left.
 #[derive(Drop)]
 pub struct Player<'c> {
     gens: &'c Generations,
     world: World<'c>,
-    /// The generation in force for what is offered next, by connection number.
+    /// The generation in force for the records that are offered next, by connection number.
     current: Vec<u32>,
     /// How many steps were taken.
     steps: u64,
-    /// A step accepts one record at most.
+    /// Each step accepts at most one record, so record numbers can't overflow before steps do.
     ghost counts: { AcceptedAtMost steps (state_of world) },
 }
 
 impl<'c> Player<'c> {
-    /// Nothing was played yet.
+    /// A player that has played nothing yet.
     pub fn new(alloc: Global, gens: &'c Generations) -> Result<Player<'c>, Memory> {
         let current = vec![in alloc; 0; gens.first().connections().len()]?;
         let world = World::new(alloc, gens)?;
@@ -34,7 +35,7 @@ impl<'c> Player<'c> {
         })
     }
 
-    /// Plays a line, and adds who answered what. Names are those of the first generation, which all have.
+    /// Plays a line, and adds who answered what. The names are those of the first generation, because all generations share them.
     pub fn push(&mut self, out: &mut String, scripted: Scripted) -> Added {
         match scripted {
             Scripted::Step(step) => self.push_step(out, step),
@@ -70,7 +71,7 @@ impl<'c> Player<'c> {
         }
     }
 
-    // The generation in force for what is offered next to the connection that a step is for.
+    // The generation in force for the next record of the connection that takes a step.
     fn generation(&mut self, step: &Step) -> Option<&mut u32> {
         match Part::of(step) {
             Part::Connection(connection) => self.current.get_mut(connection.0 as usize),
@@ -78,7 +79,7 @@ impl<'c> Player<'c> {
         }
     }
 
-    // Takes a step. No script has as many lines as there are numbers.
+    // Takes a step. The limit on steps is never reached, because no script has as many lines.
     #[tactic(auto, using(crate::proofs::Numbers::has_number))]
     fn step(&mut self, step: Step) -> Result<Answer, Memory> {
         if self.steps >= u64::MAX - 1 {

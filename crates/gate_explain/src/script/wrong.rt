@@ -1,18 +1,18 @@
-//! A line that stands for nothing: which word of it is wrong, and what is expected in its place.
+//! Says of a script's line that stands for nothing which word is wrong, and what was expected in its place.
 use crate::names::{Added, Meant, Quoted, front, nearest};
 use gate_line::{Field, LineFault, split_word};
 use gate_record::Memory;
 use std::alloc::Global;
 use std::str;
 
-// The first words of a script's lines.
+// The words with which the lines of a script may begin.
 const FIRST_WORDS: &str =
     "offer oversize close renew take send fetch match give dequeue reset result turn show";
 
-// How many letters of a line, or of what stands in it, are written.
+// How many letters of a line, or of a word in it, are printed.
 const LETTERS: usize = 100;
 
-/// The fault of a script at the line of this number, and what is wrong with it.
+/// The fault of a script at the line of this number, as text, with what is wrong there.
 pub fn wrong_line(
     alloc: Global,
     number: u64,
@@ -40,7 +40,7 @@ fn push_expected(out: &mut String, line: &[u8], fault: LineFault) -> Added {
     }
 }
 
-// Adds the front of a line, or of what stands in it.
+// Adds the first letters of a line, or of a word in it, in quotes.
 fn push_quoted(out: &mut String, bytes: &[u8]) -> Added {
     let text = String::from_utf8_lossy(*out.allocator(), bytes)?;
     match front(text.as_str(), LETTERS) {
@@ -62,7 +62,7 @@ fn push_found(out: &mut String, field: Field, found: &[u8]) -> Added {
     push_quoted(out, found)
 }
 
-// What stands in the place of a field that begins so many bytes before the end of the line.
+// The bytes at the place of a field that begins `left` bytes before the end of the line.
 fn found(line: &[u8], field: Field, left: usize) -> &[u8] {
     let rest = line.get(line.len().saturating_sub(left)..).unwrap_or(line);
     match field {
@@ -71,7 +71,7 @@ fn found(line: &[u8], field: Field, left: usize) -> &[u8] {
     }
 }
 
-// What is to stand there.
+// What a field should be, in words.
 fn expected(field: Field) -> &'static str {
     match field {
         Field::Connection => "the number of a connection (digits, below 2^32)",

@@ -1,8 +1,8 @@
--- Beside `History`: what private contracts and proofs cite.
+-- Definitions about actions that private contracts and proofs cite, beside `History`.
 use Rattle.gate_items.specs.declared.action.Action.{Action}
 use Rattle.gate_items.specs.declared.action.Action.TheVariants as action
 
--- the action asks for an item
+-- The action is a trigger.
 abbrev pub IsTrigger : Action → Type 0
 IsTrigger (action.Trigger key patchset jobs) = Unit {0}
 IsTrigger (action.Result result) = ⊥

@@ -1,4 +1,4 @@
--- Beside `KeyOrder`: what private contracts and proofs cite.
+-- Lemmas about the order of keys that private contracts and proofs cite, beside `KeyOrder`.
 use Rattle.std.specs.Prelude.{◌≡◌, ◌&&◌, ℕ, List, Bool, true, false, nat_eq, refl}
 use Rattle.std.specs.Cmp.{signed_po, ties, unsigned_ties}
 use Rattle.std.specs.Cmp.Lexicographic.{slice_cmp}
@@ -33,7 +33,7 @@ pub and_assoc : (a b c : Bool) → ((a && b) && c) ≡ (a && (b && c))
 and_assoc true b c = refl
 and_assoc false b c = refl
 
--- the order ties the keys that are the same, and no others
+-- Two keys are the same exactly if the order says that they are equal.
 pub same_by_cmp : (x y : Key) → is_same x y ≡ is_eq (key_cmp x y)
 same_by_cmp (key.Change conn number) (key.Change conn' number') =
     both (nat_cmp conn.0 conn'.0) (int_cmp number number') (nat_eq conn.0 conn'.0) (int_eq number number') (unsigned_ties conn.0 conn'.0) (ties signed_po (λ x y. refl) number number')

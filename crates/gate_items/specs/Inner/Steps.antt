@@ -1,4 +1,4 @@
--- Beside `Steps`: what private contracts and proofs cite.
+-- The steps of an action on ordered items, which private contracts and proofs cite, beside `Steps`.
 use Rattle.std.specs.Prelude.{◌≡◌, ◌<◌, length, ◌^◌, ◌+◌, int_lt, ◌++◌, ℕ, ℤ, Bool, true, false, List, [], ◌∷◌, drop, map, nat_lt, take, if◌then◌else◌, Option, Some, None, Result, Ok, Err}
 use Rattle.std.specs.List.{find}
 use Rattle.std.specs.Ordering.{int_eq}
@@ -11,11 +11,11 @@ use Rattle.gate_items.specs.declared.action.Outcome.TheVariants.{Applied, Discar
 use Rattle.gate_items.specs.declared.item.QueueItem.{QueueItem}
 use Rattle.gate_items.specs.Machine.{Makes, Plan, Refuses, State, behind_it, is_first_failure, is_of, leaving, new_item, placing, report_of, sets_behind, staying, with_outcome, with_set}
 
--- a number that is less than the last one, or nothing
+-- the number, if it is one that a `u64` holds
 abbrev pub fitting : ℕ → Option ℕ
 fitting n = if nat_lt n (2 ^ 64) then Some n else None
 
--- what a plan leaves before reports
+-- the state after a plan, before complete items are reported
 abbrev pub changed_to : State → List QueueItem → Option ℕ → State × Outcome
 changed_to s items None = (s, Discarded Numbers)
 changed_to s items (Some next) = (record { manager = s.manager; next = next; items = items; reported = s.reported }, Applied)
@@ -24,7 +24,7 @@ abbrev pub changed : State → Plan → State × Outcome
 changed s (Refuses why) = (s, Discarded why)
 changed s (Makes items sets) = changed_to s items (fitting (s.next + sets))
 
--- complete items are reported and leave
+-- the state after complete items are reported and leave
 abbrev pub settled : State → State
 settled s = record {
   manager = s.manager;
@@ -33,7 +33,7 @@ settled s = record {
   reported = s.reported ++ map report_of (leaving s.manager s.items);
 }
 
--- the items without the one at a place, and how many build sets those behind it get
+-- the items without the one at a place; `sets_past` is how many new build sets the items behind it get
 abbrev pub without : State → ℕ → List QueueItem
 without s place = take place s.items ++ behind_it s.manager s.next (drop (place + 1) s.items)
 
@@ -69,13 +69,13 @@ replaced_at s place key patchset jobs = Makes
     (without s place ++ new_item key patchset (s.next + sets_past s place) jobs ∷ [])
     (sets_past s place + 1)
 
--- why a trigger is discarded where an item of its key has this patch set
+-- why a trigger of patch set `patchset` is discarded beside an item of patch set `standing`, if it is
 abbrev pub why_not : ℤ → ℤ → Option Discard
 why_not patchset standing =
     if int_eq patchset standing then Some Known
     else (if int_lt patchset standing then Some Older else None)
 
--- where a trigger's item goes: a cause why it doesn't, or the place of the older item, if there is one
+-- Where a trigger's item goes: it is discarded for this reason, it is put last, or it replaces the older item at this place.
 abbrev pub Judges : State → Key → ℤ → List (List ℕ) → Result (Option ℕ) Discard → Type 0
 Judges s key patchset jobs (Err why) = placing s key patchset jobs (find (is_of key) s.items) ≡ Refuses why
 Judges s key patchset jobs (Ok None) = placing s key patchset jobs (find (is_of key) s.items) ≡ placed_last s key patchset jobs

@@ -1,6 +1,6 @@
--- What a name has that is printed as it stands.
+-- Names that are printed as they are, since nothing in them is escaped.
 use Rattle.std.specs.Prelude.{ℕ, Bool, ◌==◌, ◌&&◌, not, nat_le}
 
--- a byte that is no control character, no quote and no backslash
+-- The byte is no control character, no quote and no backslash.
 abbrev pub is_plain : ℕ → Bool
 is_plain byte = nat_le 32 byte && (not (byte == 34) && not (byte == 92))

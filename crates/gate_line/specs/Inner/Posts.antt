@@ -1,4 +1,4 @@
--- Beside `Posts`: what private contracts and proofs cite.
+-- Definitions about lines that post, which private contracts and proofs cite, beside `Posts`.
 use Rattle.std.specs.Prelude.{ℕ, List, Bool, true, Result, Ok, Err}
 use Rattle.std.specs.Borrow.{Bor}
 use Rattle.gate_items.specs.declared.action.JobResult.{JobResult}

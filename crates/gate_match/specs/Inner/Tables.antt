@@ -1,4 +1,4 @@
--- The rules of a tenant, by generation, pipeline and connection.
+-- The table of a tenant's rules, by generation, pipeline and connection.
 use Rattle.std.specs.Prelude.{◌≡◌, ℕ, List, Bool}
 use Rattle.std.specs.List.{All, list_any}
 use Rattle.gate_record.specs.declared.event.Event.{Event}
@@ -10,15 +10,15 @@ use Rattle.gate_config.specs.Lookups.{rules_of}
 use Rattle.gate_match.specs.declared.rules_of_conn.RulesOfConn.{RulesOfConn}
 use Rattle.gate_match_rules.specs.Compiling.{rules_in}
 
--- the event meets one of the rules
+-- The event meets one of the rules.
 abbrev pub meets_any : List Rule → Event → Bool
 meets_any rules event = list_any (λ rule. meets rule event) rules
 
--- the same events meet one of these rules as one of those
+-- An event meets one of these rules exactly if it meets one of the others.
 abbrev pub AskAlike : List Rule → List Rule → Type 0
 AskAlike rules others = (event : Event) → meets_any rules event ≡ meets_any others event
 
--- each has what the rules of its pipeline and connection ask in its generation
+-- The entry's rules ask the same as the configuration's rules for its pipeline and connection in its generation.
 abbrev pub IsOfGenerations : Generations → ℕ → RulesOfConn → Type 0
 IsOfGenerations gens t entry = AskAlike (rules_in entry.rules.items) (rules_of (config_at gens entry.generation) t entry.pipeline entry.conn)
 

@@ -1,4 +1,4 @@
--- What a mask is that took another one in.
+-- The mask to which two masks are joined.
 use Rattle.std.specs.Prelude.{List, Bool}
 use Rattle.gate_match_rules.specs.declared.mask.Joining.{Joining}
 use Rattle.gate_match_rules.specs.declared.mask.Joining.TheVariants.{Both, Either}

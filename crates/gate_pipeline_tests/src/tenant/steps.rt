@@ -4,7 +4,7 @@
 //!   several have commas between them
 //! - `end CONN` gathers an end mark, `end CONN TIMES` that many
 //! - `match` matches what is gathered
-//! - `give` gives all that is in the hand: `0:1/7@0` for record 7 of connection 1, forwarded by generation 0, to pipeline 0, and
+//! - `give` gives all that is in the outbox: `0:1/7@0` for record 7 of connection 1, forwarded by generation 0, to pipeline 0, and
 //!   `0:end` for its end mark
 //! - `back` takes the next item and puts it back
 //! - `room`, `ended` and `empty` come to what they ask

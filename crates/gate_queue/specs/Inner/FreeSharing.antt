@@ -1,4 +1,5 @@
--- The rule of every queue without a bound. Such a queue may get new passes at any time, which know nothing, so the first pass knows nothing either, and becomes the taker's by a step of its own.
+-- The rule of every queue without a bound. Such a queue may get new passes at any time, and these know nothing. So the first pass knows
+-- nothing either, and becomes the taker's by a step of its own.
 use Rattle.std.specs.Prelude.{◌≡◌, ℕ, ◌-◌, ◌⊎◌, List, [], ◌∷◌, length}
 use mathlib.Core.Option.{some}
 use lib.ListN.{get_elem?}
@@ -10,13 +11,13 @@ use Rattle.gate_queue.specs.Sharing.{Shares}
 use Rattle.gate_queue.specs.Inner.Sharing.{newcomer}
 
 module _ {T : Type 0} where
-  -- there is no taker yet: nothing waits, and no pass knows anything
+  -- There is no taker yet: no value waits, and no pass knows anything
   pub record IsFresh (items : List (Tagged T)) (views : List (Known T)) : Type 0 where
     pub none_waits : items ≡ []
     pub none_knows : (pass : ℕ) (v : Known T) → get_elem? views pass ≡ some v → v ≡ Nothing
     pub first : get_elem? views 0 ≡ some Nothing
 
-  -- the first pass is the taker's, and the rule of every queue holds
+  -- The first pass is the taker's, and the rule of every queue holds
   pub record HasBegun (items : List (Tagged T)) (views : List (Known T)) : Type 0 where
     pub shares : Shares items views
     pub taker : Got T
@@ -36,7 +37,7 @@ module _ {T : Type 0} where
   first_of [] = []
   first_of (l ∷ ls) = l
 
-  -- the taker, when the first seat that was joined is given back
+  -- what the taker knows after the first seat that was joined is given back
   abbrev pub parted : Known T → Known T
   parted (Taker v) = Taker (record v { joined = rest_of v.joined })
   parted (Sender v) = Sender v

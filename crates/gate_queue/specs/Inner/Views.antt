@@ -1,19 +1,19 @@
--- Beside `Views`: what private contracts and proofs cite.
+-- Further definitions about the seats of `Views`, which only private contracts and proofs cite.
 use Rattle.std.specs.Prelude.{◌≡◌, ℕ, suc, ◌<◌, List, [], ◌∷◌, ◌++◌, length, slice_index_or}
 use Rattle.gate_queue.specs.declared.tagged.Tagged.{Tagged}
 use Rattle.gate_queue.specs.declared.known.Got.{Got}
 use Rattle.gate_queue.specs.Seats.{QueueId, SenderSeat}
 
 module _ {T : Type 0} where
-  -- the taker, when seats that had put these lists are joined to it
+  -- what the taker knows, when seats that had put these lists are joined to its own
   abbrev pub with_joined : Got T → List (List T) → Got T
   with_joined v lists = record { senders = v.senders; made = v.made; taken = v.taken; joined = lists }
 
-  -- the taker, when it took these too
+  -- what the taker knows after it took these values too
   abbrev pub with_more : Got T → List (Tagged T) → Got T
   with_more v xs = record { senders = v.senders; made = v.made; taken = v.taken ++ xs; joined = v.joined }
 
-  -- seats of a queue, from sender 0 on
+  -- these are seats of the queue, from sender 0 on
   abbrev pub AreSeats : QueueId → ℕ → List (SenderSeat T) → Type 0
   AreSeats id senders tails = (k : ℕ) (d : SenderSeat T) → k < length tails → ((slice_index_or tails k d).queue ≡ record { id = id; senders = senders }) × ((slice_index_or tails k d).sender ≡ k)
 
@@ -21,7 +21,7 @@ module _ {T : Type 0} where
   abbrev pub new_seat : QueueId → (senders s : ℕ) → SenderSeat T
   new_seat id senders s = record { queue = record { id = id; senders = senders }; sender = s; put = [] }
 
-  -- new seats, from sender 0 on
+  -- these are new seats of the queue, from sender 0 on
   abbrev pub AreNew : QueueId → ℕ → List (SenderSeat T) → Type 0
   AreNew id senders tails = (k : ℕ) (d : SenderSeat T) → k < length tails → slice_index_or tails k d ≡ new_seat id senders k
 

@@ -1,4 +1,4 @@
-//! Values that are taken together.
+//! Takes several values of a queue without a bound in one step.
 ghost use Rattle.std.specs.Prelude.{◌≡◌, ◌<◌, ◌≤◌, List, []};
 ghost use Rattle.std.specs.VecDeque.{deque_capacity};
 ghost use Rattle.crossbeam_queue.specs.SegBatches.{Holds};
@@ -19,14 +19,14 @@ use std::collections::VecDeque;
 use std::sync::Wait;
 use std::thread;
 
-/// How many values a block has, and a batch at most.
+/// How many values one block of a queue holds, and so how many a batch has at most.
 pub(crate) const BLOCK: usize = 31;
 
-/// An iterator over values that were taken in one step, the oldest first, each with its sender.
+/// An iterator over values that were taken in one step. It gives them the oldest first, each with its sender's number.
 ///
-/// A value joins the list of the taker's seat as it is given. So a seat whose batch was read to its end has one value
-/// more for each that came, in their order (`BatchSteps`). Where a batch is dropped before, the values that it has not
-/// given stay with the seat, as values that wait: `take`, `take_some` and `settle` give them first, and none is lost.
+/// A value joins the list of the taker's seat when the batch gives it (`BatchSteps`). Where a batch is dropped before its end, the values
+/// that it has not given stay with the seat and count as waiting: the next `take`, `take_some` or `settle` gives them first, so none is
+/// lost.
 #[derive(Drop)]
 pub struct Batch<'h, T: Drop> {
     pub(crate) head: &'h mut FreeHead<T>,
@@ -52,7 +52,7 @@ impl<'h, T: Drop> Iterator for Batch<'h, T> {
     }
 }
 
-// Takes up to `limit` values in one step.
+// Takes up to `limit` values in one step. Where the step can't be made at once, the thread yields and tries again.
 pub(super) fn fill<T: Drop, R: Wait>(
     rt: &R,
     blocks: &Blocks<T>,
@@ -81,7 +81,7 @@ pub(super) fn fill<T: Drop, R: Wait>(
     unreachable!()
 }
 
-// Moves out what was taken.
+// Moves the values that were taken out of their block.
 fn read_out<T: Drop, R: Wait>(
     rt: &R,
     blocks: &Blocks<T>,

@@ -1,11 +1,11 @@
-//! What a queue without a bound refuses.
+//! What putting into a queue without a bound, and settling it, may fail with.
 
 use super::queue::FreeQueue;
 use super::seats::{FreeHead, FreeTail};
 use std::error::Error;
 use std::fmt;
 
-/// The value that was not put for want of memory.
+/// The value that was not put, because memory was refused.
 #[derive(Debug, PartialEq, Eq, Drop)]
 pub struct Memory<T>(pub T);
 
@@ -17,7 +17,7 @@ impl<T> fmt::Display for Memory<T> {
 
 impl<T: fmt::Debug + Drop> Error for Memory<T> {}
 
-/// A queue without a bound that was not settled for want of memory, with all its seats. Everything waits in it as before.
+/// A queue without a bound that was not settled because memory was refused, with all its seats. All values wait in it as before.
 #[derive(Drop)]
 pub struct UnsettledFree<T: Drop> {
     /// The queue.

@@ -1,12 +1,12 @@
-//! What each seat of a queue without a bound knows, beyond what those of every queue do. These types are for the proofs
-//! alone: no value of them is made.
+//! What the seats of a queue without a bound know beyond what those of every queue do, for the proofs alone: no value of these types is
+//! ever made.
 
 use crate::known::Known;
 use crate::tagged::Tagged;
 use crossbeam_queue::protocol::{Protocol, Split};
 use crossbeam_queue::{RuledSegQueue, SegPass};
 
-/// The rule of every queue without a bound.
+/// The rule that every queue without a bound keeps, as a protocol of the threads that share it.
 pub struct FreeSharing;
 
 impl<T> Protocol<Tagged<T>, Known<T>> for FreeSharing {
@@ -18,7 +18,7 @@ impl<T> Protocol<Tagged<T>, Known<T>> for FreeSharing {
     ghost first = { Nothing };
 }
 
-/// The first pass becomes the taker's.
+/// The step by which the first pass, which knows nothing, becomes the taker's.
 pub struct Begins;
 
 impl<T> Split<Known<T>> for Begins {
@@ -30,7 +30,7 @@ impl<T> Split<Known<T>> for Begins {
     ghost right = { nothing };
 }
 
-/// The seat of the first sender that is joined to the taker's is given back.
+/// The step that gives back the first of the senders' seats that were joined to the taker's.
 pub struct Parts;
 
 impl<T> Split<Known<T>> for Parts {
@@ -41,8 +41,8 @@ impl<T> Split<Known<T>> for Parts {
     ghost right = { first_joined };
 }
 
-/// The blocks of a queue.
+/// The linked blocks in which the values of a queue stand.
 pub type Blocks<T> = RuledSegQueue<Tagged<T>, Known<T>, FreeSharing>;
 
-/// A seat's right to step.
+/// A seat's right to take steps in the protocol.
 pub type FreeRight<T> = SegPass<Tagged<T>, Known<T>>;

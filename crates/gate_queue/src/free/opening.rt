@@ -1,4 +1,4 @@
-//! How a queue without a bound is opened, with all its seats.
+//! Opens a queue without a bound together with all its seats.
 ghost use Rattle.std.specs.Prelude.{◌≡◌, ◌≤◌, [], All, IfOk, vec_len};
 ghost use Rattle.std.specs.Vec.{vec_capacity};
 ghost use Rattle.crossbeam_queue.specs.SegTies.{IsSegPassOf};
@@ -18,7 +18,7 @@ use std::collections::VecDeque;
 /// Opens a queue without a bound, with one seat for each of `senders` senders, numbered from 0 in the order of the list,
 /// and the taker's seat. There may be no sender.
 ///
-/// `AllocError` where there is no memory for the first blocks or the seats.
+/// `AllocError` says that there was no memory for the first blocks or the seats.
 pub fn open_free<T: Drop>(
     alloc: Global,
     senders: usize,
@@ -42,7 +42,7 @@ pub fn open_free<T: Drop>(
     Ok((queue, tails, FreeHead { right, ready }))
 }
 
-// Lets the taker know how many senders there will be, before any has its seat.
+// Tells the taker's seat how many senders there will be, before any of them has its seat.
 fn plan<T: Drop>(blocks: &Blocks<T>, mut right: FreeRight<T>, senders: usize) -> FreeRight<T>
     requires { IsSegPassOf blocks.now right × (known_by right ≡ opening 0 0) }
     ensures { IsSegPassOf blocks.now result × (known_by result ≡ opening senders 0) }

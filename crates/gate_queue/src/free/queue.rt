@@ -1,4 +1,4 @@
-//! The queue without a bound, and the calls that threads make.
+//! The queue without a bound, with the calls that threads make on it: `put`, `take` and `take_some`.
 ghost use Rattle.std.specs.Prelude.{◌≡◌, ◌<◌, ◌≤◌, IfSome, IfNone, IfErr, OnOk};
 
 use super::batch::Batch;
@@ -11,11 +11,11 @@ use std::alloc::Global;
 use std::marker::Model;
 use std::sync::Wait;
 
-/// A queue that its senders and its taker share by reference, and that grows as long as there is memory. Contracts see
-/// it as they see a bounded one, with a capacity that memory never has room for.
+/// A queue that its senders and its taker share by reference, and that grows as long as there is memory. Contracts see it as they see a
+/// bounded one, with a capacity that no memory has room for.
 ///
-/// Values lie in blocks of 31. A put into a full block takes memory for the next one, and a block is freed once all its
-/// values are taken, so a queue that was drained has one block, whatever it held before.
+/// Values stand in blocks of 31. A put into a full block takes memory for the next one, and a block is freed once all its values are taken.
+/// So a queue that was drained has one block, whatever it held before.
 pub struct FreeQueue<T: Drop> {
     pub(crate) blocks: Blocks<T>,
     pub(crate) senders: usize,
@@ -37,11 +37,10 @@ impl<T: Drop> FreeQueue<T> {
     ghost use Rattle.gate_queue.specs.FreeViews.{free_shape};
     ghost use Rattle.gate_queue.specs.Batches.{batch_head, batch_lender, batch_left};
 
-    /// Puts a value behind those that wait, as one more of this seat's list and of no other. The seat is one of this
+    /// Puts a value at the back of the queue and at the end of this seat's list. No other seat's list changes. The seat must be one of this
     /// queue's.
     ///
-    /// `Memory` hands the value back and changes no list. It comes where there is no memory for a block, or after nearly
-    /// 2^62 puts.
+    /// `Memory` hands the value back and changes no list. It comes where memory for a block is refused, or after nearly 2^62 puts.
     pub fn put<R: Wait>(&self, rt: &R, tail: &mut FreeTail<T>, value: T) -> Result<(), Memory<T>>
         requires { IsTailOf self.now tail.old }
         ensures ok { OnOk result (tail.new ≡ with_put tail.old value) }
@@ -58,10 +57,10 @@ impl<T: Drop> FreeQueue<T> {
         }
     }
 
-    /// Takes the value that has waited longest, with its sender, as one more of the seat's list. It takes no memory.
+    /// Takes the value that has waited longest, with its sender's number, and adds it to the seat's list. The call takes no memory.
     ///
-    /// `None` comes only where the queue was empty at some moment of the call: where the queue's rule allows a state with
-    /// this seat's list as it is in which nothing waits. The seat is this queue's.
+    /// `None` comes only where the queue was empty at some moment of the call: the queue's rule allows a state in which nothing waits and
+    /// this seat has taken just what it has. The seat must be this queue's.
     pub fn take<R: Wait>(&self, rt: &R, head: &mut FreeHead<T>) -> Option<Tagged<T>>
         requires { IsHeadOf self.now head.old }
         ensures some { IfSome result (λ x. head.new ≡ with_taken head.old x) }
@@ -76,11 +75,11 @@ impl<T: Drop> FreeQueue<T> {
         self.blocks.pop_as::<Takes, R>(rt, &mut head.right)
     }
 
-    /// Takes at most `k` of the values that have waited longest in one step, and gives them in their order: at most the 31
-    /// of a block. It takes no memory. Each value joins the seat's list as the batch gives it, and those that it does not
-    /// give stay with the seat (`Batch`).
+    /// Takes the values that have waited longest, at most `k` and at most the 31 of a block, in one step. The batch gives them in their
+    /// order. The call takes no memory. Each value joins the seat's list when the batch gives it, and those that the batch doesn't give
+    /// stay with the seat (`Batch`).
     ///
-    /// That a batch gives no value tells nothing. The seat is this queue's.
+    /// A batch without a value doesn't mean that the queue was empty. The seat must be this queue's.
     pub fn take_some<'h, R: Wait>(
         &self,
         rt: &R,
@@ -99,7 +98,7 @@ impl<T: Drop> FreeQueue<T> {
         }
     }
 
-    // What the queue is made of.
+    // Takes the queue apart into its blocks, its number of senders and its allocator.
     pub(crate) fn into_parts(self) -> (Blocks<T>, usize, Global)
         ensures { free_shape result.0 result.1 ≡ self }
     {

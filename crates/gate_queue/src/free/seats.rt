@@ -1,4 +1,5 @@
-//! The seats of a queue without a bound.
+//! The seats of a queue without a bound: one for each sender, and one for the taker. A thread owns its seat, so contracts can say what that
+//! thread put or took.
 ghost use Rattle.std.specs.Prelude.{◌≡◌, ◌<◌, IfSome, IfNone};
 
 use super::batch::{BLOCK, fill};
@@ -30,7 +31,7 @@ impl<T> Model for FreeTail<T> {
 impl<T> FreeTail<T> {
     ghost use Rattle.gate_queue.specs.FreeViews.{free_sender_seat, IsFreeSenderRight};
 
-    // What the seat steps with.
+    // Gives up the seat for its right to step.
     pub(crate) fn into_right(self) -> FreeRight<T>
         ensures { IsFreeSenderRight self.sender result × (free_sender_seat self.sender result ≡ self) }
     {
@@ -48,11 +49,11 @@ impl<T: Drop> Drop for FreeTail<T> {
     }
 }
 
-/// The taker's seat, which is used with the queue that gave it (`IsHeadOf`). Contracts see it as its queue and the list
-/// of what was taken. It may go to another thread. It has room for the values of one block.
+/// The taker's seat, which is used with the queue that gave it (`IsHeadOf`). Contracts see it as its queue and the list of what was taken.
+/// It may go to another thread. It keeps room for the values of one block.
 pub struct FreeHead<T: Drop> {
     pub(crate) right: FreeRight<T>,
-    // What was taken in one step and not yet handed out. Contracts see it as waiting.
+    // The values that were taken from the blocks in one step and not handed out yet. Contracts see them as waiting.
     pub(crate) ready: VecDeque<Tagged<T>>,
 }
 
@@ -83,7 +84,7 @@ impl<T: Drop> FreeHead<T> {
         self.ready.pop_front()
     }
 
-    // Where no value is ready it takes up to `limit`, and answers how many are ready then.
+    // Takes up to `limit` values from the blocks where none is ready. The answer is how many values are ready then.
     pub(crate) fn fetch<R: Wait>(&mut self, rt: &R, blocks: &Blocks<T>, limit: usize) -> usize
         requires { self.old.queue.id ≡ in_blocks blocks.now.web }
         ensures { self.new ≡ self.old }
@@ -96,7 +97,7 @@ impl<T: Drop> FreeHead<T> {
         self.ready.len()
     }
 
-    // What the seat steps with, and what is ready.
+    // Gives up the seat for its right to step and the values that are ready.
     pub(crate) fn into_parts(self) -> (FreeRight<T>, VecDeque<Tagged<T>>)
         ensures right { IsFreeTakerRight result.0 result.1.items (deque_capacity result.1) }
         ensures seen { free_taker_seat result.0 result.1.items ≡ self }

@@ -1,4 +1,4 @@
-//! The end of a queue without a bound: what still waits.
+//! Ends a queue without a bound: gives the values that still wait, and accounts for all that each sender put.
 ghost use Rattle.std.specs.Prelude.{◌≡◌, ℕ, ◌+◌, ◌<◌, ◌≤◌, List, [], ◌++◌, map, length, All, IfOk, IfErr, slice_index_or};
 ghost use Rattle.std.specs.Vec.{vec_capacity};
 ghost use Rattle.crossbeam_queue.specs.Fifo.{Held};
@@ -21,11 +21,11 @@ use std::collections::VecDeque;
 use std::sync::Wait;
 
 impl<T: Drop> FreeQueue<T> {
-    /// Ends the queue and gives what still waits, the oldest first. All its seats are handed in, the senders' in the
-    /// order of their numbers.
+    /// Ends the queue and gives the values that still wait, the oldest first. The caller hands in all seats, the senders' in the order of
+    /// their numbers.
     ///
-    /// For each sender, what was taken of it, followed by what waits of it, is what it put, and nothing else was taken or
-    /// waits. Where there is no memory for what waits the queue and its seats come back, and everything waits as before.
+    /// For each sender, the values taken from it, followed by those of its that wait, are the values that it put, and no other value was
+    /// taken or waits. Where there is no memory for the values that wait, the queue and its seats come back, and all values wait as before.
     pub fn settle<R: Wait>(
         self,
         rt: &R,
@@ -61,7 +61,7 @@ impl<T: Drop> FreeQueue<T> {
     }
 }
 
-// The values that are ready, which come first.
+// Moves over the values that are ready, which are the oldest ones.
 fn move_all<T: Drop>(ready: VecDeque<Tagged<T>>, mut rest: Vec<Tagged<T>>) -> Vec<Tagged<T>>
     requires { (rest.items ≡ []) × (length ready.items ≤ vec_capacity rest) }
     ensures items { result.items ≡ ready.items }
@@ -73,7 +73,7 @@ fn move_all<T: Drop>(ready: VecDeque<Tagged<T>>, mut rest: Vec<Tagged<T>>) -> Ve
     rest
 }
 
-// Joins the seats of the senders to the taker's, from the last on. It then knows what each had put.
+// Joins the senders' seats to the taker's, the last one first. The taker's seat knows afterwards what each sender had put.
 fn join<T: Drop>(
     blocks: &Blocks<T>,
     mut right: FreeRight<T>,
@@ -92,7 +92,7 @@ fn join<T: Drop>(
     right
 }
 
-// Gives the seats back, from sender 0 on.
+// Gives the senders' seats back, from sender 0 on, because memory was refused.
 fn part<T: Drop>(
     blocks: &Blocks<T>,
     mut right: FreeRight<T>,
@@ -112,7 +112,7 @@ fn part<T: Drop>(
     right
 }
 
-// Takes out all that waits in the blocks: so many values, behind those that were taken before.
+// Takes out all `count` values that wait in the blocks, and adds them after those that are in `rest` already.
 fn drain<T: Drop, R: Wait>(
     rt: &R,
     blocks: &Blocks<T>,

@@ -1,4 +1,4 @@
--- What stands at a place of a tape, in serde_json's words.
+-- What the tokens of a tape stand for, as serde_json's values.
 use Rattle.std.specs.Prelude.{◌≡◌, ◌&&◌, ◌+◌, ◌-◌, ℕ, List, [], ◌∷◌, Bool, true, nat_lt, Option, Some, None, option_map, is_some, unwrap_or, MatchOption}
 use Rattle.json.specs.Token.{Token}
 use Rattle.json.specs.Json as json
@@ -8,37 +8,38 @@ use Rattle.serde_json.specs.Find.{as_array}
 use Rattle.serde_json.specs.Read.{max_depth, number_of, of_json}
 use Rattle.gate_record.specs.Json.{items_in}
 
--- the tokens begin with this value
+-- The tokens begin with this value.
 abbrev pub Begins : List Token → Data → Type 0
 Begins tokens value = (j : json.Json) × BeginsWith tokens j × (of_json j ≡ Some value)
 
--- at the place stands what was looked for, and there is no place where nothing was found
+-- At the place begins the value that was looked up. There is no place if nothing was found.
 abbrev pub Finds : Option (List Token) → Option Data → Type 0
 Finds place found = MatchOption place (found ≡ None) (λ tokens. (value : Data) × (found ≡ Some value) × Begins tokens value)
 
--- these are the values of items
+-- These are the values of the items.
 abbrev pub AreOf : json.Items → List Data → Type 0
 AreOf json.no_items values = values ≡ []
 AreOf (json.item j js) values = (value : Data) × (rest : List Data) × (of_json j ≡ Some value) × (values ≡ value ∷ rest) × AreOf js rest
 
--- the tokens go on with these values of a list
+-- The tokens go on with the rest of a list, which has these values.
 abbrev pub GoesOn : List Token → List Data → Type 0
 GoesOn tokens values = (js : json.Items) × InItems tokens js × AreOf js values
 
--- the values of a list that begins at a place
+-- At the place stands the rest of a list with these values. Without a place the list has no values.
 abbrev pub Lists : Option (List Token) → List Data → Type 0
 Lists place values = MatchOption place (values ≡ []) (λ tokens. GoesOn tokens values)
 
--- what follows is the first of these values, and the others behind it
+-- At the place begins the first of these values, and the tokens `after` go on with the others. Without a place there are no
+-- values.
 abbrev pub Follows : Option (List Token) → List Data → List Token → Type 0
 Follows place values after = MatchOption place (values ≡ []) (λ tokens. (value : Data) × (rest : List Data) × (values ≡ value ∷ rest) × Begins tokens value × GoesOn after rest)
 
--- the values of a list, and none of anything else
+-- the values of a list; none of a value that isn't a list
 abbrev pub items_of : Data → List Data
 items_of value = unwrap_or (option_map items_in (as_array value)) []
 
--- Whether serde_json takes these tokens of JSON, at this level of nesting: no level is above its last, and each number fits
--- a float.
+-- Whether serde_json takes these JSON tokens at this level of nesting: no level is above its deepest, and each number is an
+-- integer of 64 bits or near a finite float.
 abbrev pub fit : ℕ → List Token → Bool
 fit level [] = true
 fit level (Token.begin_object ∷ tokens) = nat_lt level max_depth && fit (level + 1) tokens

@@ -1,4 +1,4 @@
--- The bytes of a text, wherever they are.
+-- The bytes of a text, inline or on the heap.
 use Rattle.std.specs.Prelude.{ℕ, List, string_bytes}
 use Rattle.gate_record.specs.declared.text.TextBytes.{TextBytes}
 use Rattle.gate_record.specs.declared.text.TextBytes.TheVariants.{Inline, Heap}

@@ -1,4 +1,4 @@
--- Where the entries of an attribute are tried on its field.
+-- The two ways in which the entries of an attribute are tried on its field.
 use Rattle.std.specs.Prelude.{ℕ, List, Bool}
 use Rattle.gate_rule.specs.declared.entry.Entry.{Entry}
 use Rattle.gate_rule.specs.declared.reach.Reach.{Reach}

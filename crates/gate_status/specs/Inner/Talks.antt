@@ -1,4 +1,4 @@
--- Beside `Talks`: what private contracts and proofs cite.
+-- Further definitions about `Talks`, which only private contracts and proofs cite.
 use Rattle.std.specs.Prelude.{◌≡◌, ℕ, List, map, Option, Some, None}
 use Rattle.gate_record.specs.declared.record.Record.{Record}
 use Rattle.gate_record.specs.Prefixes.{IsPrefixOf}
@@ -7,7 +7,7 @@ use Rattle.gate_run_posts.specs.Ports.{PostsView}
 use Rattle.gate_status.specs.declared.fault.SessionEnd.{SessionEnd}
 use Rattle.gate_status.specs.Talks.{Exchange, Talk}
 
--- some of the first of these lines were answered, all of them where the session goes on
+-- the first of these lines were answered, in order, and all of them where the session goes on
 abbrev pub AreHeard : Option SessionEnd → List Record → List Exchange → Type 0
 AreHeard None lines exchanges = map (λ (exchange : Exchange). exchange.line) exchanges ≡ lines
 AreHeard (Some how) lines exchanges = IsPrefixOf (map (λ (exchange : Exchange). exchange.line) exchanges) lines

@@ -1,4 +1,4 @@
--- What is gathered, as the rows of a batch, and what the masks of a batch say of a row.
+-- Gathered items as the rows of a batch, and what a row gets by the masks of the batch.
 use Rattle.std.specs.Prelude.{ℕ, ◌==◌, List, [], ◌∷◌, flat_map, get_or, slice_get, unwrap_or, Option, Some, None, if◌then◌else◌}
 use Rattle.std.specs.List.{filter_map}
 use Rattle.gate_record.specs.declared.event.Event.{Event}
@@ -12,7 +12,7 @@ use Rattle.gate_lanes.specs.declared.TheConstants.{MARKED}
 use Rattle.gate_config.specs.declared.config.Config.{Config}
 use Rattle.gate_tenant.specs.Dispatching.{for_pipeline, numbers_of}
 
--- an item's event, and the generation and the connection of that
+-- the event of an item; `conns_in` is the connection of that event, and `gens_in` its generation
 abbrev pub events_in : TenantItem → List Event
 events_in (tenant.Event s) = s.event ∷ []
 events_in (tenant.End conn) = []
@@ -25,7 +25,7 @@ abbrev pub gens_in : TenantItem → List ℕ
 gens_in (tenant.Event s) = s.generation ∷ []
 gens_in (tenant.End conn) = []
 
--- the events of items, each beside its generation and its connection
+-- the event of an item, paired with its generation and its connection; `rows_of` lists these of several items
 abbrev pub row_in : TenantItem → List ((ℕ × ℕ) × Event)
 row_in (tenant.Event s) = ((s.generation, s.stamp.conn.0), s.event) ∷ []
 row_in (tenant.End conn) = []
@@ -40,11 +40,11 @@ word_of masks p row = get_or (unwrap_or (slice_get masks p) []) row 0
 abbrev pub marked_item : List (List ℕ) → ℕ → Stamped → ℕ → Option (PipelineId × PipelineItem)
 marked_item masks row s p = if word_of masks p row == MARKED then Some (for_pipeline p (pipeline.Event s)) else None
 
--- an event for each pipeline of tenant t whose mask marks its row
+-- an event, for each pipeline of tenant t whose mask marks the event's row
 abbrev pub by_masks : Config → ℕ → List (List ℕ) → ℕ → Stamped → List (PipelineId × PipelineItem)
 by_masks config t masks row s = filter_map (marked_item masks row s) (numbers_of config t)
 
--- what the pipelines get of an item by the masks, whose row it is if it is an event
+-- what the pipelines get of an item by the masks; if the item is an event, its row is `row`
 abbrev pub given_by : Config → ℕ → List (List ℕ) → ℕ → TenantItem → List (PipelineId × PipelineItem)
 given_by config t masks row (tenant.Event s) = by_masks config t masks row s
 given_by config t masks row (tenant.End conn) = []
