@@ -60,16 +60,16 @@
 #endif
 mtype:wakeup = { none,
     by_record, by_mark, by_end,
-    due_to_dispatcher, many_to_reader, many_to_dispatcher,
-    parking_to_reader, parking_to_dispatcher, returning_to_reader, returning_to_dispatcher,
+    due_to_tenant_worker, many_to_reader, many_to_tenant_worker,
+    parking_to_reader, parking_to_tenant_worker, returning_to_reader, returning_to_tenant_worker,
     to_workers,
     by_manage, by_result,
     begun_to_reader,
-    halt_to_reader, halt_to_forwarder, halt_to_dispatcher, halt_to_workers };
+    halt_to_reader, halt_to_forwarder, halt_to_tenant_worker, halt_to_workers };
 
 #define READER 0
 #define FORWARDER 1
-#define DISPATCHER 2
+#define TENANT_WORKER 2
 #define WORKER 3                /* and the other one WORKER + 1 */
 #define THREADS 5
 
@@ -104,7 +104,7 @@ inline leave() {
 inline wake_all() {
     wake(halt_to_reader, READER);
     wake(halt_to_forwarder, FORWARDER);
-    wake(halt_to_dispatcher, DISPATCHER);
+    wake(halt_to_tenant_worker, TENANT_WORKER);
     wake(halt_to_workers, WORKER);
     wake(halt_to_workers, WORKER + 1)
 }
@@ -125,7 +125,7 @@ inline wake_all() {
 #define unless_stopped
 #endif
 
-/* ---- reader.rt and reading.rt, over source.rt */
+/* ---- reader.rt and running.rt, over source.rt */
 
 proctype reader(byte me) {
     byte left = RECORDS, marks;
@@ -198,19 +198,19 @@ out:
 /* ---- forwarder.rt */
 
 /* ForwarderWakeUps::give. What isn't given stays pending. */
-inline pay(to_reader, to_dispatcher) {
+inline pay(to_reader, to_tenant_worker) {
     if
     :: taken > 0 && to_reader != LEFT_OUT -> atomic { taken = 0; wake(to_reader, READER) }
     :: else
     fi;
     if
-    :: puts > 0 && to_dispatcher != LEFT_OUT -> atomic { puts = 0; wake(to_dispatcher, DISPATCHER) }
+    :: puts > 0 && to_tenant_worker != LEFT_OUT -> atomic { puts = 0; wake(to_tenant_worker, TENANT_WORKER) }
     :: else
     fi
 }
 
 proctype forwarder(byte me) {
-    mtype:value entry;          /* in its hand */
+    mtype:value entry;          /* in its outbox */
     bit ended;
     byte taken, puts;           /* since it paid for them */
 #if IS_LIMITED
@@ -223,20 +223,20 @@ step:
     :: entry ->
         atomic {
             items ! entry;
-            /* for a dispatcher that sleeps no more than MANY wait */
-            assert(!asleep[DISPATCHER] || token[DISPATCHER] || len(items) <= MANY);
+            /* for a tenant_worker that sleeps no more than MANY wait */
+            assert(!asleep[TENANT_WORKER] || token[TENANT_WORKER] || len(items) <= MANY);
             ended = (entry == end);
             entry = 0;
             puts = (puts < MANY -> puts + 1 : MANY);
             if
-            :: puts >= MANY && due_to_dispatcher != LEFT_OUT
+            :: puts >= MANY && due_to_tenant_worker != LEFT_OUT
             :: else -> goto step
             fi
         };
-        atomic { puts = 0; wake(due_to_dispatcher, DISPATCHER) };
+        atomic { puts = 0; wake(due_to_tenant_worker, TENANT_WORKER) };
         goto step
     :: !entry && ended ->
-        pay(returning_to_reader, returning_to_dispatcher);
+        pay(returning_to_reader, returning_to_tenant_worker);
         goto out
     :: !entry && !ended
     fi;
@@ -261,9 +261,9 @@ step:
             :: else -> goto step
             fi
         };
-        pay(many_to_reader, many_to_dispatcher)
+        pay(many_to_reader, many_to_tenant_worker)
     :: atomic { empty(records) -> asleep[me] = 1 };
-        pay(parking_to_reader, parking_to_dispatcher);
+        pay(parking_to_reader, parking_to_tenant_worker);
         park()
     fi;
     goto step;
@@ -272,16 +272,16 @@ out:
     leave()
 }
 
-/* ---- dispatcher.rt */
+/* ---- tenant_worker.rt */
 
 inline give(to) {
     atomic {
         nfull(triggers[to]);
         if
-        :: ended && hand[to] == 1 -> triggers[to] ! end
-        :: !(ended && hand[to] == 1) -> triggers[to] ! event
+        :: ended && outbox[to] == 1 -> triggers[to] ! end
+        :: !(ended && outbox[to] == 1) -> triggers[to] ! event
         fi;
-        hand[to]--;
+        outbox[to]--;
         owed[to] = 1
     }
 }
@@ -304,24 +304,24 @@ inline gather() {
 /* How many of the gathered events a pipeline selects; and each gets the end mark. */
 inline match(to) {
     if
-    :: to < WORKERS && gathered > 1 -> hand[to] = 2
-    :: to < WORKERS && gathered > 0 -> hand[to] = 1
+    :: to < WORKERS && gathered > 1 -> outbox[to] = 2
+    :: to < WORKERS && gathered > 0 -> outbox[to] = 1
     :: true
     fi;
-    hand[to] = hand[to] + (has_end && to < WORKERS)
+    outbox[to] = outbox[to] + (has_end && to < WORKERS)
 }
 
-proctype dispatcher(byte me) {
+proctype tenant_worker(byte me) {
     mtype:value entry;
-    byte gathered, hand[2];
+    byte gathered, outbox[2];
     bit has_end, ended, owed[2];
 
 step:
     unless_halted_or_refused
     if
-    :: hand[0] > 0 -> give(0); goto step
-    :: hand[0] == 0 && hand[1] > 0 -> give(1); goto step
-    :: hand[0] == 0 && hand[1] == 0
+    :: outbox[0] > 0 -> give(0); goto step
+    :: outbox[0] == 0 && outbox[1] > 0 -> give(1); goto step
+    :: outbox[0] == 0 && outbox[1] == 0
     fi;
     pay_worker(0);
     pay_worker(1);
@@ -436,7 +436,7 @@ active proctype starter() {
 #if WORKERS == 2
     start(worker, WORKER + 1);
 #endif
-    start(dispatcher, DISPATCHER);
+    start(tenant_worker, TENANT_WORKER);
     start(forwarder, FORWARDER);
     start(reader, READER);
     /* the reader of another connection */
@@ -452,7 +452,7 @@ active proctype starter() {
 #if WORKERS == 2
         start(worker, WORKER + 1);
 #endif
-        start(dispatcher, DISPATCHER);
+        start(tenant_worker, TENANT_WORKER);
         start(forwarder, FORWARDER);
         start(reader, READER);
         begun = 1
@@ -483,7 +483,7 @@ out:
 #define SOMETHING_WAITS ( \
     (asleep[READER] && begun && len(records) < PLACES) || \
     FORWARDER_WAITS || \
-    WAITS(DISPATCHER, items) || \
+    WAITS(TENANT_WORKER, items) || \
     WAITS(WORKER, triggers[0]) || WAITS(WORKER, manages) || WAITS(WORKER, results) || \
     WAITS(WORKER + 1, triggers[1]))
 

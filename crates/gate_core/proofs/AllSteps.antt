@@ -142,35 +142,35 @@ module _ (gens : Generations) (h : History) (state : State) (holds : Holds gens 
   renew_goes d None at = quiet gens h state (step.Renew d) Idle quiet_idle holds
   renew_goes d (Some k) at = renew_by d k at k.closed (nat_le (count_of gens) (length k.renewals + 1)) (nat_lt (length k.queue) 4096) refl refl
 
-  taken_by : (d : ConnId) (k : ConnectionState) → slice_get state.connections d.0 ≡ Some k → (x : ConnEntry) (queue : List ConnEntry) → k.hand ≡ [] → k.queue ≡ x ∷ queue → (past : Bool) →
-      ConnGoes (step.Take d) d.0 (if past then (k, Idle) else (record k { queue = queue; generation = behind k.generation x; hand = sends gens d.0 k.generation x }, Moved))
+  taken_by : (d : ConnId) (k : ConnectionState) → slice_get state.connections d.0 ≡ Some k → (x : ConnEntry) (queue : List ConnEntry) → k.unsent ≡ [] → k.queue ≡ x ∷ queue → (past : Bool) →
+      ConnGoes (step.Take d) d.0 (if past then (k, Idle) else (record k { queue = queue; generation = behind k.generation x; unsent = sends gens d.0 k.generation x }, Moved))
   taken_by d k at x queue e f true = conn_quiet gens h state (step.Take d) Idle d.0 k at quiet_idle holds
   taken_by d k at x queue e f false = taken_holds gens h state d k x queue at e f holds
 
-  take_by : (d : ConnId) (k : ConnectionState) → slice_get state.connections d.0 ≡ Some k → (hand : List (TenantId × TenantItem)) (queue : List ConnEntry) → k.hand ≡ hand → k.queue ≡ queue →
-      ConnGoes (step.Take d) d.0 (take_from gens d.0 hand queue k)
-  take_by d k at (first ∷ hand) queue e f = conn_quiet gens h state (step.Take d) Idle d.0 k at quiet_idle holds
+  take_by : (d : ConnId) (k : ConnectionState) → slice_get state.connections d.0 ≡ Some k → (unsent : List (TenantId × TenantItem)) (queue : List ConnEntry) → k.unsent ≡ unsent → k.queue ≡ queue →
+      ConnGoes (step.Take d) d.0 (take_from gens d.0 unsent queue k)
+  take_by d k at (first ∷ unsent) queue e f = conn_quiet gens h state (step.Take d) Idle d.0 k at quiet_idle holds
   take_by d k at [] [] e f = conn_quiet gens h state (step.Take d) Idle d.0 k at quiet_idle holds
   take_by d k at [] (x ∷ queue) e f = taken_by d k at x queue e f (is_past gens k.generation x)
 
   take_goes : (d : ConnId) (o : Option ConnectionState) → slice_get state.connections d.0 ≡ o → Goes gens h (step.Take d) (with_connection (take gens d.0) d.0 o state)
   take_goes d None at = quiet gens h state (step.Take d) Idle quiet_idle holds
-  take_goes d (Some k) at = take_by d k at k.hand k.queue refl refl
+  take_goes d (Some k) at = take_by d k at k.unsent k.queue refl refl
 
   -- ---- from connections to tenants
 
-  send_to_goes : (d : ConnId) (k : ConnectionState) (first : TenantId × TenantItem) (hand : List (TenantId × TenantItem)) → slice_get state.connections d.0 ≡ Some k → k.hand ≡ first ∷ hand →
-      (o : Option TenantState) → slice_get state.tenants first.0.0 ≡ o → Goes gens h (step.Send d) (send_to d.0 k first.0.0 first.1 hand o state)
-  send_to_goes d k first hand at front None whose = quiet gens h state (step.Send d) Idle quiet_idle holds
-  send_to_goes d k first hand at front (Some ten) whose = sent_holds gens h state d k first hand ten at front whose holds
+  send_to_goes : (d : ConnId) (k : ConnectionState) (first : TenantId × TenantItem) (unsent : List (TenantId × TenantItem)) → slice_get state.connections d.0 ≡ Some k → k.unsent ≡ first ∷ unsent →
+      (o : Option TenantState) → slice_get state.tenants first.0.0 ≡ o → Goes gens h (step.Send d) (send_to d.0 k first.0.0 first.1 unsent o state)
+  send_to_goes d k first unsent at front None whose = quiet gens h state (step.Send d) Idle quiet_idle holds
+  send_to_goes d k first unsent at front (Some ten) whose = sent_holds gens h state d k first unsent ten at front whose holds
 
-  send_from_goes : (d : ConnId) (k : ConnectionState) → slice_get state.connections d.0 ≡ Some k → (hand : List (TenantId × TenantItem)) → k.hand ≡ hand → Goes gens h (step.Send d) (send_from d.0 k hand state)
+  send_from_goes : (d : ConnId) (k : ConnectionState) → slice_get state.connections d.0 ≡ Some k → (unsent : List (TenantId × TenantItem)) → k.unsent ≡ unsent → Goes gens h (step.Send d) (send_from d.0 k unsent state)
   send_from_goes d k at [] e = quiet gens h state (step.Send d) Idle quiet_idle holds
-  send_from_goes d k at (first ∷ hand) e = send_to_goes d k first hand at e (slice_get state.tenants first.0.0) refl
+  send_from_goes d k at (first ∷ unsent) e = send_to_goes d k first unsent at e (slice_get state.tenants first.0.0) refl
 
   send_goes : (d : ConnId) (o : Option ConnectionState) → slice_get state.connections d.0 ≡ o → Goes gens h (step.Send d) (send_of d.0 o state)
   send_goes d None at = quiet gens h state (step.Send d) Idle quiet_idle holds
-  send_goes d (Some k) at = send_from_goes d k at k.hand refl
+  send_goes d (Some k) at = send_from_goes d k at k.unsent refl
 
   -- ---- tenants
 
@@ -207,27 +207,27 @@ module _ (gens : Generations) (h : History) (state : State) (holds : Holds gens 
   match_goes tid None at = quiet gens h state (step.Match tid) Idle quiet_idle holds
   match_goes tid (Some ten) at = match_by tid ten at ten.dispatch.gathered refl
 
-  give_by : (tid : TenantId) (ten : TenantState) → slice_get state.tenants tid.0 ≡ Some ten → (first : PipelineId × PipelineItem) (hand : List (PipelineId × PipelineItem)) → ten.dispatch.items ≡ first ∷ hand →
+  give_by : (tid : TenantId) (ten : TenantState) → slice_get state.tenants tid.0 ≡ Some ten → (first : PipelineId × PipelineItem) (unsent : List (PipelineId × PipelineItem)) → ten.dispatch.outbox.items ≡ first ∷ unsent →
       (pipe : Pipeline) → slice_get ten.pipelines first.0.0 ≡ Some pipe →
       TenantGoes (step.Give tid) tid.0
-      (record ten { dispatch = record ten.dispatch { items = hand; out = None }; pipelines = slice_set ten.pipelines first.0.0 (record pipe { triggers = pipe.triggers ++ first.1 ∷ [] }) }, Moved)
-  give_by tid ten at first hand front pipe whose =
+      (record ten { dispatch = record ten.dispatch { outbox = record { items = unsent; out = None } }; pipelines = slice_set ten.pipelines first.0.0 (record pipe { triggers = pipe.triggers ++ first.1 ∷ [] }) }, Moved)
+  give_by tid ten at first unsent front pipe whose =
       given_holds gens h state (step.Give tid) Moved tid.0 ten at
       (λ past. ((λ c. conn_untouched c past (step.Give tid) Moved refl refl refl refl), (λ t p. pipe_untouched t p past (step.Give tid) Moved refl refl refl)))
-      first hand pipe front whose holds
+      first unsent pipe front whose holds
 
-  give_to_goes : (tid : TenantId) (ten : TenantState) → slice_get state.tenants tid.0 ≡ Some ten → (first : PipelineId × PipelineItem) (hand : List (PipelineId × PipelineItem)) → ten.dispatch.items ≡ first ∷ hand →
-      (o : Option Pipeline) → slice_get ten.pipelines first.0.0 ≡ o → TenantGoes (step.Give tid) tid.0 (give_to first.0 first.1 hand o ten)
-  give_to_goes tid ten at first hand front None whose = idle (step.Give tid) tid.0 ten at
-  give_to_goes tid ten at first hand front (Some pipe) whose = give_by tid ten at first hand front pipe whose
+  give_to_goes : (tid : TenantId) (ten : TenantState) → slice_get state.tenants tid.0 ≡ Some ten → (first : PipelineId × PipelineItem) (unsent : List (PipelineId × PipelineItem)) → ten.dispatch.outbox.items ≡ first ∷ unsent →
+      (o : Option Pipeline) → slice_get ten.pipelines first.0.0 ≡ o → TenantGoes (step.Give tid) tid.0 (give_to first.0 first.1 unsent o ten)
+  give_to_goes tid ten at first unsent front None whose = idle (step.Give tid) tid.0 ten at
+  give_to_goes tid ten at first unsent front (Some pipe) whose = give_by tid ten at first unsent front pipe whose
 
-  give_from_goes : (tid : TenantId) (ten : TenantState) → slice_get state.tenants tid.0 ≡ Some ten → (hand : List (PipelineId × PipelineItem)) → ten.dispatch.items ≡ hand → TenantGoes (step.Give tid) tid.0 (give_from hand ten)
+  give_from_goes : (tid : TenantId) (ten : TenantState) → slice_get state.tenants tid.0 ≡ Some ten → (unsent : List (PipelineId × PipelineItem)) → ten.dispatch.outbox.items ≡ unsent → TenantGoes (step.Give tid) tid.0 (give_from unsent ten)
   give_from_goes tid ten at [] e = idle (step.Give tid) tid.0 ten at
-  give_from_goes tid ten at (first ∷ hand) e = give_to_goes tid ten at first hand e (slice_get ten.pipelines first.0.0) refl
+  give_from_goes tid ten at (first ∷ unsent) e = give_to_goes tid ten at first unsent e (slice_get ten.pipelines first.0.0) refl
 
   give_goes : (tid : TenantId) (o : Option TenantState) → slice_get state.tenants tid.0 ≡ o → Goes gens h (step.Give tid) (with_tenant give tid.0 o state)
   give_goes tid None at = quiet gens h state (step.Give tid) Idle quiet_idle holds
-  give_goes tid (Some ten) at = give_from_goes tid ten at ten.dispatch.items refl
+  give_goes tid (Some ten) at = give_from_goes tid ten at ten.dispatch.outbox.items refl
 
   -- ---- pipelines
 

@@ -18,7 +18,7 @@ use Rattle.gate_core.specs.States.{ConnectionState}
 use Rattle.gate_core.specs.Steps.{first, new_connection, new_tenant}
 use Rattle.gate_core.specs.Worlds.{AcceptedAtMost}
 use Rattle.gate_core.proofs.Fits.{fits_new}
-use Rattle.gate_core.proofs.Streams.{ConnHolds, Holds, PipeHolds, TenantHolds, count_of, generation_of, hand_of, on_way, queue_of}
+use Rattle.gate_core.proofs.Streams.{ConnHolds, Holds, PipeHolds, TenantHolds, count_of, generation_of, unsent_of, on_way, queue_of}
 use Rattle.gate_delivery.proofs.Maps.{the_same}
 
 -- what is looked up where all values are the same
@@ -50,7 +50,7 @@ module _ (gens : Generations) where
   new_conn c None nothing there = record { count = refl; closing = refl; waits = refl; within = omega arith; there = there; own = tt; renewed = refl; before = All-nil (λ m. m ≤ 0); stream = entries.begins; in_force = refl }
   new_conn c (Some k) that there = record { count = refl; closing = refl; waits = refl; within = omega arith; there = there; own = tt; renewed = refl; before = All-nil (λ m. m ≤ 0); stream = entries.begins; in_force = refl }
 
-  nothing_put : (t c : ℕ) (o : Option ConnectionState) → AllSame new_connection o → items_to t (hand_of o) ++ on_way gens t c (generation_of o) (queue_of o) ≡ []
+  nothing_put : (t c : ℕ) (o : Option ConnectionState) → AllSame new_connection o → items_to t (unsent_of o) ++ on_way gens t c (generation_of o) (queue_of o) ≡ []
   nothing_put t c None nothing = refl
   nothing_put t c (Some k) that = refl
 
@@ -64,7 +64,7 @@ module _ (gens : Generations) where
     past = beginning gens.first t;
     happens = begins;
     now = refl;
-    in_hand = refl;
+    none_out = refl;
     count = length-map-range_with_len (fresh_pipeline gens.first t) 0 (length (pipelines_of gens.first t));
     pipes = λ p pipe at. new_pipe t p pipe at;
     ways = λ c. nothing_put t c (slice_get conns c) (all_same new_connection (connections_of gens.first) c);

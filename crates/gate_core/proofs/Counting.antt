@@ -72,26 +72,26 @@ module _ (n : ℕ) (state : State) (few : AcceptedAtMost n state) where
   renewing k false false false = omega arith
 
   taking : (gens : Generations) (c : ℕ) (k : ConnectionState) (x : ConnEntry) (queue : List ConnEntry) (past : Bool) →
-      (if◌then◌else◌ {A = ConnectionState × Answer} past (k, Idle) (record k { queue = queue; generation = behind k.generation x; hand = entry_sends gens c k.generation x }, Moved)).0.accepted ≤ k.accepted + 1
+      (if◌then◌else◌ {A = ConnectionState × Answer} past (k, Idle) (record k { queue = queue; generation = behind k.generation x; unsent = entry_sends gens c k.generation x }, Moved)).0.accepted ≤ k.accepted + 1
   taking gens c k x queue true = omega arith
   taking gens c k x queue false = omega arith
 
-  takes : (gens : Generations) (c : ℕ) (k : ConnectionState) (hand : List (TenantId × TenantItem)) (queue : List ConnEntry) → (take_from gens c hand queue k).0.accepted ≤ k.accepted + 1
-  takes gens c k (x ∷ hand) queue = omega arith
+  takes : (gens : Generations) (c : ℕ) (k : ConnectionState) (unsent : List (TenantId × TenantItem)) (queue : List ConnEntry) → (take_from gens c unsent queue k).0.accepted ≤ k.accepted + 1
+  takes gens c k (x ∷ unsent) queue = omega arith
   takes gens c k [] [] = omega arith
   takes gens c k [] (x ∷ queue) = taking gens c k x queue (is_past gens k.generation x)
 
-  sends_to : (d : ℕ) (k : ConnectionState) (u : ℕ) (x : TenantItem) (hand : List (TenantId × TenantItem)) (o : Option TenantState) → slice_get state.connections d ≡ Some k → AcceptedAtMost (n + 1) (send_to d k u x hand o state).0
-  sends_to d k u x hand None at = no_more
-  sends_to d k u x hand (Some ten) at = changes (slice_set state.tenants u (record ten { queue = ten.queue ++ x ∷ [] })) d k (record k { hand = hand }) at (omega arith)
+  sends_to : (d : ℕ) (k : ConnectionState) (u : ℕ) (x : TenantItem) (unsent : List (TenantId × TenantItem)) (o : Option TenantState) → slice_get state.connections d ≡ Some k → AcceptedAtMost (n + 1) (send_to d k u x unsent o state).0
+  sends_to d k u x unsent None at = no_more
+  sends_to d k u x unsent (Some ten) at = changes (slice_set state.tenants u (record ten { queue = ten.queue ++ x ∷ [] })) d k (record k { unsent = unsent }) at (omega arith)
 
-  sends_from : (d : ℕ) (k : ConnectionState) (hand : List (TenantId × TenantItem)) → slice_get state.connections d ≡ Some k → AcceptedAtMost (n + 1) (send_from d k hand state).0
+  sends_from : (d : ℕ) (k : ConnectionState) (unsent : List (TenantId × TenantItem)) → slice_get state.connections d ≡ Some k → AcceptedAtMost (n + 1) (send_from d k unsent state).0
   sends_from d k [] at = no_more
-  sends_from d k (first ∷ hand) at = sends_to d k first.0.0 first.1 hand (slice_get state.tenants first.0.0) at
+  sends_from d k (first ∷ unsent) at = sends_to d k first.0.0 first.1 unsent (slice_get state.tenants first.0.0) at
 
   sends : (d : ℕ) (o : Option ConnectionState) → slice_get state.connections d ≡ o → AcceptedAtMost (n + 1) (send_of d o state).0
   sends d None at = no_more
-  sends d (Some k) at = sends_from d k k.hand at
+  sends d (Some k) at = sends_from d k k.unsent at
 
   inside : (move : TenantState → TenantState × Answer) (t : ℕ) (o : Option TenantState) → AcceptedAtMost (n + 1) (with_tenant move t o state).0
   inside move t None = no_more
@@ -109,7 +109,7 @@ module _ (n : ℕ) (state : State) (few : AcceptedAtMost n state) where
   step_counts gens (step.Offer c line) = moves (offer line) (λ k. offers line k k.closed (nat_lt (length k.queue) 4096)) c.0 (slice_get state.connections c.0) refl
   step_counts gens (step.Close c) = moves close (λ k. closes k k.closed (nat_lt (length k.queue) 4096)) c.0 (slice_get state.connections c.0) refl
   step_counts gens (step.Renew c) = moves (renew (count_of gens)) (λ k. renewing k k.closed (nat_le (count_of gens) (length k.renewals + 1)) (nat_lt (length k.queue) 4096)) c.0 (slice_get state.connections c.0) refl
-  step_counts gens (step.Take c) = moves (take gens c.0) (λ k. takes gens c.0 k k.hand k.queue) c.0 (slice_get state.connections c.0) refl
+  step_counts gens (step.Take c) = moves (take gens c.0) (λ k. takes gens c.0 k k.unsent k.queue) c.0 (slice_get state.connections c.0) refl
   step_counts gens (step.Send c) = sends c.0 (slice_get state.connections c.0) refl
   step_counts gens (step.Fetch t count) = inside _ t.0 (slice_get state.tenants t.0)
   step_counts gens (step.Match t) = inside _ t.0 (slice_get state.tenants t.0)

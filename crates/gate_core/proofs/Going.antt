@@ -38,11 +38,11 @@ use Rattle.gate_delivery.proofs.Maps.{cons_option_is, filter_map_push}
 use Rattle.gate_core.proofs.Pushes.{accepted_push, closed_push, count_push, or_false, or_true}
 use Rattle.gate_core.proofs.Sendings.{differs}
 use Rattle.gate_core.proofs.Spots.{AfterSet, after_set, another, it}
-use Rattle.gate_core.proofs.Streams.{AreOf, ConnHolds, ConnSame, Holds, PipeSame, conn_same, conn_untouched, generation_of, hand_of, on_way, pipe_untouched, put_same, queue_of, tenant_same}
+use Rattle.gate_core.proofs.Streams.{AreOf, ConnHolds, ConnSame, Holds, PipeSame, conn_same, conn_untouched, generation_of, unsent_of, on_way, pipe_untouched, put_same, queue_of, tenant_same}
 
 -- what a connection has for tenant t, and what is forwarded of all that was put
 abbrev Kept : Generations → ℕ → ℕ → History → Option ConnectionState → List TenantItem → Type 0
-Kept gens t c h o rest = rest ++ (items_to t (hand_of o) ++ on_way gens t c (generation_of o) (queue_of o)) ≡ forwarded gens t c (put_by c h)
+Kept gens t c h o rest = rest ++ (items_to t (unsent_of o) ++ on_way gens t c (generation_of o) (queue_of o)) ≡ forwarded gens t c (put_by c h)
 
 -- a connection that changes, where nothing else does
 module _ (gens : Generations) (h h' : History) (state : State) (c0 : ℕ) (k k' : ConnectionState) (at : slice_get state.connections c0 ≡ Some k)
@@ -88,15 +88,15 @@ module _ (laws : Laws) (gens : Generations) (t c : ℕ) where
       ap (filter_map (forwarded_at gens t c)) (laws.entries.joined g entries (e ∷ []))
       ∙ filter_map_push (forwarded_at gens t c) (with_generations g entries) (generation_behind g entries, e)
 
-  kept_more : (h h' : History) (k k' : ConnectionState) (e : ConnEntry) → k'.hand ≡ k.hand → k'.generation ≡ k.generation → k'.queue ≡ k.queue ++ e ∷ [] → put_by c h' ≡ put_by c h ++ e ∷ [] →
+  kept_more : (h h' : History) (k k' : ConnectionState) (e : ConnEntry) → k'.unsent ≡ k.unsent → k'.generation ≡ k.generation → k'.queue ≡ k.queue ++ e ∷ [] → put_by c h' ≡ put_by c h ++ e ∷ [] →
       generation_behind k.generation k.queue ≡ generation_behind 0 (put_by c h) →
       (rest : List TenantItem) → Kept gens t c h (Some k) rest → Kept gens t c h' (Some k') rest
-  kept_more h h' k k' e hand generation queue put in_force rest kept =
+  kept_more h h' k k' e unsent generation queue put in_force rest kept =
       let more = option_to_list (forwarded_entry gens t c (generation_behind k.generation k.queue) e) in
-      (λ i. rest ++ (items_to t (hand i) ++ on_way gens t c (generation i) (queue i)))
-      ∙ ap (λ xs. rest ++ (items_to t k.hand ++ xs)) (way_push k.generation k.queue e)
-      ∙ ap (λ xs. rest ++ xs) (sym (append_assoc (items_to t k.hand) (on_way gens t c k.generation k.queue) more))
-      ∙ sym (append_assoc rest (items_to t k.hand ++ on_way gens t c k.generation k.queue) more)
+      (λ i. rest ++ (items_to t (unsent i) ++ on_way gens t c (generation i) (queue i)))
+      ∙ ap (λ xs. rest ++ (items_to t k.unsent ++ xs)) (way_push k.generation k.queue e)
+      ∙ ap (λ xs. rest ++ xs) (sym (append_assoc (items_to t k.unsent) (on_way gens t c k.generation k.queue) more))
+      ∙ sym (append_assoc rest (items_to t k.unsent ++ on_way gens t c k.generation k.queue) more)
       ∙ ap (λ xs. xs ++ more) kept
       ∙ ap (λ g. forwarded gens t c (put_by c h) ++ option_to_list (forwarded_entry gens t c g e)) in_force
       ∙ sym (way_push 0 (put_by c h) e)
@@ -325,12 +325,12 @@ own_all : (gens : Generations) (c g : ℕ) (e : ConnEntry) (ts : List ℕ) → A
 own_all gens c g e [] = tt
 own_all gens c g e (t ∷ ts) = own_cons c t (forwarded_entry gens t c g e) (filter_map (λ u. option_map (for_tenant u) (forwarded_entry gens u c g e)) ts) (own_entry gens t c g e) (own_all gens c g e ts)
 
-module _ (gens : Generations) (h : History) (state : State) (d : ConnId) (k : ConnectionState) (e : ConnEntry) (queue : List ConnEntry) (at : slice_get state.connections d.0 ≡ Some k) (empty : k.hand ≡ []) (front : k.queue ≡ e ∷ queue) where
+module _ (gens : Generations) (h : History) (state : State) (d : ConnId) (k : ConnectionState) (e : ConnEntry) (queue : List ConnEntry) (at : slice_get state.connections d.0 ≡ Some k) (empty : k.unsent ≡ []) (front : k.queue ≡ e ∷ queue) where
   abbrev h3 : History
   h3 = h ++ (step.Take d, Moved) ∷ []
 
   abbrev k3 : ConnectionState
-  k3 = record k { queue = queue; generation = behind k.generation e; hand = sends gens d.0 k.generation e }
+  k3 = record k { queue = queue; generation = behind k.generation e; unsent = sends gens d.0 k.generation e }
 
   taken_accepts : accepted_records d.0 h3 ≡ accepted_records d.0 h
   taken_accepts = accepted_push d.0 h (step.Take d, Moved) ∙ append-nil (accepted_records d.0 h)

@@ -74,17 +74,17 @@ module _ (gens : Generations) (state : State) (t p : ℕ) where
   conn_leaves move c None = refl
   conn_leaves move c (Some conn) = refl
 
-  send_to_leaves : (c : ℕ) (conn : ConnectionState) (u : ℕ) (x : TenantItem) (hand : List (TenantId × TenantItem)) (o : Option TenantState) → slice_get state.tenants u ≡ o → Leaves (send_to c conn u x hand o state).0
-  send_to_leaves c conn u x hand None at = refl
-  send_to_leaves c conn u x hand (Some ten) at = tenant_keeps state (slice_set state.connections c (record conn { hand = hand })) t p u ten (record ten { queue = ten.queue ++ x ∷ [] }) at refl
+  send_to_leaves : (c : ℕ) (conn : ConnectionState) (u : ℕ) (x : TenantItem) (unsent : List (TenantId × TenantItem)) (o : Option TenantState) → slice_get state.tenants u ≡ o → Leaves (send_to c conn u x unsent o state).0
+  send_to_leaves c conn u x unsent None at = refl
+  send_to_leaves c conn u x unsent (Some ten) at = tenant_keeps state (slice_set state.connections c (record conn { unsent = unsent })) t p u ten (record ten { queue = ten.queue ++ x ∷ [] }) at refl
 
-  send_from_leaves : (c : ℕ) (conn : ConnectionState) (hand : List (TenantId × TenantItem)) → Leaves (send_from c conn hand state).0
+  send_from_leaves : (c : ℕ) (conn : ConnectionState) (unsent : List (TenantId × TenantItem)) → Leaves (send_from c conn unsent state).0
   send_from_leaves c conn [] = refl
-  send_from_leaves c conn (first ∷ hand) = send_to_leaves c conn first.0.0 first.1 hand (slice_get state.tenants first.0.0) refl
+  send_from_leaves c conn (first ∷ unsent) = send_to_leaves c conn first.0.0 first.1 unsent (slice_get state.tenants first.0.0) refl
 
   send_leaves : (c : ℕ) (o : Option ConnectionState) → Leaves (send_of c o state).0
   send_leaves c None = refl
-  send_leaves c (Some conn) = send_from_leaves c conn conn.hand
+  send_leaves c (Some conn) = send_from_leaves c conn conn.unsent
 
   -- a tenant whose pipelines stay
   keeps : (u : ℕ) (ten ten' : TenantState) → slice_get state.tenants u ≡ Some ten → ten'.pipelines ≡ ten.pipelines → Leaves (record state { tenants = slice_set state.tenants u ten' })
@@ -106,24 +106,24 @@ module _ (gens : Generations) (state : State) (t p : ℕ) where
   match_leaves u None at = refl
   match_leaves u (Some ten) at = keeps u ten (match_gathered gens u ten).0 at (match_keeps u ten.dispatch.gathered ten)
 
-  give_by : (u : ℕ) (ten : TenantState) → slice_get state.tenants u ≡ Some ten → (q : PipelineId) (x : PipelineItem) (hand : List (PipelineId × PipelineItem)) (pipe : Pipeline) → slice_get ten.pipelines q.0 ≡ Some pipe →
-      Leaves (record state { tenants = slice_set state.tenants u (record ten { dispatch = record ten.dispatch { items = hand; out = None }; pipelines = slice_set ten.pipelines q.0 (record pipe { triggers = pipe.triggers ++ x ∷ [] }) }) })
-  give_by u ten at q x hand pipe whose =
-      pipe_changes state state.connections t p u ten (record ten { dispatch = record ten.dispatch { items = hand; out = None }; pipelines = slice_set ten.pipelines q.0 (record pipe { triggers = pipe.triggers ++ x ∷ [] }) }) at
+  give_by : (u : ℕ) (ten : TenantState) → slice_get state.tenants u ≡ Some ten → (q : PipelineId) (x : PipelineItem) (unsent : List (PipelineId × PipelineItem)) (pipe : Pipeline) → slice_get ten.pipelines q.0 ≡ Some pipe →
+      Leaves (record state { tenants = slice_set state.tenants u (record ten { dispatch = record ten.dispatch { outbox = record { items = unsent; out = None } }; pipelines = slice_set ten.pipelines q.0 (record pipe { triggers = pipe.triggers ++ x ∷ [] }) }) })
+  give_by u ten at q x unsent pipe whose =
+      pipe_changes state state.connections t p u ten (record ten { dispatch = record ten.dispatch { outbox = record { items = unsent; out = None } }; pipelines = slice_set ten.pipelines q.0 (record pipe { triggers = pipe.triggers ++ x ∷ [] }) }) at
       q.0 pipe (record pipe { triggers = pipe.triggers ++ x ∷ [] }) whose refl (λ both. refl)
 
-  give_to_leaves : (u : ℕ) (ten : TenantState) → slice_get state.tenants u ≡ Some ten → (q : PipelineId) (x : PipelineItem) (hand : List (PipelineId × PipelineItem)) (o : Option Pipeline) → slice_get ten.pipelines q.0 ≡ o →
-      Leaves (record state { tenants = slice_set state.tenants u (give_to q x hand o ten).0 })
-  give_to_leaves u ten at q x hand None whose = keeps u ten ten at refl
-  give_to_leaves u ten at q x hand (Some pipe) whose = give_by u ten at q x hand pipe whose
+  give_to_leaves : (u : ℕ) (ten : TenantState) → slice_get state.tenants u ≡ Some ten → (q : PipelineId) (x : PipelineItem) (unsent : List (PipelineId × PipelineItem)) (o : Option Pipeline) → slice_get ten.pipelines q.0 ≡ o →
+      Leaves (record state { tenants = slice_set state.tenants u (give_to q x unsent o ten).0 })
+  give_to_leaves u ten at q x unsent None whose = keeps u ten ten at refl
+  give_to_leaves u ten at q x unsent (Some pipe) whose = give_by u ten at q x unsent pipe whose
 
-  give_from_leaves : (u : ℕ) (ten : TenantState) → slice_get state.tenants u ≡ Some ten → (hand : List (PipelineId × PipelineItem)) → Leaves (record state { tenants = slice_set state.tenants u (give_from hand ten).0 })
+  give_from_leaves : (u : ℕ) (ten : TenantState) → slice_get state.tenants u ≡ Some ten → (unsent : List (PipelineId × PipelineItem)) → Leaves (record state { tenants = slice_set state.tenants u (give_from unsent ten).0 })
   give_from_leaves u ten at [] = keeps u ten ten at refl
-  give_from_leaves u ten at (first ∷ hand) = give_to_leaves u ten at first.0 first.1 hand (slice_get ten.pipelines first.0.0) refl
+  give_from_leaves u ten at (first ∷ unsent) = give_to_leaves u ten at first.0 first.1 unsent (slice_get ten.pipelines first.0.0) refl
 
   give_leaves : (u : ℕ) (o : Option TenantState) → slice_get state.tenants u ≡ o → Leaves (with_tenant give u o state).0
   give_leaves u None at = refl
-  give_leaves u (Some ten) at = give_from_leaves u ten at ten.dispatch.items
+  give_leaves u (Some ten) at = give_from_leaves u ten at ten.dispatch.outbox.items
 
   -- a pipeline that changes, and its worker with it only if it is another one
   abbrev IsAnother : (Pipeline → Pipeline × Answer) → ℕ → ℕ → Type 0

@@ -8,7 +8,6 @@ pub mod Examples
 pub mod Fits
 pub mod Genuine
 pub mod Going
-pub mod Hands
 pub mod Holding
 pub mod InForce
 pub mod ItemsSeen
@@ -32,5 +31,6 @@ pub mod Takes
 pub mod Tenants
 pub mod TurnLines
 pub mod Turning
+pub mod Unsent
 pub mod Wholes
 pub mod Working

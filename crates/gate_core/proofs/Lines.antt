@@ -12,7 +12,8 @@ use Rattle.gate_core.specs.declared.script.Scripted.TheVariants as line
 use Rattle.gate_core.specs.declared.step.Step.{Step}
 use Rattle.gate_core.specs.Faults.{FailsScript}
 use Rattle.gate_core.specs.Inner.Replays.{PlaysLine, PlaysScript, played}
-use Rattle.gate_core.specs.Output.{answer_line, report_text}
+use Rattle.gate_core.specs.Output.{answer_line}
+use Rattle.gate_report_text.specs.ReportText.{report_text}
 use Rattle.gate_core.specs.Promises.{EveryRunDelivers}
 use Rattle.gate_core.specs.Replays.{script_lines, steps_in}
 use Rattle.gate_core.specs.Reports.{report_of}

@@ -18,7 +18,8 @@ use Rattle.gate_pipeline.specs.Histories.{stamp_in, stamp_of}
 use Rattle.gate_pipeline.specs.States.{Processed}
 use Rattle.gate_core.specs.declared.pipeline.Pipeline.{Pipeline}
 use Rattle.gate_core.specs.History.{History, accepted_in_force, accepted_records, done, finished, renewals}
-use Rattle.gate_delivery.specs.Wanted.{number_from, numbers_from, wanted}
+use Rattle.gate_record.specs.Stamps.{number_from, numbers_from}
+use Rattle.gate_delivery.specs.Wanted.{wanted}
 use Rattle.gate_record.specs.Prefixes.{IsPrefixOf}
 use Rattle.gate_core.specs.Promises.{Delivers}
 use Rattle.gate_core.specs.States.{TenantState, State}
@@ -26,7 +27,7 @@ use Rattle.gate_delivery.specs.Ways.{Way, number_of_item}
 use Rattle.gate_delivery.proofs.Delivering.{none_wanted, prefix as taken_in_order, whole as taken_whole}
 use Rattle.gate_delivery.proofs.Maps.{filter_map-filter_map, filter_map_same}
 use Rattle.gate_core.proofs.Fits.{waiting_items}
-use Rattle.gate_core.proofs.Streams.{Holds, PipeHolds, TenantHolds, count_of, generation_of, hand_of, on_way, pipe_of, queue_of}
+use Rattle.gate_core.proofs.Streams.{Holds, PipeHolds, TenantHolds, count_of, generation_of, unsent_of, on_way, pipe_of, queue_of}
 use Rattle.gate_core.proofs.Puts.{put_by}
 use Rattle.gate_record.specs.Entries.{beside}
 
@@ -53,17 +54,17 @@ module _ (own : EachGetsItsOwn) (lossless : NothingIsLost) (gens : Generations) 
   abbrev worked : PipeHolds gens.first h t p there.past.given pipe
   worked = there.pipes p pipe seat
 
-  abbrev in_hand : List PipelineItem
-  in_hand = items_for p there.past.state.items
+  abbrev none_out : List PipelineItem
+  none_out = items_for p there.past.state.outbox.items
 
-  pub all_chosen : worked.taken ++ (waiting_items pipe ++ in_hand) ≡ chosen gens t p there.past.done
+  pub all_chosen : worked.taken ++ (waiting_items pipe ++ none_out) ≡ chosen gens t p there.past.done
   all_chosen =
       let inside : p < length ten.pipelines = slice_get_within ten.pipelines p pipe seat in
       let count : length ten.pipelines ≡ length (pipelines_of gens.first t) = there.count in
-      sym (append_assoc worked.taken (waiting_items pipe) in_hand)
-      ∙ ap (λ xs. xs ++ in_hand) (sym worked.parts)
-      ∙ ap (λ o. items_for p there.past.given ++ items_for p (option_to_list o ++ there.past.state.items)) (sym there.in_hand)
-      ∙ sym (filter_map-append (item_for p) there.past.given (option_to_list there.past.out ++ there.past.state.items))
+      sym (append_assoc worked.taken (waiting_items pipe) none_out)
+      ∙ ap (λ xs. xs ++ none_out) (sym worked.parts)
+      ∙ ap (λ o. items_for p there.past.given ++ items_for p (option_to_list o ++ there.past.state.outbox.items)) (sym there.none_out)
+      ∙ sym (filter_map-append (item_for p) there.past.given (option_to_list there.past.out ++ there.past.state.outbox.items))
       ∙ own gens t p there.past (omega (arith, inside, count)) there.happens
 
   all_taken : there.past.taken ++ ten.queue ≡ there.past.done ++ (there.past.state.gathered ++ ten.queue)
@@ -73,11 +74,11 @@ module _ (own : EachGetsItsOwn) (lossless : NothingIsLost) (gens : Generations) 
   way = record {
     matched = there.past.done;
     unmatched = there.past.state.gathered ++ ten.queue;
-    unsent = items_to t (hand_of (slice_get state.connections c)) ++ on_way gens t c (generation_of (slice_get state.connections c)) (queue_of (slice_get state.connections c));
-    untaken = waiting_items pipe ++ in_hand;
+    unsent = items_to t (unsent_of (slice_get state.connections c)) ++ on_way gens t c (generation_of (slice_get state.connections c)) (queue_of (slice_get state.connections c));
+    untaken = waiting_items pipe ++ none_out;
     chooses = all_chosen;
     forwards =
-        ap (λ items. filter (is_from c) items ++ (items_to t (hand_of (slice_get state.connections c)) ++ on_way gens t c (generation_of (slice_get state.connections c)) (queue_of (slice_get state.connections c)))) (sym all_taken)
+        ap (λ items. filter (is_from c) items ++ (items_to t (unsent_of (slice_get state.connections c)) ++ on_way gens t c (generation_of (slice_get state.connections c)) (queue_of (slice_get state.connections c)))) (sym all_taken)
         ∙ there.ways c;
   }
 

@@ -82,7 +82,7 @@ module _ (own : EachGetsItsOwn) (lossless : NothingIsLost) (gens : Generations) 
 
   all_triggers : AllOf (TriggerIs (IsGenuine h)) worked.taken
   all_triggers =
-      all_front (TriggerIs (IsGenuine h)) worked.taken (waiting_items pipe ++ items_for p there.past.state.items)
+      all_front (TriggerIs (IsGenuine h)) worked.taken (waiting_items pipe ++ items_for p there.past.state.outbox.items)
       (subst (AllOf (TriggerIs (IsGenuine h))) (sym (all_chosen own lossless gens h state holds t p 0 ten pipe at seat)) (chosen_are (IsGenuine h) gens t p there.past.done all_matched))
 
   pub asked_there : (i : ℕ) (stamp : Option Stamp) (a : Action) → slice_get (processed_triggers t p h) i ≡ Some (stamp, a) → asked_by gens.first t p h stamp ≡ Some a

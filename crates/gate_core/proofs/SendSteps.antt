@@ -18,7 +18,7 @@ use Rattle.gate_tenant.specs.Dispatching.{conn_of_item, is_from}
 use Rattle.gate_delivery.proofs.Arrivals.{same_as_itself}
 use Rattle.gate_core.proofs.Sendings.{differs}
 use Rattle.gate_core.proofs.Spots.{AfterSet, after_set, another, it}
-use Rattle.gate_core.proofs.Streams.{AreOf, ConnHolds, ConnSame, Holds, PipeSame, TenantHolds, conn_same, conn_untouched, generation_of, hand_of, on_way, pipe_of, pipe_same, pipe_untouched, put_same, queue_of}
+use Rattle.gate_core.proofs.Streams.{AreOf, ConnHolds, ConnSame, Holds, PipeSame, TenantHolds, conn_same, conn_untouched, generation_of, unsent_of, on_way, pipe_of, pipe_same, pipe_untouched, put_same, queue_of}
 use Rattle.gate_core.proofs.Puts.{put_by}
 use Rattle.gate_delivery.proofs.Maps.{the_same}
 
@@ -41,12 +41,12 @@ from_another c d items item e differ =
     ∙ ap (λ b. filter (is_from d) items ++ cond b (item ∷ []) []) (ap (λ n. n == d) e ∙ differs c d differ) ∙ append-nil (filter (is_from d) items)
 
 module _ (gens : Generations) (h : History) (state : State) (d : ConnId) (k : ConnectionState) (first : TenantId × TenantItem) (rest : List (TenantId × TenantItem)) (ten : TenantState)
-    (at : slice_get state.connections d.0 ≡ Some k) (front : k.hand ≡ first ∷ rest) (whose : slice_get state.tenants first.0.0 ≡ Some ten) where
+    (at : slice_get state.connections d.0 ≡ Some k) (front : k.unsent ≡ first ∷ rest) (whose : slice_get state.tenants first.0.0 ≡ Some ten) where
   abbrev h' : History
   h' = h ++ (step.Send d, Moved) ∷ []
 
   abbrev k' : ConnectionState
-  k' = record k { hand = rest }
+  k' = record k { unsent = rest }
 
   abbrev ten' : TenantState
   ten' = record ten { queue = ten.queue ++ first.1 ∷ [] }
@@ -76,7 +76,7 @@ module _ (gens : Generations) (h : History) (state : State) (d : ConnId) (k : Co
       own.0
 
   abbrev Kept : ℕ → ℕ → History → Option ConnectionState → List TenantItem → Type 0
-  Kept t c past o items = filter (is_from c) items ++ (items_to t (hand_of o) ++ on_way gens t c (generation_of o) (queue_of o)) ≡ forwarded gens t c (put_by c past)
+  Kept t c past o items = filter (is_from c) items ++ (items_to t (unsent_of o) ++ on_way gens t c (generation_of o) (queue_of o)) ≡ forwarded gens t c (put_by c past)
 
   later : (t c : ℕ) (o : Option ConnectionState) (items : List TenantItem) → Kept t c h o items → Kept t c h' o items
   later t c o items kept = kept ∙ ap (forwarded gens t c) (put_same c h h' (conns_stay c))
@@ -94,7 +94,7 @@ module _ (gens : Generations) (h : History) (state : State) (d : ConnId) (k : Co
   kept_here c (another differ g) own items kept =
       let t = first.0.0 in
       subst (λ o. Kept t c h' o (items ++ first.1 ∷ [])) (sym g)
-      (ap (λ xs. xs ++ (items_to t (hand_of (slice_get state.connections c)) ++ on_way gens t c (generation_of (slice_get state.connections c)) (queue_of (slice_get state.connections c)))) (from_another d.0 c items first.1 own differ)
+      (ap (λ xs. xs ++ (items_to t (unsent_of (slice_get state.connections c)) ++ on_way gens t c (generation_of (slice_get state.connections c)) (queue_of (slice_get state.connections c)))) (from_another d.0 c items first.1 own differ)
       ∙ later t c (slice_get state.connections c) items kept)
 
   -- the others
@@ -114,7 +114,7 @@ module _ (gens : Generations) (h : History) (state : State) (d : ConnId) (k : Co
         past = old.past;
         happens = old.happens;
         now = old.now;
-        in_hand = old.in_hand;
+        none_out = old.none_out;
         count = old.count;
         pipes = λ p pipe seat. pipe_same gens h h' first.0.0 p old.past.given pipe (pipes_stay first.0.0 p) (old.pipes p pipe seat);
         ways = λ c.
@@ -127,7 +127,7 @@ module _ (gens : Generations) (h : History) (state : State) (d : ConnId) (k : Co
         past = old.past;
         happens = old.happens;
         now = old.now;
-        in_hand = old.in_hand;
+        none_out = old.none_out;
         count = old.count;
         pipes = λ p pipe seat. pipe_same gens h h' t p old.past.given pipe (pipes_stay t p) (old.pipes p pipe seat);
         ways = λ c. kept_elsewhere t c differ (after_set state.connections d.0 c k k' at) (old.past.taken ++ found.queue) (old.ways c);

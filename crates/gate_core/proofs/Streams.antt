@@ -34,9 +34,9 @@ abbrev pub queue_of : Option ConnectionState → List ConnEntry
 queue_of None = []
 queue_of (Some conn) = conn.queue
 
-abbrev pub hand_of : Option ConnectionState → List (TenantId × TenantItem)
-hand_of None = []
-hand_of (Some conn) = conn.hand
+abbrev pub unsent_of : Option ConnectionState → List (TenantId × TenantItem)
+unsent_of None = []
+unsent_of (Some conn) = conn.unsent
 
 abbrev pub count_of : Option ConnectionState → ℕ
 count_of None = 0
@@ -65,7 +65,7 @@ pub record ConnHolds (gens : Generations) (h : History) (c : ℕ) (o : Option Co
   pub waits : length (queue_of o) + count_by (has_taken c) h ≡ count_by (is_put c) h
   pub within : length (queue_of o) ≤ 4096
   pub there : c < length (connections_of gens.first) → is_some o ≡ true
-  pub own : AreOf c (hand_of o)
+  pub own : AreOf c (unsent_of o)
   pub renewed : renewals_of o ≡ renewals c h
   pub before : All (λ m. m ≤ length (accepted_records c h)) (renewals c h)
   -- all that was put
@@ -95,10 +95,10 @@ pub record TenantHolds (gens : Generations) (h : History) (conns : List Connecti
   pub past : Past
   pub happens : Happens gens t past
   pub now : past.state ≡ ten.dispatch
-  pub in_hand : past.out ≡ None
+  pub none_out : past.out ≡ None
   pub count : length ten.pipelines ≡ length (pipelines_of gens.first t)
   pub pipes : (p : ℕ) (pipe : Pipeline) → slice_get ten.pipelines p ≡ Some pipe → PipeHolds gens.first h t p past.given pipe
-  pub ways : (c : ℕ) → filter (is_from c) (past.taken ++ ten.queue) ++ (items_to t (hand_of (slice_get conns c)) ++ on_way gens t c (generation_of (slice_get conns c)) (queue_of (slice_get conns c))) ≡ forwarded gens t c (put_by c h)
+  pub ways : (c : ℕ) → filter (is_from c) (past.taken ++ ten.queue) ++ (items_to t (unsent_of (slice_get conns c)) ++ on_way gens t c (generation_of (slice_get conns c)) (queue_of (slice_get conns c))) ≡ forwarded gens t c (put_by c h)
 
 pub record Holds (gens : Generations) (h : History) (state : State) : Type 0 where
   pub laws : Laws
@@ -181,14 +181,14 @@ pipe_same gens h h' t p given pipe same holds = fits_same (sym same.turns) (sym 
 
 -- a tenant that the step leaves, where what the connections have for it stays the same
 pub tenant_same : (gens : Generations) (h h' : History) (conns conns' : List ConnectionState) (t : ℕ) (ten : TenantState) → ((p : ℕ) → PipeSame t p h h') →
-    ((c : ℕ) → (rest : List TenantItem) → rest ++ (items_to t (hand_of (slice_get conns c)) ++ on_way gens t c (generation_of (slice_get conns c)) (queue_of (slice_get conns c))) ≡ forwarded gens t c (put_by c h) →
-    rest ++ (items_to t (hand_of (slice_get conns' c)) ++ on_way gens t c (generation_of (slice_get conns' c)) (queue_of (slice_get conns' c))) ≡ forwarded gens t c (put_by c h')) →
+    ((c : ℕ) → (rest : List TenantItem) → rest ++ (items_to t (unsent_of (slice_get conns c)) ++ on_way gens t c (generation_of (slice_get conns c)) (queue_of (slice_get conns c))) ≡ forwarded gens t c (put_by c h) →
+    rest ++ (items_to t (unsent_of (slice_get conns' c)) ++ on_way gens t c (generation_of (slice_get conns' c)) (queue_of (slice_get conns' c))) ≡ forwarded gens t c (put_by c h')) →
     TenantHolds gens h conns t ten → TenantHolds gens h' conns' t ten
 tenant_same gens h h' conns conns' t ten pipes ways holds = record {
   past = holds.past;
   happens = holds.happens;
   now = holds.now;
-  in_hand = holds.in_hand;
+  none_out = holds.none_out;
   count = holds.count;
   pipes = λ p pipe at. pipe_same gens h h' t p holds.past.given pipe (pipes p) (holds.pipes p pipe at);
   ways = λ c. ways c (filter (is_from c) (holds.past.taken ++ ten.queue)) (holds.ways c);

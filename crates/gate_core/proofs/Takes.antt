@@ -25,11 +25,11 @@ none_left (x ∷ xs) e = let some : (suc (length xs) == 0) ≡ false = eqb-suc-z
 nothing_sent : (gens : Generations) (c g : ℕ) → sends gens c g entry.Renew ≡ []
 nothing_sent gens c g = filter_map_none _ (λ t. refl) (range_with_len 0 (length (tenants_of gens.first)))
 
-pub renewal_taken : (gens : Generations) (c : ℕ) (conn new : ConnectionState) (queue : List ConnEntry) → conn.hand ≡ [] → conn.queue ≡ entry.Renew ∷ queue → suc conn.generation < count_of gens →
+pub renewal_taken : (gens : Generations) (c : ℕ) (conn new : ConnectionState) (queue : List ConnEntry) → conn.unsent ≡ [] → conn.queue ≡ entry.Renew ∷ queue → suc conn.generation < count_of gens →
     new ≡ record conn { queue = queue; generation = suc conn.generation } → (new, Moved) ≡ take gens c conn
 renewal_taken gens c conn new queue empty front later e =
     let g = conn.generation in
-    let next : List (TenantId × TenantItem) → ConnectionState = λ hand. record conn { queue = queue; generation = suc g; hand = hand } in
+    let next : List (TenantId × TenantItem) → ConnectionState = λ unsent. record conn { queue = queue; generation = suc g; unsent = unsent } in
     ap (λ (k : ConnectionState). (k, Moved)) (e ∙ ap next (empty ∙ sym (nothing_sent gens c g)))
     ∙ sym (ap (λ b. if◌then◌else◌ {A = ConnectionState × Answer} b (conn, Idle) (next (sends gens c g entry.Renew), Moved)) (lt-leb (count_of gens) (suc g) later))
     ∙ sym (λ i. take_from gens c (empty i) (front i) conn)

@@ -1,5 +1,5 @@
 -- Steps of a tenant at work, by what its dispatch and one of its pipelines do.
-use Rattle.std.proofs.Common.{◌≡◌, ◌∙◌, sym, ap, refl, subst, ℕ, ◌+◌, ◌-◌, ◌≤◌, ◌==◌, List, [], ◌∷◌, ◌++◌, Bool, true, false, length, take, drop, Option, Some, None, Result, Ok, Err, slice_set, append-nil, append_assoc, arith, if◌then◌else◌}
+use Rattle.std.proofs.Common.{◌≡◌, ◌∙◌, sym, ap, subst, ℕ, ◌+◌, ◌-◌, ◌≤◌, ◌==◌, List, ◌++◌, Bool, true, false, length, take, drop, Some, None, Result, Ok, Err, slice_set, append-nil, append_assoc, arith, if◌then◌else◌}
 use Rattle.std.specs.Prelude.{slice_get}
 use Rattle.std.proofs.Math.Seq.{take-add}
 use Rattle.std.proofs.lemmas.List.{drop-drop, length-append}
@@ -8,7 +8,9 @@ use Rattle.gate_tenant.specs.Limits.{most_gathered}
 use Rattle.gate_record.specs.declared.memory.Memory.{Memory}
 use Rattle.gate_record.specs.declared.ids.PipelineId.{PipelineId}
 use Rattle.gate_record.specs.declared.transit.PipelineItem.{PipelineItem}
-use Rattle.gate_tenant.specs.States.{State as DispatchState, moved_out, put_back, room_of}
+use Rattle.gate_record.proofs.Outboxes.{IsOut, came_back}
+use Rattle.gate_record.specs.Outboxes.{Unsent, put_back}
+use Rattle.gate_tenant.specs.States.{State as DispatchState, room_of}
 use Rattle.gate_config.specs.declared.config.Config.{Config}
 use Rattle.gate_core.specs.Inner.Steps.{with_pipeline}
 use Rattle.gate_core.specs.declared.answer.Answer.{Answer}
@@ -57,7 +59,7 @@ one_more n tenant =
 
 -- these leave room for so many others
 pub room_after : (dispatch : DispatchState) (items : List TenantItem) (n : ℕ) → length items + n ≤ room_of dispatch → n ≤ room_of (record dispatch { gathered = dispatch.gathered ++ items })
-room_after dispatch items n room = by (length dispatch.items == 0) room
+room_after dispatch items n room = by (length dispatch.outbox.items == 0) room
   where
     more : length (dispatch.gathered ++ items) ≡ length dispatch.gathered + length items
     more = length-append dispatch.gathered items
@@ -66,40 +68,19 @@ room_after dispatch items n room = by (length dispatch.items == 0) room
     by true room' = omega (arith, more, room')
     by false room' = omega (arith, room')
 
--- what is known once the first item of the hand is out
-pub record IsOut (old new : DispatchState) (first : PipelineId × PipelineItem) : Type 0 where
-  pub items : old.items ≡ first ∷ new.items
-  pub out : new ≡ record old { items = new.items; out = Some first.0 }
-
-out_by : (items : List (PipelineId × PipelineItem)) (old new : DispatchState) (first : PipelineId × PipelineItem) → old.items ≡ items → (new, Some first) ≡ moved_out items old → IsOut old new first
-out_by [] old new first e moves =
-    let nothing : Some first ≡ None = ap (λ (m : DispatchState × Option (PipelineId × PipelineItem)). m.1) moves in
-    absurd (cc)
-out_by (x ∷ xs) old new first e moves =
-    let same : new ≡ record old { items = xs; out = Some x.0 } = ap (λ (m : DispatchState × Option (PipelineId × PipelineItem)). m.0) moves in
-    let it : Some first ≡ Some x = ap (λ (m : DispatchState × Option (PipelineId × PipelineItem)). m.1) moves in
-    let one : first ≡ x = cc in
-    let rest : new.items ≡ xs = ap (λ (s : DispatchState). s.items) same in
-    record {
-      items = e ∙ ap (λ y. y ∷ xs) (sym one) ∙ ap (λ ys. first ∷ ys) (sym rest);
-      out = same ∙ ap (λ ys. record old { items = ys; out = Some x.0 }) (sym rest) ∙ ap (λ (y : PipelineId × PipelineItem). record old { items = new.items; out = Some y.0 }) (sym one);
-    }
-
-pub is_out : (old new : DispatchState) (first : PipelineId × PipelineItem) → (new, Some first) ≡ moved_out old.items old → IsOut old new first
-is_out old new first moves = out_by old.items old new first refl moves
-
 -- the item that went out and came back leaves the dispatch as it was
-pub came_back : (old new : DispatchState) (first : PipelineId × PipelineItem) → old.out ≡ None → IsOut old new first → put_back first.1 new.out new ≡ old
-came_back old new first none out =
-    ap (λ (s : DispatchState). put_back first.1 s.out s) out.out
-    ∙ ap (λ ys. record old { items = ys; out = None }) (sym out.items) ∙ ap (λ o. record old { out = o }) (sym none)
+pub back_in : (old new back : DispatchState) (first : PipelineId × PipelineItem) → new ≡ record old { outbox = new.outbox } → old.outbox.out ≡ None → IsOut old.outbox new.outbox first →
+    back ≡ record new { outbox = put_back first.1 new.outbox.out new.outbox } → back ≡ old
+back_in old new back first rest none out fills =
+    fills ∙ ap (λ (outbox : Unsent PipelineId PipelineItem). record new { outbox = outbox }) (came_back old.outbox new.outbox first none out)
+    ∙ ap (λ (state : DispatchState). record state { outbox = old.outbox }) rest
 
 -- and where it was given, it is gone
-pub went : (old new : DispatchState) (first : PipelineId × PipelineItem) → IsOut old new first → record new { out = None } ≡ record old { items = new.items; out = None }
-went old new first out = ap (λ (s : DispatchState). record s { out = None }) out.out
+pub went : (old new : DispatchState) → new ≡ record old { outbox = new.outbox } → record new { outbox = record new.outbox { out = None } } ≡ record old { outbox = record { items = new.outbox.items; out = None } }
+went old new rest = ap (λ (state : DispatchState). record state { outbox = record { items = new.outbox.items; out = None } }) rest
 
-module _ (tenant : TenantState) (new : DispatchState) (first : PipelineId × PipelineItem) (out : IsOut tenant.dispatch new first)
+module _ (tenant : TenantState) (new : DispatchState) (first : PipelineId × PipelineItem) (out : IsOut tenant.dispatch.outbox new.outbox first)
     (pipeline : Pipeline) (at : slice_get tenant.pipelines first.0.0 ≡ Some pipeline) where
   -- the pipeline gets it
-  pub gives : give tenant ≡ (record tenant { dispatch = record tenant.dispatch { items = new.items; out = None }; pipelines = slice_set tenant.pipelines first.0.0 (with_item pipeline first.1) }, Moved)
-  gives = ap (λ xs. give_from xs tenant) out.items ∙ ap (λ o. give_to first.0 first.1 new.items o tenant) at
+  pub gives : give tenant ≡ (record tenant { dispatch = record tenant.dispatch { outbox = record { items = new.outbox.items; out = None } }; pipelines = slice_set tenant.pipelines first.0.0 (with_item pipeline first.1) }, Moved)
+  gives = ap (λ xs. give_from xs tenant) out.items ∙ ap (λ o. give_to first.0 first.1 new.outbox.items o tenant) at

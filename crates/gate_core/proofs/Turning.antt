@@ -68,7 +68,7 @@ module _ (gens : Generations) (h later : History) (state : State) (tid : TenantI
         past = old.past;
         happens = old.happens;
         now = old.now;
-        in_hand = old.in_hand;
+        none_out = old.none_out;
         count = length-set ten.pipelines pid.0 pipe' ∙ old.count;
         pipes = λ p found there. pipe_goes old.past.given p found (after_set ten.pipelines pid.0 p pipe pipe' whose) there new old.pipes;
         ways = λ c. old.ways c ∙ ap (forwarded gens tid.0 c) (put_same c h later (conns_stay c));

@@ -26,7 +26,7 @@ use Rattle.gate_delivery.proofs.Maps.{filter_map_push, filter_map_still, the_sam
 use Rattle.gate_core.proofs.Sendings.{differs}
 use Rattle.gate_core.proofs.Spots.{AfterSet, after_set, another, it}
 use Rattle.gate_core.proofs.Tenants.{room_after}
-use Rattle.gate_core.proofs.Streams.{ConnSame, Holds, PipeHolds, PipeSame, TenantHolds, conn_same, generation_of, hand_of, on_way, pipe_of, pipe_same, put_same, queue_of, tenant_same}
+use Rattle.gate_core.proofs.Streams.{ConnSame, Holds, PipeHolds, PipeSame, TenantHolds, conn_same, generation_of, unsent_of, on_way, pipe_of, pipe_same, put_same, queue_of, tenant_same}
 
 -- a tenant that changes, where nothing else does
 module _ (gens : Generations) (h h' : History) (state : State) (t0 : ℕ) (ten ten' : TenantState) (at : slice_get state.tenants t0 ≡ Some ten)
@@ -112,14 +112,14 @@ module _ (gens : Generations) (h : History) (state : State) (s : Step) (a : Answ
       dispatch_goes (with_gathered n ten) refl
       (record {
         past = gathering items old.past;
-        happens = gathers_all gens t items old.past old.happens old.in_hand (subst (λ (d : DispatchState). length items ≤ room_of d) (sym old.now) (within n ten.queue (room_of ten.dispatch) room))
+        happens = gathers_all gens t items old.past old.happens old.none_out (subst (λ (d : DispatchState). length items ≤ room_of d) (sym old.now) (within n ten.queue (room_of ten.dispatch) room))
             (subst (λ (d : DispatchState). has_ended gens.first t d ≡ false) (sym old.now) goes_on);
         now = ap (λ (d : DispatchState). record d { gathered = d.gathered ++ items }) old.now;
-        in_hand = old.in_hand;
+        none_out = old.none_out;
         count = old.count;
         pipes = λ p pipe there. pipe_same gens h h1 t p old.past.given pipe ((inside h).1 t p) (old.pipes p pipe there);
         ways = λ c.
-            ap (λ xs. filter (is_from c) xs ++ (items_to t (hand_of (slice_get state.connections c)) ++ on_way gens t c (generation_of (slice_get state.connections c)) (queue_of (slice_get state.connections c))))
+            ap (λ xs. filter (is_from c) xs ++ (items_to t (unsent_of (slice_get state.connections c)) ++ on_way gens t c (generation_of (slice_get state.connections c)) (queue_of (slice_get state.connections c))))
             (append_assoc old.past.taken items (drop n ten.queue) ∙ ap (λ xs. old.past.taken ++ xs) (take-append-drop n ten.queue))
             ∙ old.ways c ∙ ap (forwarded gens t c) (put_same c h h1 ((inside h).0 c));
       }) holds
@@ -132,20 +132,20 @@ module _ (gens : Generations) (h : History) (state : State) (s : Step) (a : Answ
         past = record old.past { state = matched gens t old.past.state; done = old.past.done ++ old.past.state.gathered };
         happens = matches old.happens (subst (λ (d : DispatchState). (length d.gathered == 0) ≡ false) (sym old.now) some);
         now = ap (matched gens t) old.now;
-        in_hand = old.in_hand;
+        none_out = old.none_out;
         count = old.count;
         pipes = λ p pipe there. pipe_same gens h h1 t p old.past.given pipe ((inside h).1 t p) (old.pipes p pipe there);
         ways = λ c. old.ways c ∙ ap (forwarded gens t c) (put_same c h h1 ((inside h).0 c));
       }) holds
 
--- the first item of the hand is given
+-- the first item of the outbox is given
 module _ (gens : Generations) (h : History) (state : State) (s : Step) (a : Answer) (t : ℕ) (ten : TenantState) (at : slice_get state.tenants t ≡ Some ten) (inside : IsInside s a)
-    (first : PipelineId × PipelineItem) (items : List (PipelineId × PipelineItem)) (pipe : Pipeline) (front : ten.dispatch.items ≡ first ∷ items) (whose : slice_get ten.pipelines first.0.0 ≡ Some pipe) where
+    (first : PipelineId × PipelineItem) (items : List (PipelineId × PipelineItem)) (pipe : Pipeline) (front : ten.dispatch.outbox.items ≡ first ∷ items) (whose : slice_get ten.pipelines first.0.0 ≡ Some pipe) where
   abbrev pipe' : Pipeline
   pipe' = with_item pipe first.1
 
   abbrev after_giving : TenantState
-  after_giving = record ten { dispatch = record ten.dispatch { items = items; out = None }; pipelines = slice_set ten.pipelines first.0.0 pipe' }
+  after_giving = record ten { dispatch = record ten.dispatch { outbox = record { items = items; out = None } }; pipelines = slice_set ten.pipelines first.0.0 pipe' }
 
   for_it : (p : ℕ) → first.0.0 ≡ p → item_for p first ≡ Some first.1
   for_it p e = subst (λ n. item_for n first ≡ Some first.1) e (ap (λ b. if b then Some first.1 else None) (same_as_itself first.0.0))
@@ -172,13 +172,13 @@ module _ (gens : Generations) (h : History) (state : State) (s : Step) (a : Answ
   given_holds holds =
       let h' = h ++ (s, a) ∷ [] in
       let old = holds.tenants t ten at in
-      let waits : old.past.state.items ≡ first ∷ items = ap (λ (d : DispatchState). d.items) old.now ∙ front in
+      let waits : old.past.state.outbox.items ≡ first ∷ items = ap (λ (d : DispatchState). d.outbox.items) old.now ∙ front in
       tenant_goes_on gens h h' state t ten after_giving at (inside h).0 (λ u p differ. (inside h).1 u p)
       (record {
-        past = record old.past { state = record (record old.past.state { items = items; out = Some first.0 }) { out = None }; given = old.past.given ++ first ∷ []; out = None };
-        happens = gives (moves old.happens old.in_hand waits) refl;
-        now = ap (λ (d : DispatchState). record d { items = items; out = None }) old.now;
-        in_hand = refl;
+        past = record old.past { state = record old.past.state { outbox = record { items = items; out = None } }; given = old.past.given ++ first ∷ []; out = None };
+        happens = gives (moves old.happens old.none_out waits) refl;
+        now = ap (λ (d : DispatchState). record d { outbox = record { items = items; out = None } }) old.now;
+        none_out = refl;
         count = length-set ten.pipelines first.0.0 pipe' ∙ old.count;
         pipes = λ p found there. given_pipe h' old.past.given p found (after_set ten.pipelines first.0.0 p pipe pipe' whose) there ((inside h).1 t p) old.pipes;
         ways = λ c. old.ways c ∙ ap (forwarded gens t c) (put_same c h h' ((inside h).0 c));

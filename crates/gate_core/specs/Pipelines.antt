@@ -1,4 +1,4 @@
--- Posts to a pipeline, and its turns.
+-- Posts to a pipeline, and the turns of its worker.
 use Rattle.std.specs.Prelude.{ℕ, List, [], ◌∷◌, ◌++◌, Option, Some, None, if◌then◌else◌}
 use Rattle.gate_record.specs.declared.transit.PipelineItem.{PipelineItem}
 use Rattle.gate_config.specs.declared.config.Config.{Config}
@@ -13,7 +13,7 @@ use Rattle.gate_pipeline.specs.States.{Processed, first_state, found_empty, held
 use Rattle.gate_core.specs.declared.answer.Answer.{Answer}
 use Rattle.gate_core.specs.declared.answer.Answer.TheVariants.{Full, Idle, Moved, Passed, Turned}
 use Rattle.gate_core.specs.declared.pipeline.Pipeline.{Pipeline}
-use Rattle.gate_report.specs.Limits.{has_place}
+use Rattle.gate_record.specs.Limits.{has_place}
 
 -- pipeline p of tenant t before anything came
 abbrev pub fresh_pipeline : Config → ℕ → ℕ → Pipeline
@@ -29,7 +29,7 @@ post_result ended pipe = if has_place pipe.results then (record pipe { results =
 
 -- ---- turns
 
--- what a turn finds: nothing to do, an empty queue, or something to hand to the worker, which leaves the queues so
+-- What a turn finds: nothing to do, an empty queue, or a value for the worker and the queues without it
 pub data Found : Type 0 where
   Nothing : Found
   Emptiness : Found
@@ -47,7 +47,7 @@ abbrev pub first_triggered : List PipelineItem → Pipeline → Found
 first_triggered [] pipe = Emptiness
 first_triggered (item ∷ rest) pipe = Something (taken.Trigger item) (record pipe { triggers = rest })
 
--- where the worker wants this
+-- what a turn finds where the worker wants this
 abbrev pub found_where : Which → Pipeline → Found
 found_where which.Finished pipe = Nothing
 found_where which.Held pipe = Something taken.Again pipe
@@ -58,12 +58,12 @@ found_where which.Trigger pipe = first_triggered pipe.triggers pipe
 abbrev pub found : Pipeline → Found
 found pipe = found_where (next_of pipe.worker) pipe
 
--- the answer to what was processed; the end mark is no action
+-- The answer to a turn that processed this. The end mark is no action
 abbrev pub answer_of : Option Processed → Answer
 answer_of None = Moved
 answer_of (Some (stamp, action, outcome)) = Turned stamp action outcome
 
--- the worker gets this
+-- the worker gets this value
 abbrev pub took : Config → Taken → Pipeline → Pipeline × Answer
 took config given pipe = (record pipe { worker = (takes config pipe.worker given).0 }, answer_of (takes config pipe.worker given).1)
 
@@ -79,12 +79,12 @@ turned_by config (Something given left) pipe = took config given left
 abbrev pub turned : Config → Pipeline → Pipeline × Answer
 turned config pipe = turned_by config (found pipe) pipe
 
--- where memory was refused, what was to be processed of this is held; where nothing was, all is as it was
+-- Memory was refused: what was to be processed is held, and where nothing was, all is as before
 abbrev pub holding : Option Held → Taken → Pipeline → Pipeline → Pipeline
 holding None given left pipe = pipe
 holding (Some waiting) given left pipe = record left { worker = held_as (Some waiting) (taken_in given left.worker) }
 
--- what a turn leaves that is refused memory
+-- the pipeline that a turn leaves when it is refused memory
 abbrev pub refused_by : Found → Pipeline → Pipeline
 refused_by Nothing pipe = pipe
 refused_by Emptiness pipe = pipe

@@ -1,4 +1,4 @@
--- What is printed of the queue items of a pipeline and of what it reported.
+-- What is printed of the queue items of a pipeline, and of what it reported.
 use Rattle.std.specs.Prelude.{ℕ, ℤ, List, ◌++◌, Bool, true, false, Option, Some, None, codes, decimal, flat_map, length}
 use Rattle.std.specs.Fmt.{signed_decimal}
 use Rattle.gate_record.specs.Names.{name_text}
@@ -7,17 +7,17 @@ use Rattle.gate_items.specs.declared.item.Report.{Report}
 use Rattle.gate_items.specs.declared.key.Key.{Key}
 use Rattle.gate_items.specs.declared.key.Key.TheVariants as key
 use Rattle.gate_items.specs.Machine.{State}
-use Rattle.gate_core.specs.Output.{number_text}
+use Rattle.gate_line.specs.Words.{spaced_number}
 
--- a name behind a space
+-- a space and a name
 abbrev pub quoted : List ℕ → List ℕ
 quoted name = codes " " ++ name_text name
 
 abbrev pub change_text : ℕ → ℤ → List ℕ
-change_text conn number = codes "change" ++ (number_text conn ++ (codes " " ++ signed_decimal number))
+change_text conn number = codes "change" ++ (spaced_number conn ++ (codes " " ++ signed_decimal number))
 
 abbrev pub ref_text : ℕ → List ℕ → List ℕ → List ℕ → List ℕ
-ref_text conn project refname newrev = (codes "ref" ++ number_text conn) ++ (quoted newrev ++ (quoted refname ++ quoted project))
+ref_text conn project refname newrev = (codes "ref" ++ spaced_number conn) ++ (quoted newrev ++ (quoted refname ++ quoted project))
 
 abbrev pub key_text : Key → List ℕ
 key_text (key.Change conn number) = change_text conn.0 number
@@ -57,7 +57,7 @@ counts_line items reports = codes "shown " ++ decimal items ++ codes " " ++ deci
 abbrev pub items_text : State → List ℕ
 items_text items = counts_line (length items.items) (length items.reported) ++ (flat_map item_line items.items ++ flat_map report_line items.reported)
 
--- of a pipeline that isn't there nothing is
+-- the text where there is such a pipeline, and `idle` where there isn't
 abbrev pub shown_text : Option State → List ℕ
 shown_text None = codes "idle\n"
 shown_text (Some items) = items_text items

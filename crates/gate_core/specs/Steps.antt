@@ -1,5 +1,5 @@
--- The state after a step, and what the step answers: the core as a machine over plain lists, with any number of
--- connections, tenants and pipelines.
+-- The core as a machine over plain lists: the state after each step, and the step's answer, with any number of connections, tenants and
+-- pipelines.
 use Rattle.std.specs.Prelude.{ℕ, suc, ◌+◌, ◌==◌, List, [], ◌∷◌, ◌++◌, Bool, true, false, nat_le, min, length, map, Option, Some, None, slice_get, slice_set, if◌then◌else◌}
 use Rattle.std.specs.List.{range_with_len}
 use Rattle.gate_record.specs.declared.ids.PipelineId.{PipelineId}
@@ -22,14 +22,14 @@ use Rattle.gate_core.specs.declared.pipeline.Pipeline.{Pipeline}
 use Rattle.gate_core.specs.declared.step.Step.{Step}
 use Rattle.gate_core.specs.declared.step.Step.TheVariants as step
 use Rattle.gate_core.specs.History.{turn_of}
-use Rattle.gate_report.specs.Limits.{has_place}
+use Rattle.gate_record.specs.Limits.{has_place}
 use Rattle.gate_core.specs.Pipelines.{fresh_pipeline, post_manage, post_result, refused, turned}
 use Rattle.gate_core.specs.States.{ConnectionState, TenantState, State, with_gathered}
 
 -- ---- the state in which nothing was offered yet
 
 abbrev pub new_connection : ConnectionState
-new_connection = record { accepted = 0; renewals = []; closed = false; queue = []; generation = 0; hand = [] }
+new_connection = record { accepted = 0; renewals = []; closed = false; queue = []; generation = 0; unsent = [] }
 
 abbrev pub new_tenant : Config → ℕ → TenantState
 new_tenant config t = record { queue = []; dispatch = first_state config t; pipelines = map (fresh_pipeline config t) (range_with_len 0 (length (pipelines_of config t))) }
@@ -42,7 +42,7 @@ first gens = record {
 
 -- ---- a part of something does something
 
--- What was found moves and answers, and the whole has it then. Where nothing was found, all stays.
+-- The part that was found moves and answers, and the whole gets the moved part. Where no part was found, all stays as it is.
 abbrev pub move_at : {Whole Part : Type 0} → (Part → Whole) → (Part → Part × Answer) → Option Part → Whole → Whole × Answer
 move_at with move None whole = (whole, Idle)
 move_at with move (Some part) whole = (with (move part).0, (move part).1)
@@ -61,7 +61,7 @@ close conn =
     if conn.closed then (conn, Closed)
     else (if has_place conn.queue then (record conn { closed = true; queue = conn.queue ++ entry.End ∷ [] }, Moved) else (conn, Full))
 
--- the next of so many generations is put in force for what comes behind; `Idle` where the last one is
+-- The next of `count` generations is put in force for the records that follow. The answer is `Idle` where the last one is in force already
 abbrev pub renew : ℕ → ConnectionState → ConnectionState × Answer
 renew count conn =
     if conn.closed then (conn, Closed)
@@ -70,37 +70,37 @@ renew count conn =
     then (record conn { renewals = conn.renewals ++ conn.accepted ∷ []; queue = conn.queue ++ entry.Renew ∷ [] }, Moved)
     else (conn, Full)))
 
--- the mark of a renewal behind the last generation, which is never put
+-- the entry is the mark of a renewal beyond the last generation, which is never put
 abbrev pub is_past : Generations → ℕ → ConnEntry → Bool
 is_past gens g (entry.Numbered n line) = false
 is_past gens g entry.Renew = nat_le (count_of gens) (suc g)
 is_past gens g entry.End = false
 
--- with these in the forwarder's hand, and these in the queue
+-- the step `take`, with these items in the forwarder's outbox and these entries in the queue
 abbrev pub take_from : Generations → ℕ → List (TenantId × TenantItem) → List ConnEntry → ConnectionState → ConnectionState × Answer
-take_from gens c (item ∷ hand) queue conn = (conn, Idle)
+take_from gens c (item ∷ unsent) queue conn = (conn, Idle)
 take_from gens c [] [] conn = (conn, Idle)
 take_from gens c [] (entry ∷ queue) conn =
     if is_past gens conn.generation entry then (conn, Idle)
-    else (record conn { queue = queue; generation = behind conn.generation entry; hand = sends gens c conn.generation entry }, Moved)
+    else (record conn { queue = queue; generation = behind conn.generation entry; unsent = sends gens c conn.generation entry }, Moved)
 
 abbrev pub take : Generations → ℕ → ConnectionState → ConnectionState × Answer
-take gens c conn = take_from gens c conn.hand conn.queue conn
+take gens c conn = take_from gens c conn.unsent conn.queue conn
 
 -- ---- steps of a tenant
 
--- how many items a fetch of `count` gathers: as many as wait, and as there is room for; none once all end marks were matched
+-- how many items a fetch of `count` gathers: as many as wait and as there is room for, and none once all end marks were matched
 abbrev pub fetched : Config → ℕ → ℕ → TenantState → ℕ
 fetched config t count tenant = if has_ended config t tenant.dispatch then 0 else min (min count (room_of tenant.dispatch)) (length tenant.queue)
 
--- where so many are gathered
+-- the step `fetch` that gathers n items
 abbrev pub fetch_first : ℕ → TenantState → TenantState × Answer
 fetch_first n tenant = if n == 0 then (tenant, Idle) else (with_gathered n tenant, Moved)
 
 abbrev pub fetch : Config → ℕ → ℕ → TenantState → TenantState × Answer
 fetch config t count tenant = fetch_first (fetched config t count tenant) tenant
 
--- with these gathered
+-- the step `match`, with these items gathered
 abbrev pub match_from : Generations → ℕ → List TenantItem → TenantState → TenantState × Answer
 match_from gens t [] tenant = (tenant, Idle)
 match_from gens t (item ∷ items) tenant = (record tenant { dispatch = matched gens t tenant.dispatch }, Moved)
@@ -108,29 +108,29 @@ match_from gens t (item ∷ items) tenant = (record tenant { dispatch = matched 
 abbrev pub match_gathered : Generations → ℕ → TenantState → TenantState × Answer
 match_gathered gens t tenant = match_from gens t tenant.dispatch.gathered tenant
 
--- the pipeline with the item at the back of its queue
+-- the pipeline after the item was put at the back of its queue
 abbrev pub with_item : Pipeline → PipelineItem → Pipeline
 with_item pipeline item = record pipeline { triggers = pipeline.triggers ++ item ∷ [] }
 
--- with this pipeline, whose item is the first of the hand
+-- the step `give`, with the pipeline that is to get the first item of the outbox
 abbrev pub give_to : PipelineId → PipelineItem → List (PipelineId × PipelineItem) → Option Pipeline → TenantState → TenantState × Answer
-give_to p item hand None tenant = (tenant, Idle)
-give_to p item hand (Some pipeline) tenant =
-    (record tenant { dispatch = record tenant.dispatch { items = hand; out = None }; pipelines = slice_set tenant.pipelines p.0 (with_item pipeline item) }, Moved)
+give_to p item unsent None tenant = (tenant, Idle)
+give_to p item unsent (Some pipeline) tenant =
+    (record tenant { dispatch = record tenant.dispatch { outbox = record { items = unsent; out = None } }; pipelines = slice_set tenant.pipelines p.0 (with_item pipeline item) }, Moved)
 
--- with these in the hand
+-- the step `give`, with these items in the outbox
 abbrev pub give_from : List (PipelineId × PipelineItem) → TenantState → TenantState × Answer
 give_from [] tenant = (tenant, Idle)
-give_from (first ∷ hand) tenant = give_to first.0 first.1 hand (slice_get tenant.pipelines first.0.0) tenant
+give_from (first ∷ unsent) tenant = give_to first.0 first.1 unsent (slice_get tenant.pipelines first.0.0) tenant
 
 abbrev pub give : TenantState → TenantState × Answer
-give tenant = give_from tenant.dispatch.items tenant
+give tenant = give_from tenant.dispatch.outbox.items tenant
 
--- a post to the pipeline of number p, or a turn of it
+-- a post to pipeline p, or a turn of it
 abbrev pub on_pipeline : (Pipeline → Pipeline × Answer) → ℕ → TenantState → TenantState × Answer
 on_pipeline move p tenant = move_at (λ pipe. record tenant { pipelines = slice_set tenant.pipelines p pipe }) move (slice_get tenant.pipelines p) tenant
 
--- a turn of this pipeline that is refused memory
+-- the tenant after a turn of this pipeline was refused memory
 abbrev pub with_refused : ℕ → Option Pipeline → TenantState → TenantState
 with_refused p None tenant = tenant
 with_refused p (Some pipe) tenant = record tenant { pipelines = slice_set tenant.pipelines p (refused pipe) }
@@ -138,7 +138,7 @@ with_refused p (Some pipe) tenant = record tenant { pipelines = slice_set tenant
 abbrev pub refused_turn : ℕ → TenantState → TenantState
 refused_turn p tenant = with_refused p (slice_get tenant.pipelines p) tenant
 
--- ---- steps of a world; an id out of range finds nothing to do
+-- ---- steps of a world, where an id out of range finds nothing to do
 
 abbrev pub on_connection : (ConnectionState → ConnectionState × Answer) → ℕ → State → State × Answer
 on_connection move c state = move_at (λ conn. record state { connections = slice_set state.connections c conn }) move (slice_get state.connections c) state
@@ -146,20 +146,20 @@ on_connection move c state = move_at (λ conn. record state { connections = slic
 abbrev pub on_tenant : (TenantState → TenantState × Answer) → ℕ → State → State × Answer
 on_tenant move t state = move_at (λ tenant. record state { tenants = slice_set state.tenants t tenant }) move (slice_get state.tenants t) state
 
--- the item goes to the back of the tenant's queue, and the others stay in the hand
+-- the item goes to the back of the tenant's queue, and the others stay in the forwarder's outbox
 abbrev pub send_to : ℕ → ConnectionState → ℕ → TenantItem → List (TenantId × TenantItem) → Option TenantState → State → State × Answer
-send_to c conn t item hand None state = (state, Idle)
-send_to c conn t item hand (Some tenant) state =
-    (record { connections = slice_set state.connections c (record conn { hand = hand }); tenants = slice_set state.tenants t (record tenant { queue = tenant.queue ++ item ∷ [] }) }, Moved)
+send_to c conn t item unsent None state = (state, Idle)
+send_to c conn t item unsent (Some tenant) state =
+    (record { connections = slice_set state.connections c (record conn { unsent = unsent }); tenants = slice_set state.tenants t (record tenant { queue = tenant.queue ++ item ∷ [] }) }, Moved)
 
--- with these in the forwarder's hand
+-- the step `send`, with these items in the forwarder's outbox
 abbrev pub send_from : ℕ → ConnectionState → List (TenantId × TenantItem) → State → State × Answer
 send_from c conn [] state = (state, Idle)
-send_from c conn (first ∷ hand) state = send_to c conn first.0.0 first.1 hand (slice_get state.tenants first.0.0) state
+send_from c conn (first ∷ unsent) state = send_to c conn first.0.0 first.1 unsent (slice_get state.tenants first.0.0) state
 
 abbrev pub send_of : ℕ → Option ConnectionState → State → State × Answer
 send_of c None state = (state, Idle)
-send_of c (Some conn) state = send_from c conn conn.hand state
+send_of c (Some conn) state = send_from c conn conn.unsent state
 
 abbrev pub send : ℕ → State → State × Answer
 send c state = send_of c (slice_get state.connections c) state
@@ -178,7 +178,7 @@ step_of gens state (step.PostManage t p manage) = on_tenant (on_pipeline (post_m
 step_of gens state (step.PostResult t p ended) = on_tenant (on_pipeline (post_result ended) p.0) t.0 state
 step_of gens state (step.Turn t p) = on_tenant (on_pipeline (turned gens.first) p.0) t.0 state
 
--- the state that a step leaves that is refused memory: as it was, save that a turn holds what it took, and has counted it in
+-- the state that a step leaves when it is refused memory: the old one, save that a turn holds what it took, and has counted the taking in
 -- its phase
 abbrev pub refused_in : ℕ → ℕ → Option TenantState → State → State
 refused_in t p None state = state

@@ -1,29 +1,29 @@
+//! A connection at work in the core: its queue, the steps of its reader, and the taking of its forwarder.
 ghost use Rattle.std.specs.Prelude.{◌≡◌, ◌<◌, ◌+◌, ◌^◌, None};
-ghost use Rattle.gate_report.specs.Limits.{places};
-ghost use Rattle.gate_forward.specs.Hands.{hand_of};
+ghost use Rattle.gate_record.specs.Limits.{places};
+ghost use Rattle.gate_forward.specs.States.{state_of as forward_state};
 
 use crate::answer::Answer;
 use gate_config::Generations;
 use gate_forward::{Forward, Last};
-use gate_record::{ConnEntry, ConnId, Memory, Record};
-use gate_report::PLACES;
+use gate_record::{ConnEntry, ConnId, Memory, PLACES, Record};
 use std::alloc::Global;
 use std::collections::VecDeque;
 
-/// What the reader or the forwarder of a connection does by itself.
+/// A step of the reader or of the forwarder of a connection that touches nothing but the connection.
 #[derive(Drop)]
 pub enum ConnectionStep {
     /// The reader offers a record.
     Offer(Record),
     /// The reader puts the end mark.
     Close,
-    /// The reader puts the mark of the next of so many generations.
+    /// The reader puts the mark of the next generation. The number is that of all generations.
     Renew(u32),
     /// The forwarder takes the next entry.
     Take,
 }
 
-/// A connection at work: its queue, and its forwarder with what that has still to send.
+/// A connection at work: its queue, and its forwarder with the items that it has still to send.
 #[derive(Drop)]
 pub struct Connection<'c> {
     /// How many records were accepted.
@@ -32,12 +32,12 @@ pub struct Connection<'c> {
     pub renewals: Vec<u64>,
     /// Whether the end mark was put.
     pub closed: bool,
-    /// What waits for the forwarder, at most 4,096 entries.
+    /// The entries that wait for the forwarder, at most 4,096.
     pub queue: VecDeque<ConnEntry>,
-    /// The forwarder's hand.
+    /// The forwarder, with the items that it holds.
     pub forward: Forward<'c>,
-    /// Between two steps no item is out of the hand.
-    pub ghost in_hand: { (hand_of forward).out ≡ None },
+    /// The proof needs this: between two steps, the forwarder has lent out no item of its outbox.
+    pub ghost none_out: { (forward_state forward).outbox.out ≡ None },
 }
 
 impl<'c> Connection<'c> {
@@ -50,7 +50,7 @@ impl<'c> Connection<'c> {
     ghost use Rattle.gate_core.specs.Views.{connection_view};
     ghost use Rattle.gate_core.specs.Inner.Views.{HasNumberLeft, gens_of_connection, number_of_connection};
 
-    /// The connection of this number before any record came. It takes no memory.
+    /// The connection of this number before any record came. The call takes no memory.
     pub fn new(alloc: Global, gens: &'c Generations, conn: ConnId) -> Connection<'c>
         ensures gens { gens_of_connection result ≡ gens.entry.now }
         ensures number { number_of_connection result ≡ conn.0 }
@@ -81,8 +81,7 @@ impl<'c> Connection<'c> {
         }
     }
 
-    // Accepts a record with the next number: `Closed` behind the end mark, `Full` where 4,096 entries wait. Where memory
-    // is refused, all is as before, as in each step.
+    // Accepts a record with the next number. The answer is `Closed` after the end mark, and `Full` where 4,096 entries wait.
     fn offer(&mut self, line: Record) -> Result<Answer, Memory>
         requires { (connection_view self.old).accepted + 1 < 2 ^ 64 }
         ensures gens { gens_of_connection self.new ≡ gens_of_connection self.old }
@@ -101,7 +100,7 @@ impl<'c> Connection<'c> {
         Ok(Answer::Accepted(number))
     }
 
-    // Puts the end mark, behind all records.
+    // Puts the end mark after all records.
     fn close(&mut self) -> Result<Answer, Memory>
         ensures gens { gens_of_connection self.new ≡ gens_of_connection self.old }
         ensures number { number_of_connection self.new ≡ number_of_connection self.old }
@@ -118,7 +117,8 @@ impl<'c> Connection<'c> {
         Ok(Answer::Moved)
     }
 
-    // Puts the mark behind which the next of so many generations is in force: `Idle` where the last one is.
+    // Puts the mark of the next generation. `count` is the number of all generations. The answer is `Idle` where the last one is in force
+    // already.
     fn renew(&mut self, count: u32) -> Result<Answer, Memory>
         ensures gens { gens_of_connection self.new ≡ gens_of_connection self.old }
         ensures number { number_of_connection self.new ≡ number_of_connection self.old }
@@ -139,7 +139,7 @@ impl<'c> Connection<'c> {
         Ok(Answer::Moved)
     }
 
-    // Takes the next entry into the forwarder's empty hand, and reads it there, once.
+    // Takes the next entry into the forwarder's empty outbox. A record is read there, once.
     fn take(&mut self, alloc: Global) -> Result<Answer, Memory>
         ensures gens { gens_of_connection self.new ≡ gens_of_connection self.old }
         ensures number { number_of_connection self.new ≡ number_of_connection self.old }

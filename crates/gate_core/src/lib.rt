@@ -1,4 +1,5 @@
-//! The deterministic core: how a record goes from its connection to the pipelines that select it, step by step.
+//! The deterministic core, which `gate replay` runs in one thread: how a record goes from its connection to the pipelines that select it,
+//! step by step.
 #![tactic(auto)]
 
 mod answer;
@@ -21,9 +22,10 @@ mod world;
 
 pub use answer::Answer;
 pub use gate_delivery::{each_way_delivers, what_is_wanted_arrives};
-pub use gate_report::{ConnectionReport, EndCause, PLACES, PipelineReport, RunReport};
+pub use gate_record::PLACES;
+pub use gate_report::{ConnectionReport, EndCause, PipelineReport, RunReport};
+pub use gate_report_text::report_text;
 pub use laws::{each_record_has_its_generation, every_chain_delivers, every_run_delivers};
-pub use output::report_text;
 pub use replaying::{ReplayFault, replay};
 pub use script::{ScriptFault, Scripted, read_script};
 pub use script_lines::read_script_line;

@@ -1,13 +1,13 @@
+//! A pipeline at work in the core: its three queues, what is posted into two of them, and the turns of its worker.
 ghost use Rattle.std.specs.Prelude.{◌≡◌};
-ghost use Rattle.gate_report.specs.Limits.{places};
+ghost use Rattle.gate_record.specs.Limits.{places};
 ghost use Rattle.gate_pipeline.specs.States.{asked, next_of};
 
 use crate::answer::Answer;
 use gate_config::Config;
 use gate_items::{JobResult, Manage};
-use gate_pipeline::{Pipeline as Worker, Taken, Which};
-use gate_record::{Memory, PipelineId, PipelineItem, Queue, TenantId};
-use gate_report::PLACES;
+use gate_pipeline::{Taken, Which};
+use gate_record::{Memory, PLACES, PipelineId, PipelineItem, Queue, TenantId};
 use std::alloc::Global;
 
 /// A post to a pipeline, or a turn of its worker.
@@ -17,21 +17,21 @@ pub enum PipelineStep {
     PostManage(Manage),
     /// Somebody posts a result.
     PostResult(JobResult),
-    /// The worker processes what it holds, or takes one value of its phase's queue, or finds it empty.
+    /// The worker processes the event that it holds, or takes one value of its phase's queue, or finds that queue empty.
     Turn,
 }
 
-/// A pipeline at work: what waits for it, of management events and of results at most 4,096 each, and its worker.
+/// A pipeline at work: its queues and its worker. Of management events and of results at most 4,096 each wait.
 #[derive(Drop)]
 pub struct Pipeline {
-    /// The queue of management events.
+    /// The management events that wait.
     pub management: Queue<Manage>,
-    /// The queue of results.
+    /// The results that wait.
     pub results: Queue<JobResult>,
-    /// The trigger queue.
+    /// The trigger events that wait, and at the end the end mark.
     pub triggers: Queue<PipelineItem>,
-    /// Where its pass stands, what it has processed, and its queue items.
-    pub worker: Worker,
+    /// The worker: where its pass stands, what it has processed, and its queue items.
+    pub worker: gate_pipeline::Pipeline,
 }
 
 impl Pipeline {
@@ -42,7 +42,7 @@ impl Pipeline {
     ghost use Rattle.gate_core.specs.Pipelines.{fresh_pipeline, post_manage, post_result, refused, took, turned};
     ghost use Rattle.gate_core.specs.Inner.Pipelines.{held_in, pipeline_step, refused_step};
 
-    /// A pipeline of a tenant before anything came.
+    /// The pipeline before anything came.
     pub fn new(alloc: Global, config: &Config, tenant: TenantId, pipeline: PipelineId) -> Pipeline
         ensures { result ≡ fresh_pipeline config.now tenant.0 pipeline.0 }
     {
@@ -50,11 +50,11 @@ impl Pipeline {
             management: Queue::new(alloc),
             results: Queue::new(alloc),
             triggers: Queue::new(alloc),
-            worker: Worker::new(alloc, config, tenant, pipeline),
+            worker: gate_pipeline::Pipeline::new(alloc, config, tenant, pipeline),
         }
     }
 
-    /// Takes one step. Where memory is refused all is as before, save that a turn holds what it took.
+    /// Takes one step. A turn that is refused memory holds what it took from its queue.
     pub fn step(&mut self, config: &Config, step: PipelineStep) -> Result<Answer, Memory>
         ensures does { Does (refused_step step self.old) (pipeline_step config.now step self.old) self.new result }
         ensures needs { OnErr result (PipelineNeeds step self.old) }
@@ -66,7 +66,7 @@ impl Pipeline {
         }
     }
 
-    // Puts a management event at the back of its queue: `Full` where 4,096 wait there.
+    // Puts a management event at the back of its queue. The answer is `Full` where 4,096 wait there.
     #[inline(never)]
     fn post_manage(&mut self, manage: Manage) -> Result<Answer, Memory>
         ensures { Does self.old (post_manage manage self.old) self.new result }
@@ -78,7 +78,7 @@ impl Pipeline {
         Ok(Answer::Moved)
     }
 
-    // Puts a result at the back of its queue: `Full` where 4,096 wait there.
+    // Puts a result at the back of its queue. The answer is `Full` where 4,096 wait there.
     #[inline(never)]
     fn post_result(&mut self, ended: JobResult) -> Result<Answer, Memory>
         ensures { Does self.old (post_result ended self.old) self.new result }
@@ -90,8 +90,8 @@ impl Pipeline {
         Ok(Answer::Moved)
     }
 
-    // Processes what is held, or takes one value of the phase's queue, or finds it empty. Where memory is refused, what
-    // was taken is held.
+    // Processes the event that the worker holds, or takes one value of the phase's queue, or finds that queue empty. Where memory is
+    // refused, the worker holds what it took.
     #[inline(never)]
     fn turn(&mut self, config: &Config) -> Result<Answer, Memory>
         ensures does { Does (refused self.old) (turned config.now self.old) self.new result }
@@ -107,7 +107,7 @@ impl Pipeline {
     ghost use Rattle.gate_core.specs.Pipelines.{Emptiness, found, passed_on};
     ghost use Rattle.gate_core.specs.declared.answer.Answer.TheVariants.{Passed};
 
-    /// Goes on to the next phase where the queue of this one is empty, and says whether it did.
+    /// Goes on to the next phase where the queue of this one is empty. The answer is whether it did.
     pub fn passes(&mut self) -> bool
         ensures passes { result ≡ true → (found self.old ≡ Emptiness) × ((self.new, Passed) ≡ passed_on self.old) }
         ensures stays { result ≡ false → (self.new ≡ self.old) × (found self.old ≢ Emptiness) }
@@ -124,7 +124,7 @@ impl Pipeline {
         is_empty
     }
 
-    // A turn that doesn't find its queue empty.
+    // Takes a turn that doesn't find its queue empty.
     #[inline(never)]
     fn work(&mut self, config: &Config) -> Result<Answer, Memory>
         requires { found self.old ≢ Emptiness }

@@ -1,14 +1,15 @@
+//! What `gate replay` prints: the documents of a configuration and a script become one text.
 ghost use Rattle.std.specs.Prelude.{◌≡◌, map, string_bytes, IfOk, IfErr};
 ghost use Rattle.gate_config.specs.Generations.{bytes_of};
 ghost use Rattle.gate_core.specs.Replays.{Replays, FailsReplay};
 
 use crate::laws::every_run_delivers;
-use crate::output::push_report;
 use crate::playing::play_script;
 use crate::script::ScriptFault;
 use crate::world::World;
 use gate_config::{GenerationFault, Generations, read_generations};
 use gate_record::Memory;
+use gate_report_text::push_report;
 use std::alloc::Global;
 use std::error::Error;
 use std::fmt;
@@ -16,7 +17,7 @@ use std::fmt;
 /// Why nothing was replayed.
 #[derive(Debug, Drop)]
 pub enum ReplayFault {
-    /// The documents are no generations of a configuration: their first fault.
+    /// The documents are not the generations of one configuration. This is their first fault.
     Generations(GenerationFault),
     /// The first line of the script that stands for nothing, counted from 1.
     Script(usize),
@@ -36,9 +37,9 @@ impl fmt::Display for ReplayFault {
 
 impl Error for ReplayFault {}
 
-/// Reads the generations of a configuration, a document each, takes the steps of a script from the beginning, line by line, and
-/// gives what its lines print, the answers to steps and the items that are shown, and then the report. A fault of the documents
-/// comes before one of the script.
+/// Reads the generations of a configuration, one document each, and takes the steps of a script line by line from the beginning. The text
+/// has what the lines print, the answers to steps and the items that are shown, and then the report. A fault of the documents comes before
+/// one of the script.
 pub fn replay(alloc: Global, documents: &[Vec<u8>], script: &[u8]) -> Result<String, ReplayFault>
     ensures text { IfOk result (λ text. Replays (map bytes_of documents.now) script.now (string_bytes text)) }
     ensures fault { IfErr result (FailsReplay (map bytes_of documents.now) script.now) }
@@ -57,7 +58,7 @@ ghost use Rattle.gate_core.specs.Faults.{FailsScript};
 ghost use Rattle.gate_core.specs.Inner.Replays.{PlaysScript, of_generation_fault, of_script_fault};
 ghost use Rattle.gate_core.specs.Script.{script_of};
 
-// Memory is one fault, wherever it was refused.
+// Refused memory is one fault, wherever it was refused.
 fn of_generations(fault: GenerationFault) -> ReplayFault
     ensures { result ≡ of_generation_fault fault }
 {
@@ -76,12 +77,12 @@ fn of_script(fault: ScriptFault) -> ReplayFault
     }
 }
 
-// What the lines of a script print, and the report of the world that they leave.
+// The text that the lines of a script print, with the report of the world that they leave.
 fn play_text(alloc: Global, gens: &Generations, script: &[u8]) -> Result<String, ScriptFault>
     ensures text { IfOk result (λ text. PlaysScript gens.now script.now (string_bytes text)) }
     ensures fault { IfErr result (FailsScript (script_of script.now)) }
 {
-    // What is promised of every history is a law of the definitions.
+    // This law says what every history of steps promises.
     every_run_delivers();
     let mut text = String::new(alloc);
     let world = play_script(alloc, gens, script, &mut text)?;
@@ -92,7 +93,7 @@ fn play_text(alloc: Global, gens: &Generations, script: &[u8]) -> Result<String,
 }
 
 ghost use Rattle.std.specs.Prelude.{◌++◌, OnOk};
-ghost use Rattle.gate_core.specs.Output.{report_text};
+ghost use Rattle.gate_report_text.specs.ReportText.{report_text};
 ghost use Rattle.gate_core.specs.Reports.{report_of};
 ghost use Rattle.gate_core.specs.Worlds.{state_of};
 

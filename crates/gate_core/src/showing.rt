@@ -1,17 +1,17 @@
+//! The text that a `show` line of a script prints: the queue items of a pipeline, and what it reported.
 ghost use Rattle.std.specs.Prelude.{◌≡◌, ◌++◌, flat_map, length, option_map, string_bytes, IfOk, OnOk};
 ghost use Rattle.gate_core.specs.Shows.{change_text, counts_line, item_line, items_text, job_text, key_text, outcome_word, quoted, ref_text, report_line, sets_text, shown_text, success_word};
 ghost use Rattle.gate_core.specs.States.{items_at};
 ghost use Rattle.gate_core.specs.Worlds.{state_of};
 
-use crate::output::push_spaced;
 use crate::world::World;
 use gate_items::{Build, Items, Key, QueueItem, Report};
-use gate_line::{push_name, push_signed};
+use gate_line::{push_name, push_signed, push_spaced};
 use gate_record::{Memory, PipelineId, TenantId};
 use std::alloc::Global;
 
-/// The queue items of a pipeline and what it reported, as text: how many there are of each, then a line for each item and
-/// for each report, in order; `idle` where the pipeline isn't there. `Memory` where the text finds no room.
+/// The queue items and the reports of a pipeline as text: how many there are of each, then a line for each item and each report, in order.
+/// The text is the line `idle` where there is no such pipeline.
 pub fn show_text(
     alloc: Global,
     world: &World<'_>,
@@ -25,7 +25,7 @@ pub fn show_text(
     Ok(out)
 }
 
-/// Adds the items of a pipeline, if it is there, to a text.
+/// Adds the text of a pipeline's items to a text. `None` says that there is no such pipeline.
 #[inline(never)]
 pub(crate) fn push_shown(
     out: &mut String,
@@ -58,7 +58,7 @@ fn push_counts(out: &mut String, items: &Items) -> Result<(), Memory>
     Ok(())
 }
 
-// How many items there are.
+// Counts the items one by one.
 fn item_count(items: &Items) -> usize
     ensures { result ≡ length items.now.items }
 {
@@ -113,7 +113,7 @@ fn success_word(success: bool) -> &'static str
     if success { " success\n" } else { " failure\n" }
 }
 
-// A word, and then what an item or its report is of.
+// Adds a word, and then the key, patch set and build set of an item or report.
 fn push_start(
     out: &mut String,
     alloc: Global,
@@ -212,7 +212,7 @@ fn push_ref(
     push_quoted(out, alloc, project)
 }
 
-// A name as JSON text, behind a space.
+// Adds a space and a name as JSON text.
 fn push_quoted(out: &mut String, alloc: Global, name: &str) -> Result<(), Memory>
     ensures { OnOk result (string_bytes out.new ≡ string_bytes out.old ++ quoted name.now) }
 {

@@ -1,3 +1,4 @@
+//! A tenant at work in the core: its queue, the steps of its worker, and its pipelines.
 ghost use Rattle.std.specs.Prelude.{◌≡◌, ◌<◌, ◌≤◌, ◌+◌, ◌∷◌, ◌++◌, [], false, IfErr, IfOk, None, OnErr, OnOk};
 ghost use Rattle.gate_tenant.specs.States.{has_ended, reserved_of, room_of, state_of};
 
@@ -9,28 +10,28 @@ use gate_tenant::Dispatch;
 use std::alloc::{AllocFailed, Global};
 use std::collections::VecDeque;
 
-/// What the worker of a tenant does by itself.
+/// A step of a tenant's worker.
 #[derive(Drop)]
 pub enum TenantStep {
-    /// It gathers so many items of the queue.
+    /// The worker gathers at most this many items of its queue.
     Fetch(u32),
-    /// It matches what it gathered.
+    /// The worker matches the events that it gathered.
     Match,
-    /// It gives the next matched item to its pipeline.
+    /// The worker gives the next matched item to its pipeline.
     Give,
 }
 
-/// A tenant at work: its queue, the dispatch of its worker, and its pipelines by number.
+/// A tenant at work: its queue, its worker's items, and its pipelines by number.
 #[derive(Drop)]
 pub struct Tenant<'c> {
-    /// What waits for the worker.
+    /// The items that wait for the worker.
     pub queue: VecDeque<TenantItem>,
-    /// What the worker gathered, and what was matched and waits to be given.
+    /// The items that the worker gathered, and those that were matched and wait to be given.
     pub dispatch: Dispatch<'c>,
-    /// By pipeline number.
+    /// The tenant's pipelines, by number.
     pub pipelines: Vec<Pipeline>,
-    /// Between two steps no item is out of the dispatch's hand.
-    pub ghost in_hand: { (state_of dispatch).out ≡ None },
+    /// The proof needs this: between two steps, the dispatch has lent out no item of its outbox.
+    pub ghost none_out: { (state_of dispatch).outbox.out ≡ None },
 }
 
 impl<'c> Tenant<'c> {
@@ -43,8 +44,7 @@ impl<'c> Tenant<'c> {
     ghost use Rattle.gate_core.specs.Views.{tenant_view};
     ghost use Rattle.gate_core.specs.Inner.Views.{gens_of_tenant, number_of_tenant};
 
-    /// The tenant of this number before anything came. `Memory` where its pipelines, or the end marks of a tenant that
-    /// lists no connection, find no room.
+    /// The tenant of this number before anything came.
     pub fn new(alloc: Global, gens: &'c Generations, tenant: TenantId) -> Result<Tenant<'c>, Memory>
         ensures gens { IfOk result (λ worker. gens_of_tenant worker ≡ gens.entry.now) }
         ensures number { IfOk result (λ worker. number_of_tenant worker ≡ tenant.0) }
@@ -58,7 +58,7 @@ impl<'c> Tenant<'c> {
         })
     }
 
-    /// Puts an item at the back of the queue. Where memory is refused the item comes back, and all is as before.
+    /// Puts an item at the back of the queue. Where memory is refused the item comes back.
     pub fn put(&mut self, item: TenantItem) -> Result<(), AllocFailed<TenantItem>>
         ensures gens { gens_of_tenant self.new ≡ gens_of_tenant self.old }
         ensures number { number_of_tenant self.new ≡ number_of_tenant self.old }
@@ -82,8 +82,8 @@ impl<'c> Tenant<'c> {
         }
     }
 
-    // Gathers the next items of the queue: as many as are asked for and wait, and as the dispatch has room for, where it
-    /// goes on. Where memory is refused, all is as before, as in each step.
+    // Gathers the next items of the queue: as many as are asked for, as wait, and as the dispatch has room for. None is gathered once all
+    // end marks were matched.
     fn fetch(&mut self, count: u32) -> Result<Answer, Memory>
         ensures gens { gens_of_tenant self.new ≡ gens_of_tenant self.old }
         ensures number { number_of_tenant self.new ≡ number_of_tenant self.old }
@@ -124,7 +124,7 @@ impl<'c> Tenant<'c> {
         };
     }
 
-    /// Matches what is gathered against the rules of the pipelines.
+    // Matches the gathered events with the rules of the pipelines.
     fn match_gathered(&mut self, alloc: Global) -> Result<Answer, Memory>
         ensures gens { gens_of_tenant self.new ≡ gens_of_tenant self.old }
         ensures number { number_of_tenant self.new ≡ number_of_tenant self.old }
@@ -138,7 +138,7 @@ impl<'c> Tenant<'c> {
         Ok(Answer::Moved)
     }
 
-    /// Gives the next matched item to its pipeline.
+    // Gives the next matched item to its pipeline.
     fn give(&mut self) -> Result<Answer, Memory>
         ensures gens { gens_of_tenant self.new ≡ gens_of_tenant self.old }
         ensures number { number_of_tenant self.new ≡ number_of_tenant self.old }
@@ -171,7 +171,7 @@ ghost use Rattle.std.specs.List.{range_with_len};
 ghost use Rattle.gate_config.specs.Lookups.{pipelines_of};
 ghost use Rattle.gate_core.specs.Pipelines.{fresh_pipeline};
 
-// A pipeline at work for each one of the tenant.
+// Makes a pipeline for each one of the tenant.
 fn new_pipelines(alloc: Global, config: &Config, tenant: TenantId) -> Result<Vec<Pipeline>, Memory>
     ensures { IfOk result (λ pipelines. pipelines.items ≡ map (fresh_pipeline config.now tenant.0) (range_with_len 0 (length (pipelines_of config.now tenant.0)))) }
 {

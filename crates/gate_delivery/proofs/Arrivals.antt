@@ -1,8 +1,8 @@
 -- What is forwarded, then chosen, is what is wanted.
-use Rattle.std.proofs.Common.{◌≡◌, ◌∙◌, ap, refl, ℕ, zero, suc, ◌+◌, List, [], ◌∷◌, ◌++◌, Bool, true, false, cond, Option, Some, None, map, append-nil, length, sym, zero-add, rules}
+use Rattle.std.proofs.Common.{◌≡◌, ◌∙◌, ap, refl, ℕ, ◌+◌, List, [], ◌∷◌, ◌++◌, Bool, true, false, cond, Option, Some, None, append-nil, length, sym, zero-add, rules}
 use Rattle.std.specs.Prelude.{◌&&◌, ◌==◌, option_and_then, if◌then◌else◌}
 use Rattle.std.proofs.lemmas.List.Elements.{filter_map-append}
-use Rattle.std.specs.List.{cons_option, enumerate_from, filter_map, list_any}
+use Rattle.std.specs.List.{enumerate_from, filter_map, list_any}
 use Rattle.gate_record.specs.declared.event.Event.{Event}
 use Rattle.gate_record.specs.declared.ids.ConnId.{ConnId}
 use Rattle.gate_record.specs.declared.record.Record.{Record}
@@ -17,11 +17,12 @@ use Rattle.gate_record.specs.Reading.{reading_of}
 use Rattle.gate_rule.specs.Rule.{meets}
 use Rattle.gate_config.specs.declared.generations.Generations.{Generations}
 use Rattle.gate_config.specs.Lookups.{lists, rules_of}
-use Rattle.gate_config.specs.Selection.{is_listed, selects, selects_reading}
+use Rattle.gate_config.specs.Selection.{is_listed, selects_reading}
 use Rattle.gate_forward.specs.Forwarding.{conn_id, stamped, forwarded, forwarded_at, forwarded_reading}
 use Rattle.gate_tenant.specs.Dispatching.{chosen, chosen_item, all_marked_in}
 use Rattle.gate_config.specs.Generations.{config_at}
-use Rattle.gate_delivery.specs.Wanted.{number_from, number_where, selects_in_force, wanted}
+use Rattle.gate_record.specs.Stamps.{number_from}
+use Rattle.gate_delivery.specs.Wanted.{number_where, selects_in_force, wanted}
 use Rattle.gate_record.specs.Entries.{AreEntriesOf, accepts, begins, closes, generation_behind, renews, with_generations}
 use Rattle.gate_record.specs.Generations.{AreFirstEntries, EntriesHaveGenerations}
 use Rattle.gate_delivery.specs.Ways.{FirstArrive, WantedArrive, arrives, number_of_item}

@@ -1,10 +1,10 @@
 -- On each way what was taken is a prefix of what is wanted, and all of it once the end mark was taken.
-use Rattle.std.proofs.Common.{◌≡◌, ◌∙◌, refl, sym, ap, ℕ, zero, suc, ◌+◌, ◌<◌, ◌==◌, List, [], ◌∷◌, ◌++◌, Bool, true, false, length, drop, get_or, map, Option, Some, None, cond, if◌then◌else◌, arith, append-nil, append_assoc, zero-add}
+use Rattle.std.proofs.Common.{◌≡◌, ◌∙◌, refl, sym, ap, ℕ, zero, suc, ◌+◌, ◌<◌, ◌==◌, List, [], ◌∷◌, ◌++◌, Bool, true, false, length, drop, get_or, Option, Some, None, cond, if◌then◌else◌, arith, append-nil, append_assoc, zero-add}
 use Rattle.std.specs.Prelude.{◌&&◌, ◌||◌, not, option_and_then, is_some, unwrap_or, option_map}
 use Rattle.std.proofs.lemmas.List.Elements.{filter-append, filter_map-append}
 use Rattle.std.proofs.lemmas.List.Folds.{list_any-append}
 use Rattle.std.specs.Option.{option_to_list}
-use Rattle.std.specs.List.{cons_option, enumerate_from, filter, filter_map, list_all, list_any, range_with_len}
+use Rattle.std.specs.List.{cons_option, filter, filter_map, list_all, list_any, range_with_len}
 use Rattle.gate_record.specs.declared.ids.ConnId.{ConnId}
 use Rattle.gate_record.specs.declared.record.Record.{Record}
 use Rattle.gate_record.specs.declared.reading.Reading.{Reading}
@@ -24,7 +24,7 @@ use Rattle.gate_config.specs.Lookups.{connections_of, has_project, lists, projec
 use Rattle.gate_config.specs.Selection.{is_listed, selects_event}
 use Rattle.gate_config.specs.declared.project_set.ProjectSet.{ProjectSet}
 use Rattle.gate_forward.specs.Forwarding.{forwarded, forwarded_at, forwarded_reading, stamped, conn_id}
-use Rattle.gate_tenant.specs.Dispatching.{chosen, chosen_item, all_marked_in, is_end_of, is_from}
+use Rattle.gate_tenant.specs.Dispatching.{chosen_item, all_marked_in, is_end_of, is_from}
 use Rattle.gate_delivery.specs.Wanted.{wanted}
 use Rattle.gate_record.specs.Prefixes.{IsPrefixOf}
 use Rattle.gate_record.specs.Entries.{AreEntriesOf, accepts, begins, closes, generation_behind, renews, with_generations}

@@ -1,5 +1,5 @@
--- What is wanted of a connection's records: which of them a pipeline selects, by their numbers; and what their stamps stand for.
-use Rattle.std.specs.Prelude.{ℕ, ◌==◌, List, Bool, Option, Some, None, option_and_then, slice_get, if◌then◌else◌}
+-- Which records of a connection a pipeline wants, by their numbers, and which actions the stamps of records ask for.
+use Rattle.std.specs.Prelude.{ℕ, List, Bool, Option, Some, None, option_and_then, slice_get, if◌then◌else◌}
 use Rattle.std.specs.List.{enumerate_from, filter_map}
 use Rattle.gate_record.specs.declared.ids.Stamp.{Stamp}
 use Rattle.gate_record.specs.declared.reading.Reading.{Reading}
@@ -13,34 +13,25 @@ use Rattle.gate_config.specs.Selection.{selects}
 use Rattle.gate_items.specs.declared.action.Action.{Action}
 use Rattle.gate_pipeline.specs.Triggers.{trigger_of}
 
--- the number of something, where it passes
+-- the number of a value, if the value passes the test
 abbrev pub number_where : {X : Type 0} → (X → Bool) → ℕ × X → Option ℕ
 number_where test entry = if test entry.1 then Some entry.0 else None
 
--- pipeline p of tenant t selects the record by the generation in force at it
+-- Pipeline p of tenant t selects the record by the generation in force at it.
 abbrev pub selects_in_force : Generations → ℕ → ℕ → ℕ → ℕ × Record → Bool
 selects_in_force gens t p c (g, line) = selects (config_at gens g) t p c line
 
--- the numbers, rising from 0, of the records that pipeline p of tenant t selects among those of connection c, each beside the
--- generation in force at it
+-- The numbers of the records of connection c that pipeline p of tenant t selects, rising from 0. Each record is paired with the
+-- generation in force at it.
 abbrev pub wanted : Generations → ℕ → ℕ → ℕ → List (ℕ × Record) → List ℕ
 wanted gens t p c records = filter_map (number_where (selects_in_force gens t p c)) (enumerate_from 0 records)
 
--- the number of a stamp of connection c
-abbrev pub number_from : ℕ → Stamp → Option ℕ
-number_from c stamp = if stamp.conn.0 == c then Some stamp.number else None
-
--- those of connection c, by their numbers
-abbrev pub numbers_from : ℕ → List Stamp → List ℕ
-numbers_from c stamps = filter_map (number_from c) stamps
-
--- the action that a record of this stamp asks for, where it is an event
+-- the action that a record with this stamp asks for, if the record is an event
 abbrev pub asked_of : Config → ℕ → ℕ → Stamp → Reading → Option Action
 asked_of config t p stamp (reading.Event event) = Some (trigger_of config t p stamp event)
 asked_of config t p stamp (reading.Nothing why) = None
 
--- the action that the record of this stamp asks for, where there is a stamp and its record is among those that its connection
--- accepted
+-- the action that a stamp asks for, if there is a stamp and its connection accepted a record with its number
 abbrev pub asked_among : Config → ℕ → ℕ → (ℕ → List Record) → Option Stamp → Option Action
 asked_among config t p records None = None
 asked_among config t p records (Some stamp) =

@@ -1,5 +1,5 @@
--- The way of a connection's records to a pipeline, as a whole: what is forwarded, then chosen, is what is wanted; and in its
--- parts, wherever they are.
+-- The way of a connection's records to a pipeline. As a whole: what is forwarded and then selected is what is wanted. And in its
+-- parts, in whichever queues and outboxes they are.
 use Rattle.std.specs.Prelude.{◌≡◌, ◌<◌, ℕ, List, ◌++◌, Bool, true, Option, Some, None, length, slice_get, take}
 use Rattle.std.specs.List.{filter, filter_map, list_any}
 use Rattle.gate_record.specs.declared.reading.Reading.TheVariants as reading
@@ -17,25 +17,26 @@ use Rattle.gate_config.specs.Lookups.{connections_of, lists}
 use Rattle.gate_forward.specs.Forwarding.{forwarded}
 use Rattle.gate_tenant.specs.Dispatching.{chosen, is_from}
 use Rattle.gate_pipeline.specs.Histories.{is_end}
-use Rattle.gate_delivery.specs.Wanted.{number_from, wanted}
+use Rattle.gate_record.specs.Stamps.{number_from}
+use Rattle.gate_delivery.specs.Wanted.{wanted}
 use Rattle.gate_record.specs.Prefixes.{IsPrefixOf}
 
--- the number of an event of connection c
+-- the number of an item, if it is an event of connection c
 abbrev pub number_of_item : ℕ → PipelineItem → Option ℕ
 number_of_item c (item.Event s) = number_from c s.stamp
 number_of_item c item.End = None
 
--- the numbers of the events of connection c that pipeline p of tenant t gets of entries of that connection
+-- the numbers of the events that pipeline p of tenant t gets of these entries of connection c
 abbrev pub arrives : Generations → ℕ → ℕ → ℕ → List ConnEntry → List ℕ
 arrives gens t p c entries = filter_map (number_of_item c) (chosen gens t p (forwarded gens t c entries))
 
--- entries of a connection with some of these records, from the first on, and the wanted numbers of those arrive
+-- These are entries of a connection whose records are a prefix of the given ones, and the wanted numbers of that prefix arrive.
 pub record FirstArrive (gens : Generations) (t p c : ℕ) (entries : List ConnEntry) (records : List (ℕ × Record)) : Type 0 where
   pub front : AreFirstEntries entries records
   pub arrive : arrives gens t p c entries ≡ wanted gens t p c front.first
 
--- Of the entries of a connection the wanted numbers of their records arrive, and of each prefix of the entries those of the records
--- in it.
+-- Of all entries of a connection, the wanted numbers of their records arrive. Of each prefix of the entries, the wanted numbers
+-- of the records in that prefix arrive.
 pub record WantedArrive : Type 0 where
   pub all : (gens : Generations) (t p c : ℕ) {entries : List ConnEntry} {records : List (ℕ × Record)} {g : ℕ} {closed : Bool} → AreEntriesOf entries records g closed →
       arrives gens t p c entries ≡ wanted gens t p c records
@@ -44,9 +45,9 @@ pub record WantedArrive : Type 0 where
 
 -- ---- the parts of a way
 
--- The way of connection c's entries to pipeline p of tenant t. What the pipeline has taken, followed by what it still gets, is
--- what is chosen of what the tenant has matched. Of what it matched and of what it got besides, the part of this connection,
--- followed by what wasn't sent yet, is what is forwarded to it.
+-- The way of connection c's entries to pipeline p of tenant t. What the pipeline has taken, followed by what it is still to get,
+-- is what it gets of what the tenant has matched. Of the items that the tenant has matched or has still to match, those of this
+-- connection, followed by those that weren't sent yet, are what is forwarded to the tenant.
 pub record Way (gens : Generations) (t p c : ℕ) (entries : List ConnEntry) (taken : List PipelineItem) : Type 0 where
   pub matched : List TenantItem
   pub unmatched : List TenantItem
@@ -55,16 +56,16 @@ pub record Way (gens : Generations) (t p c : ℕ) (entries : List ConnEntry) (ta
   pub chooses : taken ++ untaken ≡ chosen gens t p matched
   pub forwards : filter (is_from c) (matched ++ unmatched) ++ unsent ≡ forwarded gens t c entries
 
--- among these records, each beside the generation in force at it, the one with the number of this event's stamp reads as the
--- event, and has its generation
+-- The event is genuine: the records, each paired with the generation in force at it, have at the number of the event's stamp a
+-- record that is read as this event, with the event's generation.
 pub record IsEventOf (records : List (ℕ × Record)) (s : Stamped) : Type 0 where
   pub line : Record
   pub there : slice_get records s.stamp.number ≡ Some (s.generation, line)
   pub reads : reading_of line ≡ reading.Event s.event
 
--- On each way of a connection's entries the numbers of what was taken are a prefix of those that are wanted, and all of them once
--- the end mark was taken, which it is only where the connection, if the tenant lists it, was closed; and each event of the
--- connection that was taken is what the record with its number reads as.
+-- On each way of a connection's entries: the numbers of the events that were taken are a prefix of the wanted ones. They are all
+-- of the wanted ones if the end mark was taken. If it was and the tenant lists the connection, the connection was closed. Each
+-- event of the connection that was taken is what the record with its number is read as.
 pub record EachWayDelivers : Type 0 where
   pub in_order : (gens : Generations) (t p c : ℕ) (entries : List ConnEntry) (records : List (ℕ × Record)) (g : ℕ) (closed : Bool) (taken : List PipelineItem) →
       AreEntriesOf entries records g closed → Way gens t p c entries taken →

@@ -1,5 +1,5 @@
 -- What tenants have of what was loaded, after any history of calls.
-use Rattle.std.proofs.Common.{◌≡◌, ◌∙◌, refl, sym, ap, ℕ, suc, ◌<◌, List, [], ◌∷◌, ◌++◌, length, Option, Some, None, append-nil, append_assoc}
+use Rattle.std.proofs.Common.{◌≡◌, ◌∙◌, refl, sym, ap, ℕ, ◌<◌, List, [], ◌∷◌, ◌++◌, length, Option, Some, None, append-nil, append_assoc}
 use Rattle.std.proofs.lemmas.List.Elements.{filter_map-append}
 use Rattle.std.proofs.lemmas.List.Sums.{fold-append}
 use Rattle.std.specs.List.{cons_option, filter_map}
@@ -30,18 +30,18 @@ one_behind : (entries : List ConnEntry) (e : ConnEntry) (g : ℕ) → g ≡ gene
 one_behind entries e g is = ap (λ n. behind n e) is ∙ sym (fold-append behind 0 entries (e ∷ []))
 
 module _ (gens : Generations) (c : ℕ) where
-  in_force : {h : History} → Happens gens c h → h.hand.generation ≡ generation_behind 0 h.loaded
+  in_force : {h : History} → Happens gens c h → h.state.generation ≡ generation_behind 0 h.loaded
   in_force begins = refl
-  in_force (loads {h} n line before empty no_out) = one_behind h.loaded (entry.Numbered n line) h.hand.generation (in_force before)
-  in_force (ends {h} before empty no_out) = one_behind h.loaded entry.End h.hand.generation (in_force before)
-  in_force (renews {h} before empty no_out later) = one_behind h.loaded entry.Renew h.hand.generation (in_force before)
+  in_force (loads {h} n line before empty no_out) = one_behind h.loaded (entry.Numbered n line) h.state.generation (in_force before)
+  in_force (ends {h} before empty no_out) = one_behind h.loaded entry.End h.state.generation (in_force before)
+  in_force (renews {h} before empty no_out later) = one_behind h.loaded entry.Renew h.state.generation (in_force before)
   in_force (moves before no_out is) = in_force before
   in_force (is_sent before out) = in_force before
   in_force (comes_back before out) = in_force before
 
 module _ (laws : EntriesHaveGenerations) (gens : Generations) (t c : ℕ) (few : t < length (tenants_of gens.first)) where
   abbrev Shares : History → Type 0
-  Shares h = items_to t (h.sent ++ (option_to_list h.out ++ h.hand.items)) ≡ forwarded gens t c h.loaded
+  Shares h = items_to t (h.sent ++ (option_to_list h.out ++ h.state.outbox.items)) ≡ forwarded gens t c h.loaded
 
   -- one more entry, at which the generation behind the others is in force
   forwards_more : (entries : List ConnEntry) (e : ConnEntry) → forwarded gens t c (entries ++ e ∷ []) ≡ forwarded gens t c entries ++ cons_option (forwarded_entry gens t c (generation_behind 0 entries) e) []
@@ -49,15 +49,15 @@ module _ (laws : EntriesHaveGenerations) (gens : Generations) (t c : ℕ) (few :
       ap (filter_map (forwarded_at gens t c)) (laws.joined 0 entries (e ∷ []))
       ∙ filter_map-append (forwarded_at gens t c) (with_generations 0 entries) ((generation_behind 0 entries, e) ∷ [])
 
-  -- one more entry is loaded into the empty hand
-  more : {h : History} (e : ConnEntry) → Happens gens c h → Shares h → h.hand.items ≡ [] → h.out ≡ None →
-      items_to t (h.sent ++ (option_to_list h.out ++ sends gens c h.hand.generation e)) ≡ forwarded gens t c (h.loaded ++ e ∷ [])
+  -- one more entry is loaded into the empty outbox
+  more : {h : History} (e : ConnEntry) → Happens gens c h → Shares h → h.state.outbox.items ≡ [] → h.out ≡ None →
+      items_to t (h.sent ++ (option_to_list h.out ++ sends gens c h.state.generation e)) ≡ forwarded gens t c (h.loaded ++ e ∷ [])
   more {h} e before was empty no_out =
-      let g = h.hand.generation in
+      let g = h.state.generation in
       ap (λ o. items_to t (h.sent ++ (option_to_list o ++ sends gens c g e))) no_out
       ∙ filter_map-append (item_to t) h.sent (sends gens c g e)
       ∙ ap (λ xs. items_to t h.sent ++ xs) (sent_to gens t c g e few ∙ one_more (forwarded_entry gens t c g e))
-      ∙ ap (λ xs. xs ++ cons_option (forwarded_entry gens t c g e) []) (sym (ap (items_to t) (ap (λ o. h.sent ++ (option_to_list o ++ h.hand.items)) no_out ∙ ap (λ items. h.sent ++ items) empty ∙ append-nil h.sent)) ∙ was)
+      ∙ ap (λ xs. xs ++ cons_option (forwarded_entry gens t c g e) []) (sym (ap (items_to t) (ap (λ o. h.sent ++ (option_to_list o ++ h.state.outbox.items)) no_out ∙ ap (λ items. h.sent ++ items) empty ∙ append-nil h.sent)) ∙ was)
       ∙ ap (λ n. forwarded gens t c h.loaded ++ cons_option (forwarded_entry gens t c n e) []) (in_force gens c before)
       ∙ sym (forwards_more h.loaded e)
 
@@ -67,11 +67,11 @@ module _ (laws : EntriesHaveGenerations) (gens : Generations) (t c : ℕ) (few :
   share (ends {h} before empty no_out) = more entry.End before (share before) empty no_out
   share (renews {h} before empty no_out later) = share before ∙ sym (forwards_more h.loaded entry.Renew ∙ append-nil (forwarded gens t c h.loaded))
   share (moves {h} {first} {items} before no_out is) =
-      ap (λ xs. items_to t (h.sent ++ xs)) (sym (ap (λ o. option_to_list o ++ h.hand.items) no_out ∙ is)) ∙ share before
+      ap (λ xs. items_to t (h.sent ++ xs)) (sym (ap (λ o. option_to_list o ++ h.state.outbox.items) no_out ∙ is)) ∙ share before
   share (is_sent {h} {item} before out) =
-      ap (items_to t) (append_assoc h.sent (item ∷ []) h.hand.items ∙ ap (λ o. h.sent ++ (option_to_list o ++ h.hand.items)) (sym out)) ∙ share before
+      ap (items_to t) (append_assoc h.sent (item ∷ []) h.state.outbox.items ∙ ap (λ o. h.sent ++ (option_to_list o ++ h.state.outbox.items)) (sym out)) ∙ share before
   share (comes_back {h} {item} before out) =
-      ap (λ o. items_to t (h.sent ++ (option_to_list o ++ h.hand.items))) (sym out) ∙ share before
+      ap (λ o. items_to t (h.sent ++ (option_to_list o ++ h.state.outbox.items))) (sym out) ∙ share before
 
 pub each_tenant_gets_its_own : EntriesHaveGenerations → EachTenantGetsItsOwn
 each_tenant_gets_its_own laws = record {

@@ -1,2 +1,3 @@
--- What only private contracts and proofs cite: no public contract names it.
+-- Definitions that only private contracts and proofs cite. No public contract names them.
 pub mod Forwarding
+pub mod Rooms

@@ -1,5 +1,4 @@
 pub mod Forwarding
-pub mod Hands
 pub mod Histories
 pub mod Inner
-pub mod Unsent
+pub mod States

@@ -1,9 +1,9 @@
-//! The forwarder of a connection: which tenants get what of its records, and the hand from which they are sent it.
+//! The forwarder of a connection: which tenants get which of its events, and the outbox from which the items are sent.
 #![tactic(auto)]
 
+mod fixed_items;
 mod forward;
 mod laws;
-mod outbox;
 
 pub use forward::{Forward, Last};
 pub use laws::each_tenant_gets_its_own;

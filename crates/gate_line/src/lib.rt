@@ -1,5 +1,5 @@
-//! The lines of scripts and of the status port: their words and fields, what a line posts to a pipeline, and how numbers and names are
-//! written.
+//! The lines of scripts and of the status port: how their words and fields are read, what a line posts to a pipeline, and how
+//! numbers and names are written.
 #![tactic(auto)]
 
 mod field;
@@ -15,4 +15,4 @@ pub use fields::{at_end, last_bytes, number_field};
 pub use lines::{first_line, is_skipped};
 pub use posts::{Post, PostKind};
 pub use words::{is_blank, is_word, split_word, state_word};
-pub use writing::{push_name, push_number, push_signed};
+pub use writing::{push_name, push_number, push_signed, push_spaced};

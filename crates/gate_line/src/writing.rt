@@ -1,15 +1,16 @@
-//! How numbers and names are written. Where memory is refused to one of these calls, a part of it may stand in the text.
+//! Writes numbers and names. When memory is refused to one of these calls, a part of what it writes may stand in the text.
 ghost use Rattle.std.specs.Prelude.{◌≡◌, ◌∷◌, ◌++◌, [], decimal, string_bytes, OnOk};
 ghost use Rattle.std.specs.Fmt.{signed_decimal};
 ghost use Rattle.std.specs.List.{list_all};
 ghost use Rattle.gate_record.specs.Names.{name_text};
 ghost use Rattle.gate_line.specs.Inner.Plain.{is_plain};
+ghost use Rattle.gate_line.specs.Words.{spaced_number};
 
 use gate_record::{Memory, name_text};
 use itoa::Buffer;
 use std::alloc::Global;
 
-/// Adds a number to a text, in decimal digits. `Memory` where the text finds no room, as in the other calls.
+/// Adds a number to a text, in decimal digits.
 pub fn push_number(out: &mut String, number: u64) -> Result<(), Memory>
     ensures { OnOk result (string_bytes out.new ≡ string_bytes out.old ++ decimal number) }
 {
@@ -18,7 +19,15 @@ pub fn push_number(out: &mut String, number: u64) -> Result<(), Memory>
     Ok(())
 }
 
-/// Adds a number to a text, in decimal digits, behind a `-` where it is negative.
+/// Adds a space and a number, in decimal digits, to a text.
+pub fn push_spaced(out: &mut String, number: u64) -> Result<(), Memory>
+    ensures { OnOk result (string_bytes out.new ≡ string_bytes out.old ++ spaced_number number) }
+{
+    out.push_str(" ")?;
+    push_number(out, number)
+}
+
+/// Adds a number to a text, in decimal digits, with a `-` before them if the number is negative.
 pub fn push_signed(out: &mut String, number: i64) -> Result<(), Memory>
     ensures { OnOk result (string_bytes out.new ≡ string_bytes out.old ++ signed_decimal number) }
 {
@@ -39,7 +48,7 @@ pub fn push_name(out: &mut String, alloc: Global, name: &str) -> Result<(), Memo
     Ok(())
 }
 
-// Whether a name has nothing to escape.
+// Returns whether a name has nothing to escape. Most names have nothing.
 fn is_plain(name: &str) -> bool
     ensures { result ≡ list_all is_plain name.now }
 {
@@ -48,7 +57,6 @@ fn is_plain(name: &str) -> bool
         .all(|byte| *byte >= b' ' && *byte != b'"' && *byte != b'\\')
 }
 
-// A text in quotes.
 fn push_quoted(out: &mut String, text: &str) -> Result<(), Memory>
     ensures { OnOk result (string_bytes out.new ≡ string_bytes out.old ++ (34 ∷ (text.now ++ 34 ∷ []))) }
 {

@@ -1,4 +1,4 @@
-//! The journal of a run: one file, to which the lines of all pipelines go.
+//! The journal of a run: one file with the lines of all pipelines.
 use gate_config::{Config, Generations};
 use gate_items::{Action, Items, Outcome};
 use gate_journal::{PipelineJournal, Place, push_end, push_start, write_lines};
@@ -9,31 +9,31 @@ use std::io;
 use std::io::ErrorKind;
 use std::rt::Files;
 
-/// Why a journal has no lines of what came later.
+/// Why a journal has ended before its run.
 #[derive(Clone, Copy, Debug, PartialEq, Eq)]
 pub enum JournalFault {
-    /// Its file can't be opened or written.
+    /// The file can't be opened or written.
     File,
     /// Memory was refused.
     Memory,
 }
 
-/// A journal that is written, until a line of it can't be.
+/// A journal in writing. After a line couldn't be written it takes no more.
 #[derive(Drop)]
-pub struct Journal {
+pub(crate) struct Journal {
     alloc: Global,
     gens: Shared<Generations>,
     file: File,
-    // By tenant and pipeline number.
+    // The journals of the pipelines, by tenant number and pipeline number.
     pipelines: Vec<Vec<PipelineJournal>>,
-    // Those of the last action: their room serves the next ones.
+    // The lines of the last action. Their room serves the next ones.
     lines: String,
     fault: Option<JournalFault>,
 }
 
-/// Opens the file of a journal, which is made where it is missing and appended to, and writes the line with which a run begins. A FIFO
-/// waits for its reader.
-pub fn open_journal<X: Files<File = File> + AllocGlobal>(
+/// Opens the file of a journal and writes the line with which a run begins. A missing file is made, and one that is there is appended to.
+/// Where the file is a FIFO, the call waits for its reader.
+pub(crate) fn open_journal<X: Files<File = File> + AllocGlobal>(
     rt: &X,
     path: &str,
 ) -> Result<File, JournalFault> {
@@ -59,8 +59,8 @@ impl From<Memory> for JournalFault {
 }
 
 impl Journal {
-    /// The journal of a run of these generations, whose pipelines begin with no items.
-    pub fn new(
+    /// The journal of a run of these generations. Its pipelines begin with no items.
+    pub(crate) fn new(
         alloc: Global,
         gens: Shared<Generations>,
         file: File,
@@ -76,8 +76,8 @@ impl Journal {
         })
     }
 
-    /// Writes the lines of a pipeline's next action, by the items behind it. The stamp is that of a trigger event.
-    pub fn tell(
+    /// Writes the lines of a pipeline's next action. The items are those after the action, and the stamp is that of a trigger event.
+    pub(crate) fn tell(
         &mut self,
         tenant: TenantId,
         pipeline: PipelineId,
@@ -113,8 +113,8 @@ impl Journal {
         self.write(made);
     }
 
-    /// Writes the line behind which nothing comes of a pipeline.
-    pub fn end(&mut self, tenant: TenantId, pipeline: PipelineId, finished: bool) {
+    /// Writes the last line of a pipeline.
+    pub(crate) fn end(&mut self, tenant: TenantId, pipeline: PipelineId, finished: bool) {
         if self.fault.is_some() {
             return;
         }
@@ -129,11 +129,11 @@ impl Journal {
     }
 
     /// Why lines are missing, if any are.
-    pub fn fault(&self) -> Option<JournalFault> {
+    pub(crate) fn fault(&self) -> Option<JournalFault> {
         self.fault
     }
 
-    // Lines that were made go to the file at once. An action that says nothing has none.
+    // Writes the lines that were made to the file at once. An action without lines writes nothing.
     fn write(&mut self, made: Result<(), Memory>) {
         if made.is_err() {
             self.fault = Some(JournalFault::Memory);
@@ -145,7 +145,7 @@ impl Journal {
     }
 }
 
-// The journals of all pipelines.
+// Makes the journals of all pipelines.
 fn first_of(alloc: Global, config: &Config) -> Result<Vec<Vec<PipelineJournal>>, Memory> {
     let mut all = Vec::new(alloc);
     for tenant in config.tenants() {

@@ -1,4 +1,4 @@
-//! Who tells the journal and the board of what the pipelines do.
+//! The gate of `serve`, by which workers keep the journal and the status board.
 use crate::fault::Fault;
 use crate::journal::{Journal, JournalFault};
 use gate_config::Generations;
@@ -12,18 +12,18 @@ use std::alloc::Global;
 use std::fs::File;
 use std::sync::{Mutex, Wait};
 
-/// A journal, and what asks the run to stop where a line of it can't be written.
+/// A journal that asks the run to stop if a line of it can't be written.
 #[derive(Drop)]
 pub struct Journaling {
     journal: Journal,
     stopper: Stopper,
-    // Whether it was asked.
+    // Whether the run was asked to stop.
     stops: bool,
 }
 
 impl Journaling {
-    /// A journal of a run that this stops.
-    pub fn new(journal: Journal, stopper: Stopper) -> Journaling {
+    /// A journal for the run that the stopper stops.
+    pub(crate) fn new(journal: Journal, stopper: Stopper) -> Journaling {
         Journaling {
             journal,
             stopper,
@@ -36,7 +36,7 @@ impl Journaling {
         self.journal.fault()
     }
 
-    // Where a line is missing the run is to stop. Want of memory is asked again with the next action.
+    // Asks the run to stop if a line is missing. Where memory is refused for that, the next action asks again.
     fn stop_at_fault(&mut self) {
         if self.journal.fault().is_some() && !self.stops {
             self.stops = self.stopper.stop(StopCause::Caller).is_ok();
@@ -44,7 +44,7 @@ impl Journaling {
     }
 }
 
-/// The journal that goes to a file, if there is one, and stops the run of this inbox. `Memory` where it is refused.
+/// Makes the journal that is written to a file, if there is one. It will stop the run of this inbox.
 pub fn open_journaling(
     alloc: Global,
     gens: &Shared<Generations>,
@@ -60,8 +60,8 @@ pub fn open_journaling(
     Ok(Some(Mutex::new(Journaling::new(journal, inbox.stopper()?))))
 }
 
-/// A gate that keeps a board, and a journal where there is one. A call waits for the locks of both; its time grows with what the action
-/// changed, and not with what the pipeline has.
+/// A gate that keeps the board, and the journal if there is one. A call waits for the locks of both. Its time grows with what the action
+/// changed, and not with how many items the pipeline has.
 #[derive(Drop)]
 pub struct JournalGate<'a> {
     board: BoardGate<'a>,

@@ -1,5 +1,5 @@
-//! What the words of the command line name: what `check` and `replay` print, and what is opened for `serve`, which are streams, the port with
-//! its sessions, and the journal; and each fault.
+//! The parts of the program `gate`: the words of its command line; what `check` and `replay` print; what `serve` opens, which are the
+//! streams, the status port with its sessions, and the journal; and all faults.
 #![tactic(auto)]
 
 mod checking;
@@ -8,24 +8,23 @@ mod fault;
 mod files;
 mod journal;
 mod journal_gate;
-mod journals;
+mod journal_opening;
 mod port;
-mod replayed;
 mod replaying;
+mod script_journal;
 mod sessions;
-mod sources;
+mod streams;
 mod words;
 
 pub use checking::check_files;
 pub use crossing::journaling_crosses;
 pub use fault::Fault;
 pub use files::read_files;
-pub use journal::{Journal, JournalFault, open_journal};
+pub use journal::JournalFault;
 pub use journal_gate::{JournalGate, Journaling, open_journaling};
-pub use journals::{journal_fault, journal_file, journal_path};
-pub use port::{Listening, Port, listen, port_address};
-pub use replayed::write_replayed;
+pub use journal_opening::{journal_fault, journal_file, journal_path};
+pub use port::{Port, listen, port_address};
 pub use replaying::{replay_files, replay_input};
-pub use sessions::{Sessions, open_inbox};
-pub use sources::{Source, open_feeds, sources_of};
+pub use sessions::open_inbox;
+pub use streams::{StreamWord, open_feeds, stream_words};
 pub use words::{Task, task_of, unread};

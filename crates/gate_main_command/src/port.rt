@@ -1,4 +1,4 @@
-//! The status port.
+//! Opens the status port.
 use crate::fault::Fault;
 use gate_main_streams::{Address, SocketFile};
 use std::fs::File;
@@ -9,7 +9,7 @@ use std::os::unix::net::UnixListener;
 use std::rt::Files;
 use std::time::Clock;
 
-/// Reads the word STATUS: where the port is to be, if there is to be one. `Usage` for a word of another form.
+/// Reads the word STATUS: the port's address, or `None` if there is to be no port. `Usage` says that the word has another form.
 pub fn port_address(word: &str) -> Result<Option<Address<'_>>, Fault> {
     match Address::of(word) {
         None if word == "none" => Ok(None),
@@ -18,7 +18,7 @@ pub fn port_address(word: &str) -> Result<Option<Address<'_>>, Fault> {
     }
 }
 
-/// What is listened on.
+/// The listening socket of the port.
 #[derive(Drop)]
 pub enum Port {
     /// A TCP address.
@@ -27,16 +27,16 @@ pub enum Port {
     Unix(UnixListener),
 }
 
-/// A port that is listened on, and its file, if it has one.
+/// The port's listening socket, and the file of a Unix socket.
 #[derive(Drop)]
-pub struct Listening<'a> {
-    pub port: Port,
-    pub file: Option<SocketFile<'a>>,
+pub(crate) struct Listening<'a> {
+    port: Port,
+    file: Option<SocketFile<'a>>,
 }
 
 impl<'a> Listening<'a> {
-    /// Listens at an address: `SocketFile::listen` has what becomes of a Unix socket's file.
-    pub fn at<X>(rt: &X, address: Address<'a>) -> io::Result<Listening<'a>>
+    /// Listens at an address. `SocketFile::listen` says what becomes of a Unix socket's file.
+    fn at<X>(rt: &X, address: Address<'a>) -> io::Result<Listening<'a>>
     where
         X: Files<File = File> + Net<Stream = TcpStream, Listener = TcpListener> + Clock,
     {
@@ -57,8 +57,7 @@ impl<'a> Listening<'a> {
     }
 }
 
-/// Listens at the address of the word STATUS, if there is one: the port, and its file, if it has one. `Listen` where that can't be done,
-/// `Memory` where it is refused.
+/// Listens at the address of the word STATUS, if there is one. `Listen` says that this can't be done.
 pub fn listen<'a, X>(
     rt: &X,
     word: &str,

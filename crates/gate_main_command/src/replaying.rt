@@ -1,15 +1,15 @@
-//! What `replay` prints, and the journal of it.
+//! The command `replay`: what it prints, and the journal that it writes.
 use crate::fault::Fault;
 use crate::files::{read_file, read_files, reading_fault};
-use crate::journals::{journal_fault, journal_file, journal_path};
-use crate::replayed::write_replayed;
+use crate::journal_opening::{journal_fault, journal_file, journal_path};
+use crate::script_journal::write_replayed;
 use gate_core::replay;
 use std::fs::File;
 use std::io::Read;
 use std::rt::{Env, Files};
 
-/// What `replay` prints of the configuration in these files, a generation each, and the script in this one. `File` where one can't be read, `Memory`
-/// where it is refused, and the faults of `replay` and of the journal.
+/// What `replay` prints of the script in this file and of the configuration in these files, of which each is a generation. The faults are
+/// `File` for a file that can't be read, those of `replay`, and those of the journal.
 pub fn replay_files<X: Files<File = File> + Env + AllocGlobal>(
     rt: &X,
     config: Vec<String>,
@@ -20,7 +20,7 @@ pub fn replay_files<X: Files<File = File> + Env + AllocGlobal>(
     replay_told(rt, documents.as_slice(), script.as_slice())
 }
 
-// Replays a script, and writes its journal, where there is to be one, before anything is printed.
+// Replays a script and, if there is to be a journal, writes it before anything is printed.
 fn replay_told<X: Files<File = File> + Env + AllocGlobal>(
     rt: &X,
     documents: &[Vec<u8>],
@@ -31,7 +31,7 @@ fn replay_told<X: Files<File = File> + Env + AllocGlobal>(
     Ok(text)
 }
 
-// Writes the journal of a script that was replayed, where there is to be one.
+// Writes the journal of a script that was replayed, if there is to be one.
 fn write_journal<X: Files<File = File> + Env + AllocGlobal>(
     rt: &X,
     documents: &[Vec<u8>],
@@ -47,8 +47,8 @@ fn write_journal<X: Files<File = File> + Env + AllocGlobal>(
     }
 }
 
-/// What is printed of standard input: its first line is the configuration, of one generation, and the rest the script. The faults are as those of
-/// `replay_files`, and standard input is called `-`.
+/// What `replay` prints of standard input: the first line is a configuration of one generation, and the rest is the script. The faults are
+/// those of `replay_files`, and the path of standard input is `-`.
 pub fn replay_input<X, R>(rt: &X, input: &mut R) -> Result<String, Fault>
 where
     X: Files<File = File> + Env + AllocGlobal,
@@ -64,7 +64,7 @@ where
     replay_told(rt, documents.as_slice(), script)
 }
 
-// What stands before the first line feed, and what behind it.
+// The bytes before the first line feed, and those after it.
 fn first_line(bytes: &[u8]) -> (&[u8], &[u8]) {
     match bytes.iter().position(|byte| *byte == b'\n') {
         Some(end) => (&bytes[..end], &bytes[end + 1..]),

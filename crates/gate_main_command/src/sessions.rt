@@ -1,4 +1,4 @@
-//! The sessions of the status port, in a thread of their own.
+//! Serves the sessions of the status port in a thread of their own.
 ghost use Rattle.std.specs.Prelude.{◌≡◌, IfOk};
 ghost use Rattle.gate_run_posts.specs.Ports.{IsInboxFor};
 ghost use Rattle.gate_status.specs.Replies.{ArePostsFor};
@@ -17,9 +17,9 @@ use std::thread::{JoinHandle, Threads};
 use std::time::{Clock, Duration};
 use std::{io, thread};
 
-/// The sessions of a port, each of which reads and posts by what all generations of a configuration have in common.
+/// The sessions of a port. They read and post by what all generations of a configuration have in common.
 #[derive(Drop)]
-pub struct Sessions {
+pub(crate) struct Sessions {
     port: Port,
     gens: Shared<Generations>,
     board: Shared<Mutex<Board>>,
@@ -27,15 +27,15 @@ pub struct Sessions {
     ghost for_config: { ArePostsFor gens.first posts },
 }
 
-// For how many milliseconds the port is left alone where it had no session to give.
+// How many milliseconds the thread sleeps where the port had no session to give.
 const PAUSE: u64 = 100;
 
-// How many seconds a session has for each line that it sends, and as many for reading the reply.
+// How many seconds a session has for each line that it sends, and for reading each reply.
 const SECONDS: u64 = 60;
 
 impl Sessions {
     /// The sessions that a port will have.
-    pub fn new(
+    pub(crate) fn new(
         port: Port,
         gens: Shared<Generations>,
         board: Shared<Mutex<Board>>,
@@ -51,9 +51,9 @@ impl Sessions {
         }
     }
 
-    /// Serves them in a thread of their own, one after the other, until a stop was asked for in one, however that session ends; then the
-    /// thread hands the port back, on which it has listened all the while. `Thread` where none can be started.
-    pub fn start<X: Threads + Wait + Clock + Copy + Send + 'static>(
+    /// Serves the sessions in a thread of their own, one after another, until one of them has asked for a stop, however that session ends.
+    /// Then the thread hands the port back, which it has listened on all the while. `Thread` says that no thread could be started.
+    pub(crate) fn start<X: Threads + Wait + Clock + Copy + Send + 'static>(
         self,
         rt: &X,
         own: (X, Global),
@@ -65,7 +65,7 @@ impl Sessions {
         }
     }
 
-    // A session that fails is over, as one that ends.
+    // Serves one session after another. A session that fails is over, like one that ends.
     fn serve<X: Wait + Clock + AllocGlobal>(mut self, rt: &X) -> Port {
         for _ in rt.forever() {
             match self.next(rt) {
@@ -77,7 +77,7 @@ impl Sessions {
         unreachable!()
     }
 
-    // Waits for a session, and serves it.
+    // Waits for a session and serves it.
     fn next<X: Wait + Clock + AllocGlobal>(
         &mut self,
         rt: &X,
@@ -114,8 +114,8 @@ impl Sessions {
     }
 }
 
-/// The inbox of a run: where there is a port, its sessions post into it, and are in their thread from now on. `Thread` where none can be
-/// started, `Memory` where it is refused.
+/// Opens the inbox of a run. Where there is a port, its sessions post into the inbox, and their thread is started. `Thread` says that it
+/// couldn't be.
 pub fn open_inbox<X>(
     rt: &X,
     gens: &Shared<Generations>,

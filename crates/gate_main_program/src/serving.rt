@@ -1,16 +1,16 @@
-//! `gate serve`: the streams are opened, the port is listened on, and a report is made of what has run.
+//! The command `serve`: opens the streams, the port and the journal, runs the threads, and makes the report.
 ghost use Rattle.std.specs.Prelude.{◌≡◌, ◌-◌, ◌<◌, ◌^◌, All, IfOk, length};
 ghost use Rattle.gate_config.specs.Lookups.{connections_of};
 ghost use Rattle.gate_run_posts.specs.Ports.{IsInboxFor};
 
 use gate_config::{Config, Generations, read_generations};
-use gate_core::report_text;
 use gate_main_command::{
-    Fault, JournalFault, JournalGate, Port, Source, journal_file, journaling_crosses, listen,
-    open_feeds, open_inbox, open_journaling, port_address, sources_of,
+    Fault, JournalFault, JournalGate, Port, StreamWord, journal_file, journaling_crosses, listen,
+    open_feeds, open_inbox, open_journaling, port_address, stream_words,
 };
 use gate_main_streams::Stream;
 use gate_record::Shared;
+use gate_report_text::report_text;
 use gate_run::{Inbox, ReaderFeed, RecordFeed, Served, serve};
 use gate_status::{Board, BoardGate};
 use std::alloc::Global;
@@ -22,20 +22,20 @@ use std::sync::{Mutex, Wait};
 use std::thread::{JoinHandle, Threads};
 use std::time::Clock;
 
-/// What a run has come to.
+/// What came of a run.
 #[derive(Drop)]
 pub(crate) struct Ran {
-    /// The report.
+    /// The report, as text.
     pub(crate) report: String,
-    /// Why the journal has no lines of what came last, if it hasn't.
+    /// Why the journal has no lines of what came last, if they are missing.
     pub(crate) fault: Option<JournalFault>,
 }
 
-/// Runs the configuration of these documents, a generation each, over the streams of these words, with a port where STATUS asks for
-/// one, and a journal at this path, if there is one.
+/// Runs the configuration of these documents, of which each is a generation, over the streams of these words, with a port if STATUS asks
+/// for one, and with a journal at this path, if there is one.
 ///
 /// The faults come in this order: those of the documents; `Usage` for STATUS; `Source` for the words; `Listen`; `Journal`; `File` and
-/// `Connect` for the streams, in the order of their words; `Thread`. `Memory` where it is refused.
+/// `Connect` for the streams, in the order of their words; `Thread`.
 pub(crate) fn serve_words<X>(
     rt: &X,
     documents: Vec<Vec<u8>>,
@@ -59,23 +59,23 @@ where
     let gens = shared_generations(alloc, documents)?;
     let board = shared_board(alloc, gens.get().first())?;
     let address = port_address(status)?;
-    let sources = sources_of(alloc, gens.get().first(), words)?;
+    let sources = stream_words(alloc, gens.get().first(), words)?;
     let (port, socket) = listen(rt, status, address)?;
     let ran = match open_all(rt, gens.get().first(), sources.as_slice(), journal) {
         Ok((file, feeds)) => run(rt, &gens, &board, feeds, port, file),
         Err(fault) => Err(fault),
     };
-    // While it is listened on, nobody else takes the socket for an abandoned one.
+    // The file is removed while the port is still listened on, so that no other program takes the socket for an abandoned one.
     if let Some(socket) = socket {
         let _ = socket.remove(rt);
     }
     let (ran, _port) = ran?;
-    // The program ends behind this, and the system takes it back at once.
+    // The program ends right after this, and the system takes the memory back at once.
     mem::forget(gens);
     Ok(ran)
 }
 
-// A run may take days, and what was read isn't asked again: so the documents end here.
+// Reads the documents and drops their texts, because a run may take days and needs them no more.
 fn shared_generations(
     alloc: Global,
     documents: Vec<Vec<u8>>,
@@ -87,11 +87,11 @@ fn shared_board(alloc: Global, config: &Config) -> Result<Shared<Mutex<Board>>, 
     Ok(Shared::new(alloc, Mutex::new(Board::new(alloc, config)?))?)
 }
 
-// The journal and the streams of a run, and its feeds by connection number.
+// Opens the journal and the streams of a run. The feeds are by connection number.
 fn open_all<X: Files<File = File> + Net<Stream = TcpStream> + AllocGlobal>(
     rt: &X,
     config: &Config,
-    sources: &[Source<'_>],
+    sources: &[StreamWord<'_>],
     journal: Option<&str>,
 ) -> Result<(Option<File>, Vec<ReaderFeed<Stream>>), Fault>
     ensures count { IfOk result (λ opened. length opened.1.items ≡ length (connections_of config.now)) }
@@ -105,8 +105,8 @@ fn open_all<X: Files<File = File> + Net<Stream = TcpStream> + AllocGlobal>(
     Ok((file, feeds))
 }
 
-// Runs until the streams are worked off or a session has ended by `stop`; where there is a port, one has to. What came of it, and
-// the port.
+// Runs until the streams are processed or a session has ended by `stop`. Where there is a port, a session has to end so. The answer is what
+// came of the run, and the port.
 fn run<X>(
     rt: &X,
     gens: &Shared<Generations>,
@@ -132,7 +132,7 @@ fn joined<X: Threads + Wait>(rt: &X, sessions: Option<JoinHandle<Port>>) -> Opti
     }
 }
 
-// Runs with the board and the journal told of what the pipelines do.
+// Runs the threads with a gate that keeps the board and the journal.
 fn run_told<X>(
     rt: &X,
     gens: &Shared<Generations>,
@@ -157,7 +157,8 @@ where
     Ok(Ran { report, fault })
 }
 
-// The text of the report of a run, whose pipelines the system takes back when the program ends, right behind this.
+// The text of a run's report. The pipelines aren't dropped, because the system takes their memory back when the program ends, right after
+// this.
 fn report(
     alloc: Global,
     config: &Config,
@@ -169,7 +170,7 @@ fn report(
         feeds,
         inbox: _inbox,
     } = served;
-    // A stream may stand where standard output was closed.
+    // If standard output was closed when the program began, a stream may have its descriptor, and the report must not go there.
     drop(feeds);
     let text = report_text(alloc, config, &report)?;
     mem::forget(pipelines);

@@ -10,6 +10,7 @@ pub mod JsonOf
 pub mod Kept
 pub mod LineExamples
 pub mod Numbers
+pub mod Outboxes
 pub mod Readings
 pub mod Several
 pub mod Taken

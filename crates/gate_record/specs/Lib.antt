@@ -11,5 +11,7 @@ pub mod Limits
 pub mod Lines
 pub mod Names
 pub mod Numbers
+pub mod Outboxes
 pub mod Prefixes
 pub mod Reading
+pub mod Stamps

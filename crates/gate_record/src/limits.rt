@@ -1,16 +1,18 @@
-// What serde_json refuses of JSON that a tape takes.
+//! Tells which JSON texts serde_json refuses although a tape takes them, so that `RecordReader` and `read_record` read the same
+//! records as events.
 ghost use Rattle.std.specs.Prelude.{◌≡◌, ◌∷◌, List, map, false, MatchOption};
 ghost use Rattle.json.specs.Tape.{node_token};
 ghost use Rattle.json.specs.Token.{Token};
 ghost use Rattle.gate_record.specs.Inner.Tapes.{fit};
 
-use crate::numeral::is_taken;
+use crate::json_numbers::is_taken;
 use json::Node;
 
-// How deep serde_json reads.
+// The deepest nesting that serde_json reads.
 const MAX_LEVELS: usize = 127;
 
-/// Whether serde_json takes a value of these nodes: it nests no deeper than that, and a float is near each number.
+/// Returns whether serde_json takes a value of these nodes: whether no level is deeper than 127, and each number is an integer of
+/// 64 bits or near a finite float.
 pub(crate) fn fit(nodes: &[Node<'_>]) -> bool
     ensures { result ≡ fit 0 (map node_token nodes.now) }
 {
@@ -24,7 +26,7 @@ pub(crate) fn fit(nodes: &[Node<'_>]) -> bool
     true
 }
 
-// The level of nesting behind a node, where it is taken.
+// Returns the level of nesting after a node, or `None` if serde_json refuses the node.
 fn level_after(level: usize, node: &Node<'_>) -> Option<usize>
     ensures { (tokens : List Token) → MatchOption result
         (fit level (node_token node.now ∷ tokens) ≡ false)

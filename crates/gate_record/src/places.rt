@@ -1,4 +1,4 @@
-// What stands at a place of a tape, and at the keys of an object there.
+//! Looks up texts, numbers and lists in a tape by keys, as `paths` does in a tree of values.
 ghost use Rattle.std.specs.Prelude.{◌≡◌, ◌<◌, ◌∷◌, [], List, Option, OnSome, length, option_and_then, option_map, unwrap_or};
 ghost use Rattle.serde_json.specs.Data.{Data};
 ghost use Rattle.serde_json.specs.Find.{as_array, as_i64, as_number, as_str, get};
@@ -6,25 +6,23 @@ ghost use Rattle.gate_record.specs.Json.{items_in, number_at, text_at};
 ghost use Rattle.gate_record.specs.Numbers.{number_of};
 ghost use Rattle.gate_record.specs.Inner.Tapes.{Begins, Finds, Follows, GoesOn, Lists, items_of};
 
-use crate::number::number_of_text;
-use crate::numeral::integer;
+use crate::integers::number_of_text;
+use crate::json_numbers::integer;
 use json::{Element, Items};
 
-/// What stands at a key.
+/// Looks up a key of an object. The result is where the value begins in the tape.
 pub(crate) fn member<'t, 'a>(outer: &Element<'t, 'a>, key: &str) -> Option<Element<'t, 'a>>
     ensures { (value : Data) → Begins outer.now value → Finds result (get key.now value) }
 {
     outer.get(key)
 }
 
-// The text that begins here.
 fn text<'a>(place: &Element<'_, 'a>) -> Option<&'a str>
     ensures { (value : Data) → Begins place.now value → option_map (λ t. t.now) result ≡ as_str value }
 {
     place.as_str()
 }
 
-// The number that begins here.
 fn number(place: &Element<'_, '_>) -> Option<i64>
     ensures { (value : Data) → Begins place.now value → result ≡ number_of value }
 {
@@ -34,7 +32,6 @@ fn number(place: &Element<'_, '_>) -> Option<i64>
     }
 }
 
-// The JSON number that begins here.
 fn json_number(place: &Element<'_, '_>) -> Option<i64>
     ensures { (value : Data) → Begins place.now value → result ≡ option_and_then as_i64 (as_number value) }
 {
@@ -44,7 +41,6 @@ fn json_number(place: &Element<'_, '_>) -> Option<i64>
     }
 }
 
-// The text at a key.
 fn text_at<'a>(outer: &Element<'_, 'a>, key: &str) -> Option<&'a str>
     ensures { (value : Data) → Begins outer.now value → option_map (λ t. t.now) result ≡ text_at (key.now ∷ []) value }
 {
@@ -54,7 +50,6 @@ fn text_at<'a>(outer: &Element<'_, 'a>, key: &str) -> Option<&'a str>
     }
 }
 
-// The number at a key.
 fn number_at(outer: &Element<'_, '_>, key: &str) -> Option<i64>
     ensures { (value : Data) → Begins outer.now value → result ≡ number_at (key.now ∷ []) value }
 {
@@ -64,7 +59,7 @@ fn number_at(outer: &Element<'_, '_>, key: &str) -> Option<i64>
     }
 }
 
-/// The text that was looked up, if a text stands there.
+/// Returns the text at a place that was looked up, or `None` if no text stands there.
 pub(crate) fn text_of<'a>(place: &Option<Element<'_, 'a>>) -> Option<&'a str>
     ensures { (found : Option Data) → Finds place.now found → option_map (λ t. t.now) result ≡ option_and_then as_str found }
 {
@@ -74,7 +69,7 @@ pub(crate) fn text_of<'a>(place: &Option<Element<'_, 'a>>) -> Option<&'a str>
     }
 }
 
-/// The number that was looked up, if one stands there.
+/// Returns the number at a place that was looked up, or `None` if no number stands there.
 pub(crate) fn number_of(place: &Option<Element<'_, '_>>) -> Option<i64>
     ensures { (found : Option Data) → Finds place.now found → result ≡ option_and_then number_of found }
 {
@@ -84,7 +79,7 @@ pub(crate) fn number_of(place: &Option<Element<'_, '_>>) -> Option<i64>
     }
 }
 
-/// The values of the list that was looked up, if a list stands there.
+/// Returns the values of the list at a place that was looked up, or `None` if no list stands there.
 pub(crate) fn list_of<'t, 'a>(place: &Option<Element<'t, 'a>>) -> Option<Items<'t, 'a>>
     ensures { (found : Option Data) → Finds place.now found → Lists result (unwrap_or (option_map items_in (option_and_then as_array found)) []) }
 {
@@ -94,14 +89,13 @@ pub(crate) fn list_of<'t, 'a>(place: &Option<Element<'t, 'a>>) -> Option<Items<'
     }
 }
 
-// The values of the list that begins here.
 fn items<'t, 'a>(place: &Element<'t, 'a>) -> Option<Items<'t, 'a>>
     ensures { (value : Data) → Begins place.now value → Lists result (items_of value) }
 {
     place.items()
 }
 
-/// The text at a key of the object at another, which was looked up.
+/// Returns the text at `key` of the object `outer`, which was looked up.
 pub(crate) fn text_in<'a>(outer: &Option<Element<'_, 'a>>, key: &str) -> Option<&'a str>
     ensures { (found : Option Data) → Finds outer.now found
         → option_map (λ t. t.now) result ≡ option_and_then (text_at (key.now ∷ [])) found }
@@ -112,7 +106,7 @@ pub(crate) fn text_in<'a>(outer: &Option<Element<'_, 'a>>, key: &str) -> Option<
     }
 }
 
-/// The number at a key of the object at another, which was looked up.
+/// Returns the number at `key` of the object `outer`, which was looked up.
 pub(crate) fn number_in(outer: &Option<Element<'_, '_>>, key: &str) -> Option<i64>
     ensures { (found : Option Data) → Finds outer.now found
         → result ≡ option_and_then (number_at (key.now ∷ [])) found }
@@ -123,7 +117,7 @@ pub(crate) fn number_in(outer: &Option<Element<'_, '_>>, key: &str) -> Option<i6
     }
 }
 
-/// The next value of a list.
+/// Returns the next value of a list, and moves on behind it.
 pub(crate) fn next_of<'t, 'a>(items: &mut Items<'t, 'a>) -> Option<Element<'t, 'a>>
     ensures value { (values : List Data) → GoesOn items.old values → Follows result values items.new }
     ensures shorter { OnSome result (length items.new < length items.old) }

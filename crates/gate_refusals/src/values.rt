@@ -47,6 +47,9 @@ pub(crate) fn copy_texts(log: &mut Log) -> Ended {
     made!(log; gate_line::push_number(&mut text, u64::MAX), ["{text}"])?;
     made!(log; gate_line::push_signed(&mut text, i64::MIN), ["{text}"])?;
     made!(log; gate_line::push_name(&mut text, log.alloc, WORDS[1]), ["{text}"])?;
+    // Where memory is refused, the space may stand in this text.
+    let mut spaced = String::new(log.alloc);
+    made!(log; gate_line::push_spaced(&mut spaced, u64::MAX))?;
     Ok(say!(log.told, "{text}\n"))
 }
 

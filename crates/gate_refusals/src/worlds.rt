@@ -115,14 +115,14 @@ impl Played<'_> {
     fn said(&self, log: &mut Log, config: &Config) -> Result<String, Memory> {
         let (world, tenant, pipeline) = (&self.world, TenantId(0), PipelineId(0));
         let report = made!(log; gate_core::World::report(world))?;
-        let mut text = made!(log; gate_core::report_text(log.alloc, config, &report))?;
+        let mut text = made!(log; gate_report_text::report_text(log.alloc, config, &report))?;
         let items = made!(log; gate_core::show_text(log.alloc, world, tenant, pipeline))?;
         text.push_str(items.as_str())?;
         Ok(text)
     }
 }
 
-/// The way of the records through the parts of the core: a forwarder's hand, a tenant's dispatch and the worker of its first pipeline,
+/// The way of the records through the parts of the core: a forwarder's outbox, a tenant's dispatch and the worker of its first pipeline,
 /// which takes the posts of the script, too; and a journal of what that has processed. What only moves goes by itself.
 pub(crate) fn go_all(log: &mut Log, gens: &Generations, steps: &[Step]) -> Ended {
     let (alloc, config) = (log.alloc, gens.first());
@@ -173,10 +173,10 @@ impl Way<'_> {
         }
     }
 
-    // Loads a record, of which all that the hand holds is sent at once; or, where there is none, a renewal, which takes no memory.
+    // Loads a record, of which all that the outbox holds is sent at once; or, where there is none, a renewal, which takes no memory.
     fn load(&mut self, log: &mut Log, record: Option<Record>) -> Ended {
         let forward = &mut self.forward;
-        unexpected!(log; forward.is_out() || !forward.is_empty(), "item in the hand");
+        unexpected!(log; forward.is_out() || !forward.is_empty(), "item in the outbox");
         let Some(record) = record else {
             return Ok(say!(log.told, "{:?}\n", forward.load_renew()));
         };

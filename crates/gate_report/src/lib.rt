@@ -1,9 +1,6 @@
-//! What a run says of itself, by steps or in threads, and how much its queues with a bound hold.
+//! The report of a run, which is the same whether the run goes by steps or in threads.
 #![tactic(auto)]
 
 mod report;
 
 pub use report::{ConnectionReport, EndCause, PipelineReport, RunReport};
-
-/// How many values a connection's queue holds, and a pipeline's queues of management events and of results.
-pub const PLACES: usize = 4096;

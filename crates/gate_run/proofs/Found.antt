@@ -11,12 +11,12 @@ use Rattle.gate_run_threads.specs.declared.putting.PassedOn.{PassedOn}
 use Rattle.gate_run_reader.specs.declared.reader.Reader.{Reader}
 use Rattle.gate_run_reader.specs.declared.reader.ReaderEnd.{ReaderEnd}
 use Rattle.gate_run_worker.specs.declared.worker.WorkerEnd.{WorkerEnd}
-use Rattle.gate_run_dispatcher.specs.Dispatchers.{HasDispatched}
+use Rattle.gate_run_stages.specs.TenantWorkers.{HasDispatched}
 use Rattle.gate_source.specs.Feeds.{Told}
-use Rattle.gate_run_forwarder.specs.Forwarders.{HasForwarded}
+use Rattle.gate_run_stages.specs.Forwarders.{HasForwarded}
 use Rattle.gate_run_threads.specs.Lists.{Pairwise, Threes}
 use Rattle.gate_run_posts.specs.Ports.{InboxEnds, at_pipeline}
-use Rattle.gate_run.specs.Inner.Seatings.{AreWorkersOf, Cells, IsDispatcherOf, IsForwarderOf, IsWorkerOf}
+use Rattle.gate_run.specs.Inner.Seatings.{AreWorkersOf, Cells, IsTenantWorkerOf, IsForwarderOf, IsWorkerOf}
 use Rattle.gate_run_threads.specs.Seats.{seat_in, seat_of}
 use Rattle.gate_run_worker.specs.Workers.{HasWorked}
 use Rattle.gate_run.specs.Inner.Works.{Dispatched, Forwarded, Read, Worked}
@@ -139,18 +139,18 @@ module _ {F G : Type 0} {gens : Generations} {to_come : F → Told} {faults : F 
       }
 
   -- what the worker of a tenant did
-  pub record DispatcherAt (t : ℕ) (end : PassedOn (TakerSeat TenantItem) PipelineItem) : Type 0 where
+  pub record TenantWorkerAt (t : ℕ) (end : PassedOn (TakerSeat TenantItem) PipelineItem) : Type 0 where
     pub queue : Shape
     pub queue_here : slice_get E.items t ≡ Some queue
     pub targets : List Shape
     pub targets_here : slice_get E.triggers t ≡ Some targets
     pub did : HasDispatched gens t queue targets end.head end.tails.items
 
-  pub dispatcher_at : (t : ℕ) (end : PassedOn (TakerSeat TenantItem) PipelineItem) → slice_get E.dispatcher_ends t ≡ Some end → DispatcherAt t end
-  dispatcher_at t end at =
-      let pair = beside_of Dispatched E.threads.dispatchers E.dispatcher_ends t end E.threads.have_dispatched at in
+  pub tenant_worker_at : (t : ℕ) (end : PassedOn (TakerSeat TenantItem) PipelineItem) → slice_get E.tenant_worker_ends t ≡ Some end → TenantWorkerAt t end
+  tenant_worker_at t end at =
+      let pair = beside_of Dispatched E.threads.tenant_workers E.tenant_worker_ends t end E.threads.have_dispatched at in
       let w = pair.other in
-      let is = at_here (IsDispatcherOf gens E.items E.triggers) E.threads.dispatchers t w E.threads.are_dispatchers pair.there in
+      let is = at_here (IsTenantWorkerOf gens E.items E.triggers) E.threads.tenant_workers t w E.threads.are_tenant_workers pair.there in
       record {
         queue = w.source.now;
         queue_here = is.source;

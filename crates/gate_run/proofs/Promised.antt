@@ -35,12 +35,13 @@ use Rattle.gate_report.specs.declared.report.EndCause.{EndCause}
 use Rattle.gate_report.specs.declared.report.EndCause.TheVariants as cause
 use Rattle.gate_report.specs.declared.report.PipelineReport.{PipelineReport}
 use Rattle.gate_report.specs.declared.report.RunReport.{RunReport}
-use Rattle.gate_delivery.specs.Wanted.{asked_among, asked_of, number_from, numbers_from, wanted}
+use Rattle.gate_record.specs.Stamps.{number_from, numbers_from}
+use Rattle.gate_delivery.specs.Wanted.{asked_among, asked_of, wanted}
 use Rattle.gate_delivery.specs.Ways.{EachWayDelivers, IsEventOf, Way, number_of_item}
 use Rattle.gate_run_threads.specs.declared.putting.PassedOn.{PassedOn}
 use Rattle.gate_run_reader.specs.declared.reader.ReaderEnd.{ReaderEnd}
-use Rattle.gate_run_reader.specs.declared.reading.Renewal.{Renewal}
-use Rattle.gate_run_worker.specs.declared.worker.Worker.{Worker}
+use Rattle.gate_run_reader.specs.declared.running.Renewal.{Renewal}
+use Rattle.gate_run_worker.specs.declared.worker.PipelineWorker.{PipelineWorker}
 use Rattle.gate_run_worker.specs.declared.worker.WorkerEnd.{WorkerEnd}
 use Rattle.gate_source.specs.Feeds.{Told}
 use Rattle.gate_run_threads.specs.Lists.{Each, EachAt}
@@ -54,12 +55,12 @@ use Rattle.gate_run.specs.Inner.Seatings.{AreWorkersOf, Cells, IsReaderOf}
 use Rattle.gate_pipeline.specs.States.{report_of}
 use Rattle.gate_run.specs.Inner.Gatherings.{inbox_back, most_asked, report_of_reader}
 use Rattle.gate_run.specs.Serving.{Delivers, HasEnded, HasProcessed, HaveEnded, Serves, lines_of, renewals_of}
-use Rattle.gate_run_threads.specs.Stages.{IsStageSettled}
+use Rattle.gate_run_threads.specs.QueueGroups.{AreQueuesSettled}
 use Rattle.gate_run.specs.Inner.Works.{Read, Worked}
 use Rattle.gate_run.proofs.Asking.{each_enough, most_no_fewer}
 use Rattle.gate_run.proofs.Composed.{OfSenders, of_senders, taken_own, way_of}
 use Rattle.gate_run.proofs.Evidence.{Evidence}
-use Rattle.gate_run.proofs.Found.{ForwarderAt, LinesOf, There, WorkerAt, alike_here, all_lines, dispatcher_at, find_lines, forwarder_at, from, lines_count, row_of, seat_at, there, three_here, worker_at}
+use Rattle.gate_run.proofs.Found.{ForwarderAt, LinesOf, There, WorkerAt, alike_here, all_lines, tenant_worker_at, find_lines, forwarder_at, from, lines_count, row_of, seat_at, there, three_here, worker_at}
 use Rattle.gate_run_threads.proofs.Paired.{map_length}
 use Rattle.gate_run_threads.proofs.Seated.{map_map}
 use Rattle.gate_run.proofs.Seatings.{here_mapped}
@@ -122,13 +123,13 @@ module _ {F G : Type 0} {gens : Generations} {to_come : F → Told} {faults : F 
     pub waiting : List (Tagged TenantItem)
     pub arrived : IsDelivered d.head.taken waiting s put
 
-  sent : (t s : ℕ) (d : PassedOn (TakerSeat TenantItem) PipelineItem) (queue : Shape) → slice_get E.dispatcher_ends t ≡ Some d → slice_get E.items t ≡ Some queue → s < n → Sent t s d queue
+  sent : (t s : ℕ) (d : PassedOn (TakerSeat TenantItem) PipelineItem) (queue : Shape) → slice_get E.tenant_worker_ends t ≡ Some d → slice_get E.items t ≡ Some queue → s < n → Sent t s d queue
   sent t s d queue at of_queue low =
       let f = there E.forwarder_ends s (omega (arith, low, E.threads.forwarder_count, as_many _ E.threads.forwarders E.forwarder_ends E.threads.have_forwarded)) in
       let forwarder = forwarder_at E s f.one f.here in
       let seat = seat_at E.items s f.one.tails.items t queue forwarder.did.seats of_queue in
       let settled = E.items_settled.each s t f.one.tails.items seat.tail queue d.head (here_mapped (λ (end : PassedOn (TakerSeat ConnEntry) TenantItem). end.tails.items) E.forwarder_ends s f.one f.here) seat.here of_queue
-      (here_mapped (λ (end : PassedOn (TakerSeat TenantItem) PipelineItem). end.head) E.dispatcher_ends t d at) in
+      (here_mapped (λ (end : PassedOn (TakerSeat TenantItem) PipelineItem). end.head) E.tenant_worker_ends t d at) in
       record {
         end = f.one;
         end_here = f.here;
@@ -142,12 +143,12 @@ module _ {F G : Type 0} {gens : Generations} {to_come : F → Told} {faults : F 
 
   -- ---- what a tenant's worker took
 
-  got_from : (t : ℕ) (d : PassedOn (TakerSeat TenantItem) PipelineItem) (queue : Shape) → slice_get E.dispatcher_ends t ≡ Some d → slice_get E.items t ≡ Some queue → AreFrom n d.head.taken
+  got_from : (t : ℕ) (d : PassedOn (TakerSeat TenantItem) PipelineItem) (queue : Shape) → slice_get E.tenant_worker_ends t ≡ Some d → slice_get E.items t ≡ Some queue → AreFrom n d.head.taken
   got_from t d queue at of_queue =
       subst (λ m. AreFrom m d.head.taken) (alike_here (λ (q : Shape). q.name.senders) n E.items t queue E.item_senders of_queue)
-      (E.items_settled.from t queue d.head of_queue (here_mapped (λ (end : PassedOn (TakerSeat TenantItem) PipelineItem). end.head) E.dispatcher_ends t d at))
+      (E.items_settled.from t queue d.head of_queue (here_mapped (λ (end : PassedOn (TakerSeat TenantItem) PipelineItem). end.head) E.tenant_worker_ends t d at))
 
-  got_own : (t : ℕ) (d : PassedOn (TakerSeat TenantItem) PipelineItem) (queue : Shape) → slice_get E.dispatcher_ends t ≡ Some d → slice_get E.items t ≡ Some queue → OfSenders d.head.taken
+  got_own : (t : ℕ) (d : PassedOn (TakerSeat TenantItem) PipelineItem) (queue : Shape) → slice_get E.tenant_worker_ends t ≡ Some d → slice_get E.items t ≡ Some queue → OfSenders d.head.taken
   got_own t d queue at of_queue = of_senders n d.head.taken (got_from t d queue at of_queue) (λ s low.
       let by = sent t s d queue at of_queue low in
       taken_own gens t s (values by.end.head.taken) by.put d.head.taken by.waiting by.in_order by.arrived)
@@ -167,19 +168,19 @@ module _ {F G : Type 0} {gens : Generations} {to_come : F → Told} {faults : F 
     pub from_waiting : AreFrom 1 waiting
     pub arrived : IsDelivered w.head.taken waiting 0 given
 
-  taken : (t p : ℕ) (d : PassedOn (TakerSeat TenantItem) PipelineItem) (list : List WorkerEnd) (w : WorkerEnd) → slice_get E.dispatcher_ends t ≡ Some d → slice_get E.worker_ends t ≡ Some list → slice_get list p ≡ Some w → Taken t p d w
+  taken : (t p : ℕ) (d : PassedOn (TakerSeat TenantItem) PipelineItem) (list : List WorkerEnd) (w : WorkerEnd) → slice_get E.tenant_worker_ends t ≡ Some d → slice_get E.worker_ends t ≡ Some list → slice_get list p ≡ Some w → Taken t p d w
   taken t p d list w at at' here =
       let worker = worker_at E t p list w at' here in
-      let dispatcher = dispatcher_at E t d at in
-      let same : dispatcher.targets ≡ worker.queues = the_same dispatcher.targets worker.queues (sym dispatcher.targets_here ∙ worker.queues_here) in
-      let seats : map seat_of d.tails.items ≡ map (seat_in 0) worker.queues = dispatcher.did.seats ∙ ap (map (seat_in 0)) same in
+      let tenant_worker = tenant_worker_at E t d at in
+      let same : tenant_worker.targets ≡ worker.queues = the_same tenant_worker.targets worker.queues (sym tenant_worker.targets_here ∙ worker.queues_here) in
+      let seats : map seat_of d.tails.items ≡ map (seat_in 0) worker.queues = tenant_worker.did.seats ∙ ap (map (seat_in 0)) same in
       let seat = seat_at worker.queues 0 d.tails.items p worker.queue seats worker.queue_here in
-      let given = dispatcher.did.given in
+      let given = tenant_worker.did.given in
       let one : worker.queue.name.senders ≡ 1 = alike_here (λ (q : Shape). q.name.senders) 1 worker.queues p worker.queue (rows_here t worker.queues worker.queues_here) worker.queue_here in
-      let lane = three_here (λ (lane : List Shape) (own_heads : List (TakerSeat PipelineItem)) (own_tails : List (SenderSeat PipelineItem)). IsStageSettled lane own_heads (own_tails ∷ []))
-      E.triggers (map (λ (ends : List WorkerEnd). map (λ (end : WorkerEnd). end.head) ends) E.worker_ends) (map (λ (end : PassedOn (TakerSeat TenantItem) PipelineItem). end.tails.items) E.dispatcher_ends) t worker.queues (map (λ (end : WorkerEnd). end.head) list) d.tails.items
-      E.triggers_settled worker.queues_here (here_mapped (λ (ends : List WorkerEnd). map (λ (end : WorkerEnd). end.head) ends) E.worker_ends t list at') (here_mapped (λ (end : PassedOn (TakerSeat TenantItem) PipelineItem). end.tails.items) E.dispatcher_ends t d at) in
-      let settled = lane.each 0 p d.tails.items seat.tail worker.queue w.head refl seat.here worker.queue_here (here_mapped (λ (end : WorkerEnd). end.head) list p w here) in
+      let group = three_here (λ (group : List Shape) (own_heads : List (TakerSeat PipelineItem)) (own_tails : List (SenderSeat PipelineItem)). AreQueuesSettled group own_heads (own_tails ∷ []))
+      E.triggers (map (λ (ends : List WorkerEnd). map (λ (end : WorkerEnd). end.head) ends) E.worker_ends) (map (λ (end : PassedOn (TakerSeat TenantItem) PipelineItem). end.tails.items) E.tenant_worker_ends) t worker.queues (map (λ (end : WorkerEnd). end.head) list) d.tails.items
+      E.triggers_settled worker.queues_here (here_mapped (λ (ends : List WorkerEnd). map (λ (end : WorkerEnd). end.head) ends) E.worker_ends t list at') (here_mapped (λ (end : PassedOn (TakerSeat TenantItem) PipelineItem). end.tails.items) E.tenant_worker_ends t d at) in
+      let settled = group.each 0 p d.tails.items seat.tail worker.queue w.head refl seat.here worker.queue_here (here_mapped (λ (end : WorkerEnd). end.head) list p w here) in
       record {
         worker = worker;
         matched = given.matched;
@@ -245,29 +246,29 @@ module _ {F G : Type 0} {gens : Generations} {to_come : F → Told} {faults : F 
       }
 
   -- the way of a connection that is there
-  way_there : EntriesHaveGenerations → (law : TakenIsProcessed) (t p c : ℕ) (d : PassedOn (TakerSeat TenantItem) PipelineItem) (list : List WorkerEnd) (w : WorkerEnd) (r : ReaderEnd F) (at_d : slice_get E.dispatcher_ends t ≡ Some d) (at_l : slice_get E.worker_ends t ≡ Some list)
+  way_there : EntriesHaveGenerations → (law : TakenIsProcessed) (t p c : ℕ) (d : PassedOn (TakerSeat TenantItem) PipelineItem) (list : List WorkerEnd) (w : WorkerEnd) (r : ReaderEnd F) (at_d : slice_get E.tenant_worker_ends t ≡ Some d) (at_l : slice_get E.worker_ends t ≡ Some list)
       (at_w : slice_get list p ≡ Some w) (at_r : slice_get E.reader_ends c ≡ Some r) (low : c < n) →
       Way gens t p c r.tail.put (processed law t p list w at_l at_w).are.front
   unfolding put
   way_there entries law t p c d list w r at_d at_l at_w at_r low =
-      let dispatcher = dispatcher_at E t d at_d in
-      let by = sent t c d dispatcher.queue at_d dispatcher.queue_here low in
+      let tenant_worker = tenant_worker_at E t d at_d in
+      let by = sent t c d tenant_worker.queue at_d tenant_worker.queue_here low in
       let given = taken t p d list w at_d at_l at_w in
       let first = put c r by.end at_r by.end_here in
       let done = processed law t p list w at_l at_w in
       way_of entries gens t p c r.tail.put by.end.head.taken first.waiting by.put d.head.taken by.waiting given.matched given.unmatched given.given w.head.taken given.waiting done.are.front (held_items done.past.state.held)
-      first.from first.from_waiting first.arrived by.in_order (got_own t d dispatcher.queue at_d dispatcher.queue_here) by.arrived given.took given.in_order given.from given.from_waiting given.arrived done.all
+      first.from first.from_waiting first.arrived by.in_order (got_own t d tenant_worker.queue at_d tenant_worker.queue_here) by.arrived given.took given.in_order given.from given.from_waiting given.arrived done.all
 
   -- the way of one that isn't
-  way_beyond : EntriesHaveGenerations → (law : TakenIsProcessed) (t p c : ℕ) (d : PassedOn (TakerSeat TenantItem) PipelineItem) (list : List WorkerEnd) (w : WorkerEnd) (at_d : slice_get E.dispatcher_ends t ≡ Some d) (at_l : slice_get E.worker_ends t ≡ Some list)
+  way_beyond : EntriesHaveGenerations → (law : TakenIsProcessed) (t p c : ℕ) (d : PassedOn (TakerSeat TenantItem) PipelineItem) (list : List WorkerEnd) (w : WorkerEnd) (at_d : slice_get E.tenant_worker_ends t ≡ Some d) (at_l : slice_get E.worker_ends t ≡ Some list)
       (at_w : slice_get list p ≡ Some w) (high : n ≤ c) → Way gens t p c [] (processed law t p list w at_l at_w).are.front
   way_beyond entries law t p c d list w at_d at_l at_w high =
-      let dispatcher = dispatcher_at E t d at_d in
+      let tenant_worker = tenant_worker_at E t d at_d in
       let given = taken t p d list w at_d at_l at_w in
       let done = processed law t p list w at_l at_w in
-      let own = got_own t d dispatcher.queue at_d dispatcher.queue_here in
+      let own = got_own t d tenant_worker.queue at_d tenant_worker.queue_here in
       way_of entries gens t p c [] [] [] [] d.head.taken [] given.matched given.unmatched given.given w.head.taken given.waiting done.are.front (held_items done.past.state.held)
-      none none refl ([], refl) own (append-nil (values_of c d.head.taken) ∙ none_beyond n c d.head.taken (got_from t d dispatcher.queue at_d dispatcher.queue_here) high) given.took given.in_order given.from given.from_waiting given.arrived done.all
+      none none refl ([], refl) own (append-nil (values_of c d.head.taken) ∙ none_beyond n c d.head.taken (got_from t d tenant_worker.queue at_d tenant_worker.queue_here) high) given.took given.in_order given.from given.from_waiting given.arrived done.all
     where
       none : AreFrom {T = ConnEntry} 1 []
       none k x low = absurd (omega (arith, low))
@@ -305,7 +306,7 @@ module _ {F G : Type 0} {gens : Generations} {to_come : F → Told} {faults : F 
       let done = processed law t p list w at_l at_w in
       numbered_by c done.are.front ∙ ap (numbers_from c) done.are.stamps ∙ ap (λ (s : State). numbers_from c s.done) done.now
 
-  in_order_by : EntriesHaveGenerations → (law : TakenIsProcessed) → EachWayDelivers → (t p c : ℕ) (d : PassedOn (TakerSeat TenantItem) PipelineItem) (list : List WorkerEnd) (w : WorkerEnd) → slice_get E.dispatcher_ends t ≡ Some d → (at_l : slice_get E.worker_ends t ≡ Some list) →
+  in_order_by : EntriesHaveGenerations → (law : TakenIsProcessed) → EachWayDelivers → (t p c : ℕ) (d : PassedOn (TakerSeat TenantItem) PipelineItem) (list : List WorkerEnd) (w : WorkerEnd) → slice_get E.tenant_worker_ends t ≡ Some d → (at_l : slice_get E.worker_ends t ≡ Some list) →
       (at_w : slice_get list p ≡ Some w) (o : Option (ReaderEnd F)) → slice_get E.reader_ends c ≡ o → IsPrefixOf (numbers_from c w.state.done) (wanted gens t p c (beside (marks c) (lines_of c lines)))
   in_order_by entries law ways t p c d list w at_d at_l at_w (Some r) at =
       let front = (processed law t p list w at_l at_w).are.front in
@@ -320,7 +321,7 @@ module _ {F G : Type 0} {gens : Generations} {to_come : F → Told} {faults : F 
       subst (λ xs. IsPrefixOf xs (wanted gens t p c (beside (marks c) (lines_of c lines)))) (numbers law t p c list w at_l at_w)
       (ways.in_order gens t p c [] (beside (marks c) (lines_of c lines)) 0 false front (put_beyond c at) way)
 
-  whole_by : EntriesHaveGenerations → (law : TakenIsProcessed) → EachWayDelivers → (t p c : ℕ) (d : PassedOn (TakerSeat TenantItem) PipelineItem) (list : List WorkerEnd) (w : WorkerEnd) → slice_get E.dispatcher_ends t ≡ Some d → (at_l : slice_get E.worker_ends t ≡ Some list) →
+  whole_by : EntriesHaveGenerations → (law : TakenIsProcessed) → EachWayDelivers → (t p c : ℕ) (d : PassedOn (TakerSeat TenantItem) PipelineItem) (list : List WorkerEnd) (w : WorkerEnd) → slice_get E.tenant_worker_ends t ≡ Some d → (at_l : slice_get E.worker_ends t ≡ Some list) →
       (at_w : slice_get list p ≡ Some w) (o : Option (ReaderEnd F)) → slice_get E.reader_ends c ≡ o → w.state.finished ≡ true → numbers_from c w.state.done ≡ wanted gens t p c (beside (marks c) (lines_of c lines))
   whole_by entries law ways t p c d list w at_d at_l at_w (Some r) at finished =
       let done = processed law t p list w at_l at_w in
@@ -334,7 +335,7 @@ module _ {F G : Type 0} {gens : Generations} {to_come : F → Told} {faults : F 
       nothing_before (numbers_from c w.state.done) (subst (λ ls. IsPrefixOf (numbers_from c w.state.done) (wanted gens t p c (beside (marks c) ls))) none (in_order_by entries law ways t p c d list w at_d at_l at_w None at))
       ∙ ap (λ ls. wanted gens t p c (beside (marks c) ls)) (sym none)
 
-  marked_by : EntriesHaveGenerations → (law : TakenIsProcessed) → EachWayDelivers → (t p c : ℕ) (d : PassedOn (TakerSeat TenantItem) PipelineItem) (list : List WorkerEnd) (w : WorkerEnd) (r : ReaderEnd F) → slice_get E.dispatcher_ends t ≡ Some d → (at_l : slice_get E.worker_ends t ≡ Some list) →
+  marked_by : EntriesHaveGenerations → (law : TakenIsProcessed) → EachWayDelivers → (t p c : ℕ) (d : PassedOn (TakerSeat TenantItem) PipelineItem) (list : List WorkerEnd) (w : WorkerEnd) (r : ReaderEnd F) → slice_get E.tenant_worker_ends t ≡ Some d → (at_l : slice_get E.worker_ends t ≡ Some list) →
       (at_w : slice_get list p ≡ Some w) → slice_get E.reader_ends c ≡ Some r → w.state.finished ≡ true → lists gens.first t c ≡ true → is_closed r.cause ≡ true
   marked_by entries law ways t p c d list w r at_d at_l at_w at finished listed =
       let done = processed law t p list w at_l at_w in
@@ -344,10 +345,10 @@ module _ {F G : Type 0} {gens : Generations} {to_come : F → Told} {faults : F 
       ways.closes gens t p c r.tail.put (beside (marks c) (lines_of c lines)) (length r.renewals.items) (is_closed r.cause) done.are.front (put_there c r at) inside listed way (done.are.ends ∙ ap (λ (s : State). s.finished) done.now ∙ finished)
 
   -- the worker of the tenant of a list of pipelines
-  tenant_of_list : (t : ℕ) (list : List WorkerEnd) → slice_get E.worker_ends t ≡ Some list → There E.dispatcher_ends t
+  tenant_of_list : (t : ℕ) (list : List WorkerEnd) → slice_get E.worker_ends t ≡ Some list → There E.tenant_worker_ends t
   tenant_of_list t list at =
       let low = slice_get_within E.worker_ends t list at in
-      there E.dispatcher_ends t (omega (arith, low, as_many _ E.threads.workers E.worker_ends E.threads.have_worked, E.threads.worker_count, E.threads.dispatcher_count, as_many _ E.threads.dispatchers E.dispatcher_ends E.threads.have_dispatched))
+      there E.tenant_worker_ends t (omega (arith, low, as_many _ E.threads.workers E.worker_ends E.threads.have_worked, E.threads.worker_count, E.threads.tenant_worker_count, as_many _ E.threads.tenant_workers E.tenant_worker_ends E.threads.have_dispatched))
 
   abbrev pub reported : List (List PipelineReport)
   reported = map (λ (ends : List WorkerEnd). map (λ (end : WorkerEnd). report_of end.state) ends) E.worker_ends
@@ -438,7 +439,7 @@ module _ {F G : Type 0} {gens : Generations} {to_come : F → Told} {faults : F 
   inbox_kept = map (λ (ends : List WorkerEnd). map inbox_back ends) E.worker_ends
 
   -- each event that was processed is what the record of its stamp reads as
-  read_by : EntriesHaveGenerations → (law : TakenIsProcessed) → EachWayDelivers → (t p c : ℕ) (d : PassedOn (TakerSeat TenantItem) PipelineItem) (list : List WorkerEnd) (w : WorkerEnd) → slice_get E.dispatcher_ends t ≡ Some d → (at_l : slice_get E.worker_ends t ≡ Some list) →
+  read_by : EntriesHaveGenerations → (law : TakenIsProcessed) → EachWayDelivers → (t p c : ℕ) (d : PassedOn (TakerSeat TenantItem) PipelineItem) (list : List WorkerEnd) (w : WorkerEnd) → slice_get E.tenant_worker_ends t ≡ Some d → (at_l : slice_get E.worker_ends t ≡ Some list) →
       (at_w : slice_get list p ≡ Some w) (o : Option (ReaderEnd F)) → slice_get E.reader_ends c ≡ o → (i : ℕ) (s : Stamped) → slice_get (processed law t p list w at_l at_w).are.front i ≡ Some (item.Event s) → s.stamp.conn.0 ≡ c → IsEventOf (beside (marks c) (lines_of c lines)) s
   read_by entries law ways t p c d list w at_d at_l at_w (Some r) at i s here same =
       let front = (processed law t p list w at_l at_w).are.front in
@@ -452,7 +453,7 @@ module _ {F G : Type 0} {gens : Generations} {to_come : F → Told} {faults : F 
       ways.genuine gens t p c [] (beside (marks c) (lines_of c lines)) 0 false front (put_beyond c at) way i s here same
 
   -- so each trigger is what that record asks for
-  asked : EntriesHaveGenerations → RecordsHaveGenerations → (law : TakenIsProcessed) → EachWayDelivers → (t p : ℕ) (d : PassedOn (TakerSeat TenantItem) PipelineItem) (list : List WorkerEnd) (w : WorkerEnd) → slice_get E.dispatcher_ends t ≡ Some d → (at_l : slice_get E.worker_ends t ≡ Some list) →
+  asked : EntriesHaveGenerations → RecordsHaveGenerations → (law : TakenIsProcessed) → EachWayDelivers → (t p : ℕ) (d : PassedOn (TakerSeat TenantItem) PipelineItem) (list : List WorkerEnd) (w : WorkerEnd) → slice_get E.tenant_worker_ends t ≡ Some d → (at_l : slice_get E.worker_ends t ≡ Some list) →
       (at_w : slice_get list p ≡ Some w) (i : ℕ) (stamp : Option Stamp) (a : Action) → slice_get (filter_map triggering (processed law t p list w at_l at_w).past.processed) i ≡ Some (stamp, a) → asked_among gens.first t p (λ c. lines_of c lines) stamp ≡ Some a
   asked entries records law ways t p d list w at_d at_l at_w i stamp a here =
       let done = processed law t p list w at_l at_w in
@@ -487,7 +488,7 @@ module _ {F G : Type 0} {gens : Generations} {to_come : F → Told} {faults : F 
   -- ---- as many pipelines as there are
 
   module _ (count : ℕ → ℕ) where
-    each_counted : (a : ℕ) (P : ℕ → List (Worker G) → Type 0) → ((k : ℕ) (ws : List (Worker G)) → P k ws → length ws ≡ count (a + k)) → (lists : List (List (Worker G))) → EachAt P lists → map length lists ≡ map count (range_with_len a (length lists))
+    each_counted : (a : ℕ) (P : ℕ → List (PipelineWorker G) → Type 0) → ((k : ℕ) (ws : List (PipelineWorker G)) → P k ws → length ws ≡ count (a + k)) → (lists : List (List (PipelineWorker G))) → EachAt P lists → map length lists ≡ map count (range_with_len a (length lists))
     each_counted a P is [] all = refl
     each_counted a P is (ws ∷ lists) all = (λ i. (is 0 ws all.0 ∙ ap count (add-zero a)) i ∷ each_counted (a + 1) (λ k. P (suc k)) (λ k xs q. is (suc k) xs q ∙ ap count (omega arith)) lists all.1 i)
 

@@ -11,24 +11,24 @@ use Rattle.gate_config.specs.declared.generations.Generations.{Generations}
 use Rattle.gate_config.specs.Lookups.{pipelines_of}
 use Rattle.gate_queue.specs.Seats.{SenderSeat, Shape, TakerSeat}
 use Rattle.gate_source.specs.Stops.{IsNoteOf}
-use Rattle.gate_run_dispatcher.specs.declared.dispatcher.Dispatcher.{Dispatcher}
-use Rattle.gate_run_forwarder.specs.declared.forwarder.Forwarder.{Forwarder}
+use Rattle.gate_run_stages.specs.declared.tenant_worker.TenantWorker.{TenantWorker}
+use Rattle.gate_run_stages.specs.declared.forwarder.Forwarder.{Forwarder}
 use Rattle.gate_run_threads.specs.declared.putting.PassedOn.{PassedOn}
 use Rattle.gate_run_reader.specs.declared.reader.Reader.{Reader}
 use Rattle.gate_run_reader.specs.declared.reader.ReaderEnd.{ReaderEnd}
-use Rattle.gate_run_worker.specs.declared.worker.Worker.{Worker}
+use Rattle.gate_run_worker.specs.declared.worker.PipelineWorker.{PipelineWorker}
 use Rattle.gate_run_worker.specs.declared.worker.WorkerEnd.{WorkerEnd}
 use Rattle.gate_source.specs.Feeds.{Told}
 use Rattle.gate_run_threads.specs.Lists.{Pairwise, Each, EachAt}
 use Rattle.gate_run_reader.specs.Asked.{AreKnown}
 use Rattle.gate_run_reader.specs.Readers.{notes_of}
 use Rattle.gate_run_posts.specs.Ports.{InboxEnds}
-use Rattle.gate_run.specs.Inner.Seatings.{AreWorkersOf, Cells, IsDispatcherOf, IsForwarderOf, IsReaderOf, IsWorkerOf}
+use Rattle.gate_run.specs.Inner.Seatings.{AreWorkersOf, Cells, IsTenantWorkerOf, IsForwarderOf, IsReaderOf, IsWorkerOf}
 use Rattle.gate_run_threads.specs.Seats.{seat_in, seat_of}
 use Rattle.gate_run.specs.Inner.Works.{Dispatched, Forwarded, Read, Worked}
 use Rattle.gate_run_threads.proofs.Places.{as_many, at_here, beside_of, the_same}
 use Rattle.gate_run.proofs.Seatings.{number_here}
-use Rattle.gate_run_threads.proofs.Staged.{range_length}
+use Rattle.gate_run_threads.proofs.Grouped.{range_length}
 
 -- lists of as many elements, of which each two at a place are seen alike
 pub all_alike : {A B C : Type 0} (f : A → C) (g : B → C) (xs : List A) (ys : List B) → length xs ≡ length ys → ((i : ℕ) (x : A) (y : B) → slice_get xs i ≡ Some x → slice_get ys i ≡ Some y → f x ≡ g y) → map f xs ≡ map g ys
@@ -83,20 +83,20 @@ module _ (gens : Generations) (sources targets : List Shape) (forwarders : List 
       let is = at_here (IsForwarderOf gens sources targets) forwarders c pair.other are pair.there in
       pair.are.seats ∙ (λ i. map (seat_in (is.of_conn i)) (is.puts_into i)) ∙ ap (λ k. map (seat_in k) targets) (sym (number_is (length ends) c s (slice_get_within ends c end at) at')))
 
-module _ (gens : Generations) (sources : List Shape) (targets : List (List Shape)) (dispatchers : List Dispatcher) (ends : List (PassedOn (TakerSeat TenantItem) PipelineItem)) (are : EachAt (IsDispatcherOf gens sources targets) dispatchers) (did : Pairwise Dispatched dispatchers ends) where
-  pub dispatcher_heads : length dispatchers ≡ length sources → map (λ (end : PassedOn (TakerSeat TenantItem) PipelineItem). end.head.queue) ends ≡ map (λ (queue : Shape). queue.name) sources
-  dispatcher_heads many = all_alike (λ (end : PassedOn (TakerSeat TenantItem) PipelineItem). end.head.queue) (λ (queue : Shape). queue.name) ends sources (sym (as_many Dispatched dispatchers ends did) ∙ many) (λ t end queue at at'.
-      let pair = beside_of Dispatched dispatchers ends t end did at in
-      let is = at_here (IsDispatcherOf gens sources targets) dispatchers t pair.other are pair.there in
+module _ (gens : Generations) (sources : List Shape) (targets : List (List Shape)) (tenant_workers : List TenantWorker) (ends : List (PassedOn (TakerSeat TenantItem) PipelineItem)) (are : EachAt (IsTenantWorkerOf gens sources targets) tenant_workers) (did : Pairwise Dispatched tenant_workers ends) where
+  pub tenant_worker_heads : length tenant_workers ≡ length sources → map (λ (end : PassedOn (TakerSeat TenantItem) PipelineItem). end.head.queue) ends ≡ map (λ (queue : Shape). queue.name) sources
+  tenant_worker_heads many = all_alike (λ (end : PassedOn (TakerSeat TenantItem) PipelineItem). end.head.queue) (λ (queue : Shape). queue.name) ends sources (sym (as_many Dispatched tenant_workers ends did) ∙ many) (λ t end queue at at'.
+      let pair = beside_of Dispatched tenant_workers ends t end did at in
+      let is = at_here (IsTenantWorkerOf gens sources targets) tenant_workers t pair.other are pair.there in
       pair.are.head_of ∙ ap (λ (q : Shape). q.name) (the_same pair.other.source.now queue (sym is.source ∙ at')))
 
-  pub dispatcher_tails : length dispatchers ≡ length targets → map (λ (end : PassedOn (TakerSeat TenantItem) PipelineItem). map seat_of end.tails.items) ends ≡ map (map (seat_in 0)) targets
-  dispatcher_tails many = all_alike (λ (end : PassedOn (TakerSeat TenantItem) PipelineItem). map seat_of end.tails.items) (map (seat_in 0)) ends targets (sym (as_many Dispatched dispatchers ends did) ∙ many) (λ t end lane at at'.
-      let pair = beside_of Dispatched dispatchers ends t end did at in
-      let is = at_here (IsDispatcherOf gens sources targets) dispatchers t pair.other are pair.there in
-      pair.are.seats ∙ ap (map (seat_in 0)) (the_same pair.other.targets.now lane (sym is.puts_into ∙ at')))
+  pub tenant_worker_tails : length tenant_workers ≡ length targets → map (λ (end : PassedOn (TakerSeat TenantItem) PipelineItem). map seat_of end.tails.items) ends ≡ map (map (seat_in 0)) targets
+  tenant_worker_tails many = all_alike (λ (end : PassedOn (TakerSeat TenantItem) PipelineItem). map seat_of end.tails.items) (map (seat_in 0)) ends targets (sym (as_many Dispatched tenant_workers ends did) ∙ many) (λ t end group at at'.
+      let pair = beside_of Dispatched tenant_workers ends t end did at in
+      let is = at_here (IsTenantWorkerOf gens sources targets) tenant_workers t pair.other are pair.there in
+      pair.are.seats ∙ ap (map (seat_in 0)) (the_same pair.other.targets.now group (sym is.puts_into ∙ at')))
 
-module _ {G : Type 0} (config : Config) (sources : List (List Shape)) (inbox : List (List InboxEnds)) (workers : List (List (Worker G))) (lists : List (List WorkerEnd)) (are : EachAt (AreWorkersOf config sources inbox) workers) (did : Pairwise (Pairwise Worked) workers lists) where
+module _ {G : Type 0} (config : Config) (sources : List (List Shape)) (inbox : List (List InboxEnds)) (workers : List (List (PipelineWorker G))) (lists : List (List WorkerEnd)) (are : EachAt (AreWorkersOf config sources inbox) workers) (did : Pairwise (Pairwise Worked) workers lists) where
   pub worker_heads : length workers ≡ length sources → ((t : ℕ) (queues : List Shape) → slice_get sources t ≡ Some queues → length queues ≡ length (pipelines_of config t)) → map (λ (ends : List WorkerEnd). map (λ (end : WorkerEnd). end.head.queue) ends) lists ≡ map (map (λ (queue : Shape). queue.name)) sources
   worker_heads many wide = all_alike (λ (ends : List WorkerEnd). map (λ (end : WorkerEnd). end.head.queue) ends) (map (λ (queue : Shape). queue.name)) lists sources (sym (as_many (Pairwise Worked) workers lists did) ∙ many) (λ t ends queues at at'.
       let rows = beside_of (Pairwise Worked) workers lists t ends did at in

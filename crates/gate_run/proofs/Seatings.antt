@@ -12,17 +12,17 @@ use Rattle.gate_config.specs.Lookups.{pipelines_of, tenants_of}
 use Rattle.gate_pipeline.specs.States as pipeline
 use Rattle.gate_queue.specs.Seats.{SenderSeat, Shape, TakerSeat}
 use Rattle.gate_source.specs.Stops.{IsNoteOf}
-use Rattle.gate_run_dispatcher.specs.declared.dispatcher.Dispatcher.{Dispatcher}
-use Rattle.gate_run_forwarder.specs.declared.forwarder.Forwarder.{Forwarder}
+use Rattle.gate_run_stages.specs.declared.tenant_worker.TenantWorker.{TenantWorker}
+use Rattle.gate_run_stages.specs.declared.forwarder.Forwarder.{Forwarder}
 use Rattle.gate_run_reader.specs.declared.reader.Reader.{Reader}
-use Rattle.gate_run_worker.specs.declared.worker.Worker.{Worker}
+use Rattle.gate_run_worker.specs.declared.worker.PipelineWorker.{PipelineWorker}
 use Rattle.gate_run_threads.specs.Lists.{EachAt}
 use Rattle.gate_run_posts.specs.Ports.{InboxEnds}
-use Rattle.gate_run.specs.Inner.Seatings.{Cells, IsDispatcherOf, IsForwarderOf, IsReaderOf, IsWorkerOf}
+use Rattle.gate_run.specs.Inner.Seatings.{Cells, IsTenantWorkerOf, IsForwarderOf, IsReaderOf, IsWorkerOf}
 use Rattle.gate_run_threads.specs.Seats.{fresh_head, fresh_tail}
 use Rattle.gate_run_threads.proofs.Paired.{map_length}
 use Rattle.gate_run_threads.proofs.Places.{at_more, the_same}
-use Rattle.gate_run_threads.proofs.Staged.{range_length}
+use Rattle.gate_run_threads.proofs.Grouped.{range_length}
 
 pub here_mapped : {A B : Type 0} (f : A → B) (xs : List A) (i : ℕ) (x : A) → slice_get xs i ≡ Some x → slice_get (map f xs) i ≡ Some (f x)
 here_mapped f [] i x e = absurd (cc)
@@ -94,10 +94,10 @@ forwarder_of gens sources targets heads rows m c w by_gens of_conn of_source of_
   };
 }
 
-pub dispatcher_of : (gens : Generations) (sources : List Shape) (targets : List (List Shape)) (heads : List (TakerSeat TenantItem)) (rows : List (List (SenderSeat PipelineItem))) (t : ℕ) (w : Dispatcher) → w.gens.now ≡ gens → w.tenant.0 ≡ t →
+pub tenant_worker_of : (gens : Generations) (sources : List Shape) (targets : List (List Shape)) (heads : List (TakerSeat TenantItem)) (rows : List (List (SenderSeat PipelineItem))) (t : ℕ) (w : TenantWorker) → w.gens.now ≡ gens → w.tenant.0 ≡ t →
     slice_get sources t ≡ Some w.source.now → slice_get targets t ≡ Some w.targets.now → length w.targets.now ≡ length (pipelines_of gens.first t) → slice_get heads t ≡ Some w.head → heads ≡ map fresh_head sources → slice_get rows t ≡ Some w.tails.items → rows ≡ map (map (fresh_tail 0)) targets →
-    IsDispatcherOf gens sources targets t w
-dispatcher_of gens sources targets heads rows t w by_gens own_tenant of_source of_targets many of_head fresh of_tails fresh' = record {
+    IsTenantWorkerOf gens sources targets t w
+tenant_worker_of gens sources targets heads rows t w by_gens own_tenant of_source of_targets many of_head fresh of_tails fresh' = record {
   by_gens = by_gens;
   of_tenant = own_tenant;
   source = of_source;
@@ -109,7 +109,7 @@ dispatcher_of gens sources targets heads rows t w by_gens own_tenant of_source o
   };
 }
 
-pub worker_of : {G : Type 0} (config : Config) (t : ℕ) (sources : List Shape) (inbox : List InboxEnds) (heads : List (TakerSeat PipelineItem)) (p : ℕ) (w : Worker G) → w.config.now ≡ config → w.tenant.0 ≡ t → w.pipeline.0 ≡ p → slice_get sources p ≡ Some w.source.now →
+pub worker_of : {G : Type 0} (config : Config) (t : ℕ) (sources : List Shape) (inbox : List InboxEnds) (heads : List (TakerSeat PipelineItem)) (p : ℕ) (w : PipelineWorker G) → w.config.now ≡ config → w.tenant.0 ≡ t → w.pipeline.0 ≡ p → slice_get sources p ≡ Some w.source.now →
     slice_get inbox p ≡ Some (record { management = w.management; results = w.results }) → w.state ≡ pipeline.first_state config t p → slice_get heads p ≡ Some w.head → heads ≡ map fresh_head sources → IsWorkerOf config t sources inbox p w
 worker_of config t sources inbox heads p w by_config of_tenant of_pipeline of_source of_inbox begins of_head fresh = record {
   by_config = by_config;
@@ -124,5 +124,5 @@ worker_of config t sources inbox heads p w by_config of_tenant of_pipeline of_so
 }
 
 -- as many as were counted
-pub counted_lanes : {A : Type 0} (f : A → ℕ) (g : ℕ → ℕ) (xs : List A) (m : ℕ) → map f xs ≡ map g (range_with_len 0 m) → length xs ≡ m
-counted_lanes f g xs m e = as_many_of f g xs (range_with_len 0 m) e ∙ range_length 0 m
+pub counted_groups : {A : Type 0} (f : A → ℕ) (g : ℕ → ℕ) (xs : List A) (m : ℕ) → map f xs ≡ map g (range_with_len 0 m) → length xs ≡ m
+counted_groups f g xs m e = as_many_of f g xs (range_with_len 0 m) e ∙ range_length 0 m

@@ -19,9 +19,9 @@ use Rattle.gate_items.proofs.action.Manage.TheSendSync as manage
 use Rattle.gate_items.proofs.action.JobResult.TheSendSync as ended
 use Rattle.gate_config.specs.contracts.config.Config as config
 use Rattle.gate_config.specs.contracts.generations.Generations as generations
-use Rattle.gate_run_dispatcher.specs.contracts.dispatcher.Dispatcher as dispatcher
-use Rattle.gate_run_forwarder.specs.contracts.forwarder.Forwarder as forwarder
-use Rattle.gate_run_worker.specs.contracts.worker.Worker as worker
+use Rattle.gate_run_stages.specs.contracts.tenant_worker.TenantWorker as tenant_worker
+use Rattle.gate_run_stages.specs.contracts.forwarder.Forwarder as forwarder
+use Rattle.gate_run_worker.specs.contracts.worker.PipelineWorker as worker
 
 module _ (κ : NamedLft) (generations_sync : IsSync generations.the_row) where
   forwarder_parts : AllSend (shape (forwarder.the_type κ)).fields
@@ -30,11 +30,11 @@ module _ (κ : NamedLft) (generations_sync : IsSync generations.the_row) where
   pub forwarder_send : IsSend (forwarder.the_row κ)
   forwarder_send = recorded_send (forwarder.the_field κ).row (forwarder.the_type κ).D (forwarder.the_type κ).to (forwarder.the_type κ).to_one (struct_send (shape (forwarder.the_type κ)) forwarder_parts)
 
-  dispatcher_parts : AllSend (shape (dispatcher.the_type κ)).fields
-  dispatcher_parts = (search (sendable, crosses) depth 40 fits 20000, (search (sendable, crosses) depth 40 fits 20000, (search (sendable, crosses) depth 40 fits 20000, (search (sendable, crosses, free_queue.the_sync, item.the_send) depth 40 fits 20000, (search (sendable, crosses, free_head.the_send, item.the_send) depth 40 fits 20000, (search (sendable, crosses, free_queue.the_sync, trigger.the_send) depth 40 fits 20000, (search (sendable, crosses, free_tail.the_send, trigger.the_send) depth 40 fits 20000, (search (sendable, crosses, parker.the_field_send) depth 40 fits 20000, tt))))))))
+  tenant_worker_parts : AllSend (shape (tenant_worker.the_type κ)).fields
+  tenant_worker_parts = (search (sendable, crosses) depth 40 fits 20000, (search (sendable, crosses) depth 40 fits 20000, (search (sendable, crosses) depth 40 fits 20000, (search (sendable, crosses, free_queue.the_sync, item.the_send) depth 40 fits 20000, (search (sendable, crosses, free_head.the_send, item.the_send) depth 40 fits 20000, (search (sendable, crosses, free_queue.the_sync, trigger.the_send) depth 40 fits 20000, (search (sendable, crosses, free_tail.the_send, trigger.the_send) depth 40 fits 20000, (search (sendable, crosses, parker.the_field_send) depth 40 fits 20000, tt))))))))
 
-  pub dispatcher_send : IsSend (dispatcher.the_row κ)
-  dispatcher_send = recorded_send (dispatcher.the_field κ).row (dispatcher.the_type κ).D (dispatcher.the_type κ).to (dispatcher.the_type κ).to_one (struct_send (shape (dispatcher.the_type κ)) dispatcher_parts)
+  pub tenant_worker_send : IsSend (tenant_worker.the_row κ)
+  tenant_worker_send = recorded_send (tenant_worker.the_field κ).row (tenant_worker.the_type κ).D (tenant_worker.the_type κ).to (tenant_worker.the_type κ).to_one (struct_send (shape (tenant_worker.the_type κ)) tenant_worker_parts)
 
 module _ (κ : NamedLft) (config_sync : IsSync config.the_row) where
   worker_parts : (G : RattleType) → IsSync G → AllSend (shape (worker.the_type κ G)).fields

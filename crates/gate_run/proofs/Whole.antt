@@ -22,23 +22,23 @@ use Rattle.gate_run.specs.Inner.Queues.{AreOpen}
 use Rattle.gate_run_reader.specs.Readers.{notes_of}
 use Rattle.gate_run.specs.Inner.Seatings.{IsReaderOf, cells_of}
 use Rattle.gate_run_threads.specs.Seats.{seat_in, seat_of}
-use Rattle.gate_run_threads.specs.Stages.{AreLanesSettled, IsStageSettled}
+use Rattle.gate_run_threads.specs.QueueGroups.{AreGroupsSettled, AreQueuesSettled}
 use Rattle.gate_run.specs.Inner.Works.{Forwarded, HaveRun}
 use Rattle.gate_run.proofs.Evidence.{Evidence}
 use Rattle.gate_run_threads.proofs.Paired.{map_length}
 use Rattle.gate_run_threads.proofs.Places.{as_many}
-use Rattle.gate_run.proofs.Returning.{dispatcher_heads, dispatcher_tails, forwarder_heads, forwarder_tails, known_back, notes_back, tails_back, worker_heads}
+use Rattle.gate_run.proofs.Returning.{tenant_worker_heads, tenant_worker_tails, forwarder_heads, forwarder_tails, known_back, notes_back, tails_back, worker_heads}
 use Rattle.gate_run_threads.proofs.Seated.{map_map}
 use Rattle.gate_run.proofs.Seatings.{as_many_of, count_here}
-use Rattle.gate_run_threads.proofs.Staged.{lanes_as, range_length}
+use Rattle.gate_run_threads.proofs.Grouped.{groups_as, range_length}
 
 pub if_ok : {T E : Type 0} {A B C D Z : T → Type 0} (r : Result T E) → ((x : T) → A x → B x → C x → D x → Z x) → IfOk r A → IfOk r B → IfOk r C → IfOk r D → IfOk r Z
 if_ok (Ok x) f a b c d = f x a b c d
 if_ok (Err e) f a b c d = a
 
 module _ {F : Type 0} (G : Type 0) (gens : Generations) (to_come : F → Told) (faults : F → ℕ) (feeds : List F) (inbox : List (List InboxEnds)) (asked : AskedView) (queues : Queues) (seats : QueueSeats) (ends : Ends F) (O : AreOpen gens.first queues seats) (H : HaveRun G gens to_come faults feeds inbox (cells_of gens asked) queues ends) where
-  abbrev pub lanes : List (List Shape)
-  lanes = map (λ lane. lane.items) queues.triggers.items
+  abbrev pub groups : List (List Shape)
+  groups = map (λ group. group.items) queues.triggers.items
 
   pub notes : Each (λ end. IsNoteOf asked.note.cell end.note) ends.readers.items
   notes = notes_back to_come faults asked.note.cell (IsReaderOf faults feeds queues.records.items (cells_of gens asked)) (λ c (w : Reader F) (is : IsReaderOf faults feeds queues.records.items (cells_of gens asked) c w). is.can.note_of ∙ is.of_stop) H.readers ends.readers.items H.are_readers H.have_read
@@ -55,52 +55,52 @@ module _ {F : Type 0} (G : Type 0) (gens : Generations) (to_come : F → Told) (
   pub item_senders : map (λ queue. queue.name.senders) queues.items.items ≡ map (λ queue. length ends.forwarders.items) queues.items.items
   item_senders = O.items.of_senders ∙ ap (λ n. map (λ (queue : Shape). n) queues.items.items) (sym H.forwarder_count ∙ as_many Forwarded H.forwarders ends.forwarders.items H.have_forwarded)
 
-  pub item_heads : map (λ end. end.head.queue) ends.dispatchers.items ≡ map (λ queue. queue.name) queues.items.items
-  item_heads = dispatcher_heads gens queues.items.items lanes H.dispatchers ends.dispatchers.items H.are_dispatchers H.have_dispatched (H.dispatcher_count ∙ sym O.items.many)
+  pub item_heads : map (λ end. end.head.queue) ends.tenant_workers.items ≡ map (λ queue. queue.name) queues.items.items
+  item_heads = tenant_worker_heads gens queues.items.items groups H.tenant_workers ends.tenant_workers.items H.are_tenant_workers H.have_dispatched (H.tenant_worker_count ∙ sym O.items.many)
 
   pub item_tails : map (λ end. map seat_of end.tails.items) ends.forwarders.items ≡ map (λ s. map (seat_in s) queues.items.items) (range_with_len 0 (length ends.forwarders.items))
   item_tails = forwarder_tails gens queues.records.items queues.items.items H.forwarders ends.forwarders.items H.are_forwarders H.have_forwarded
 
-  lane_count : length lanes ≡ length (tenants_of gens.first)
-  lane_count =
-      map_length (λ lane. lane.items) queues.triggers.items
-      ∙ as_many_of (λ lane. length lane.items) (λ t. length (pipelines_of gens.first t)) queues.triggers.items (range_with_len 0 (length (tenants_of gens.first))) O.trigger_counts
+  group_count : length groups ≡ length (tenants_of gens.first)
+  group_count =
+      map_length (λ group. group.items) queues.triggers.items
+      ∙ as_many_of (λ group. length group.items) (λ t. length (pipelines_of gens.first t)) queues.triggers.items (range_with_len 0 (length (tenants_of gens.first))) O.trigger_counts
       ∙ range_length 0 (length (tenants_of gens.first))
 
-  lane_wide : (t : ℕ) (lane : List Shape) → slice_get lanes t ≡ Some lane → length lane ≡ length (pipelines_of gens.first t)
-  lane_wide t lane at = count_here length (λ k. length (pipelines_of gens.first k)) lanes (length (tenants_of gens.first)) t lane (map_map length (λ lane. lane.items) queues.triggers.items ∙ O.trigger_counts) at
+  group_wide : (t : ℕ) (group : List Shape) → slice_get groups t ≡ Some group → length group ≡ length (pipelines_of gens.first t)
+  group_wide t group at = count_here length (λ k. length (pipelines_of gens.first k)) groups (length (tenants_of gens.first)) t group (map_map length (λ group. group.items) queues.triggers.items ∙ O.trigger_counts) at
 
-  pub trigger_heads : map (λ list. map (λ end. end.head.queue) list.items) ends.workers.items ≡ map (λ lane. map (λ queue. queue.name) lane.items) queues.triggers.items
+  pub trigger_heads : map (λ list. map (λ end. end.head.queue) list.items) ends.workers.items ≡ map (λ group. map (λ queue. queue.name) group.items) queues.triggers.items
   trigger_heads =
       sym (map_map (map (λ end. end.head.queue)) (λ list. list.items) ends.workers.items)
-      ∙ worker_heads gens.first lanes inbox H.workers (map (λ list. list.items) ends.workers.items) H.are_workers H.have_worked (H.worker_count ∙ sym lane_count) lane_wide
-      ∙ map_map (map (λ (queue : Shape). queue.name)) (λ lane. lane.items) queues.triggers.items
+      ∙ worker_heads gens.first groups inbox H.workers (map (λ list. list.items) ends.workers.items) H.are_workers H.have_worked (H.worker_count ∙ sym group_count) group_wide
+      ∙ map_map (map (λ (queue : Shape). queue.name)) (λ group. group.items) queues.triggers.items
 
-  pub trigger_tails : map (λ end. map seat_of end.tails.items) ends.dispatchers.items ≡ map (λ lane. map (seat_in 0) lane.items) queues.triggers.items
+  pub trigger_tails : map (λ end. map seat_of end.tails.items) ends.tenant_workers.items ≡ map (λ group. map (seat_in 0) group.items) queues.triggers.items
   trigger_tails =
-      dispatcher_tails gens queues.items.items lanes H.dispatchers ends.dispatchers.items H.are_dispatchers H.have_dispatched (H.dispatcher_count ∙ sym lane_count)
-      ∙ map_map (map (seat_in 0)) (λ lane. lane.items) queues.triggers.items
+      tenant_worker_tails gens queues.items.items groups H.tenant_workers ends.tenant_workers.items H.are_tenant_workers H.have_dispatched (H.tenant_worker_count ∙ sym group_count)
+      ∙ map_map (map (seat_in 0)) (λ group. group.items) queues.triggers.items
 
   abbrev pub evidence : length feeds ≡ length (connections_of gens.first)
-      → IsStageSettled queues.records.items (map (λ end. end.head) ends.forwarders.items) (map (λ end. end.tail) ends.readers.items ∷ [])
-      → IsStageSettled queues.items.items (map (λ end. end.head) ends.dispatchers.items) (map (λ end. end.tails.items) ends.forwarders.items)
-      → AreLanesSettled lanes (map (λ list. map (λ end. end.head) list.items) ends.workers.items) (map (λ end. end.tails.items) ends.dispatchers.items)
+      → AreQueuesSettled queues.records.items (map (λ end. end.head) ends.forwarders.items) (map (λ end. end.tail) ends.readers.items ∷ [])
+      → AreQueuesSettled queues.items.items (map (λ end. end.head) ends.tenant_workers.items) (map (λ end. end.tails.items) ends.forwarders.items)
+      → AreGroupsSettled groups (map (λ list. map (λ end. end.head) list.items) ends.workers.items) (map (λ end. end.tails.items) ends.tenant_workers.items)
       → Evidence G gens to_come faults feeds inbox (cells_of gens asked)
   evidence fed records_settled items_settled triggers_settled = record {
     records = queues.records.items;
     items = queues.items.items;
-    triggers = lanes;
+    triggers = groups;
     reader_ends = ends.readers.items;
     forwarder_ends = ends.forwarders.items;
-    dispatcher_ends = ends.dispatchers.items;
+    tenant_worker_ends = ends.tenant_workers.items;
     worker_ends = map (λ list. list.items) ends.workers.items;
     threads = H;
     feed_count = fed;
     record_senders = O.records.of_senders;
     item_senders = O.items.of_senders;
-    trigger_senders = map_map (map (λ (queue : Shape). queue.name.senders)) (λ lane. lane.items) queues.triggers.items ∙ O.trigger_senders ∙ sym (map_map (map (λ (queue : Shape). 1)) (λ lane. lane.items) queues.triggers.items);
+    trigger_senders = map_map (map (λ (queue : Shape). queue.name.senders)) (λ group. group.items) queues.triggers.items ∙ O.trigger_senders ∙ sym (map_map (map (λ (queue : Shape). 1)) (λ group. group.items) queues.triggers.items);
     generation_count = refl;
     records_settled = records_settled;
     items_settled = items_settled;
-    triggers_settled = lanes_as lanes _ _ (map (λ (end : PassedOn (TakerSeat TenantItem) PipelineItem). end.tails.items) ends.dispatchers.items) (sym (map_map (map (λ end. end.head)) (λ list. list.items) ends.workers.items)) triggers_settled;
+    triggers_settled = groups_as groups _ _ (map (λ (end : PassedOn (TakerSeat TenantItem) PipelineItem). end.tails.items) ends.tenant_workers.items) (sym (map_map (map (λ end. end.head)) (λ list. list.items) ends.workers.items)) triggers_settled;
   }

@@ -1,4 +1,4 @@
-//! What threads handed back, by what becomes of it.
+//! Sorts what the threads of a run handed back: seats, feeds, pipelines and reports.
 ghost use Rattle.std.specs.Prelude.{◌≡◌, ◌++◌, ◌∷◌, [], IfOk, OnOk, map};
 ghost use Rattle.gate_source.specs.Stops.{IsNoteOf};
 ghost use Rattle.gate_pipeline.specs.States.{report_of};
@@ -23,16 +23,16 @@ use std::alloc::Global;
 /// What the threads of a run handed back.
 #[derive(Drop)]
 pub(crate) struct Ends<F> {
-    /// By connection number.
+    /// What the readers handed back, by connection number.
     pub(crate) readers: Vec<ReaderEnd<F>>,
     pub(crate) forwarders: Vec<PassedOn<Head<ConnEntry>, TenantItem>>,
-    /// By tenant number.
-    pub(crate) dispatchers: Vec<PassedOn<FreeHead<TenantItem>, PipelineItem>>,
-    /// By tenant number and pipeline number.
+    /// What the tenants' workers handed back, by tenant number.
+    pub(crate) tenant_workers: Vec<PassedOn<FreeHead<TenantItem>, PipelineItem>>,
+    /// What the pipelines' workers handed back, by tenant number and pipeline number.
     pub(crate) workers: Vec<Vec<WorkerEnd>>,
 }
 
-/// What readers handed back, by connection number; and what is known of what the run was asked for, by their notes, too.
+/// What readers handed back, sorted, by connection number; and what is known of the requests to the run, also from the readers' notes.
 #[derive(Drop)]
 pub(crate) struct Readings<F> {
     pub(crate) feeds: Vec<F>,
@@ -41,8 +41,8 @@ pub(crate) struct Readings<F> {
     pub(crate) asked: Asked,
 }
 
-/// Gathers what readers handed back. A note of theirs that knows a cause to stop takes the place of the one that is given, and so do
-/// notes of more generations.
+/// Sorts what readers handed back. If a reader's note knows a cause to stop, that note is kept, and if a reader knows of more generations
+/// that were asked for, its notes of them are.
 pub(crate) fn gather_readers<F: Drop>(
     alloc: Global,
     ends: Vec<ReaderEnd<F>>,
@@ -109,7 +109,7 @@ impl<F: Drop> Readings<F> {
     }
 }
 
-// The notes of renewals, and how many records were accepted before each of them.
+// Splits renewals into their notes, and the numbers of records that were accepted before each.
 fn parted(alloc: Global, renewals: Vec<Renewal>) -> Result<(Vec<StopNote>, Sequence<u64>), Memory>
     ensures notes { IfOk result (λ parts. parts.0.items ≡ notes_of renewals.items) }
     ensures counts { IfOk result (λ parts. parts.1 ≡ counts_of renewals.items) }
@@ -124,7 +124,7 @@ fn parted(alloc: Global, renewals: Vec<Renewal>) -> Result<(Vec<StopNote>, Seque
     Ok((notes, counts))
 }
 
-/// Gathers the seats of threads that took from one queue and put into several.
+/// Collects the seats of threads that took from one queue and put into several.
 pub(crate) fn gather_seats<H: Drop, T: Drop>(
     alloc: Global,
     ends: Vec<PassedOn<H, T>>,
@@ -141,7 +141,7 @@ pub(crate) fn gather_seats<H: Drop, T: Drop>(
     Ok((heads, tails))
 }
 
-/// What the pipelines' workers handed back, by tenant number and pipeline number.
+/// What the pipelines' workers handed back, sorted, by tenant number and pipeline number.
 #[derive(Drop)]
 pub(crate) struct Workings {
     pub(crate) heads: Vec<Vec<FreeHead<PipelineItem>>>,
@@ -150,7 +150,7 @@ pub(crate) struct Workings {
     pub(crate) reports: Sequence<Sequence<PipelineReport>>,
 }
 
-/// Gathers what the pipelines' workers handed back.
+/// Sorts what the pipelines' workers handed back.
 pub(crate) fn gather_workers(alloc: Global, lists: Vec<Vec<WorkerEnd>>) -> Result<Workings, Memory>
     ensures heads { IfOk result (λ back. map (λ row. row.items) back.heads.items ≡ map (λ ends. map (λ end. end.head) ends.items) lists.items) }
     ensures pipelines { IfOk result (λ back. map (λ row. row.items) back.pipelines.items ≡ map (λ ends. map (λ end. end.state) ends.items) lists.items) }
@@ -181,7 +181,7 @@ pub(crate) fn gather_workers(alloc: Global, lists: Vec<Vec<WorkerEnd>>) -> Resul
     })
 }
 
-// The same of one tenant, by pipeline number.
+// What the workers of one tenant's pipelines handed back, by pipeline number.
 #[derive(Drop)]
 struct TenantWorkings {
     heads: Vec<FreeHead<PipelineItem>>,
@@ -217,7 +217,7 @@ impl TenantWorkings {
     }
 }
 
-// Gathers what the workers of a tenant's pipelines handed back.
+// Sorts what the workers of one tenant's pipelines handed back.
 fn gather_tenant(alloc: Global, ends: Vec<WorkerEnd>) -> Result<TenantWorkings, Memory>
     ensures heads { IfOk result (λ back. back.heads.items ≡ map (λ end. end.head) ends.items) }
     ensures pipelines { IfOk result (λ back. back.pipelines.items ≡ map (λ end. end.state) ends.items) }

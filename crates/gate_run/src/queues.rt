@@ -1,29 +1,30 @@
-//! The queues of a run, from connections to pipelines.
+//! The queues of a run, from the connections to the pipelines.
 ghost use Rattle.std.specs.Prelude.{◌≡◌, ◌<◌, ◌∷◌, [], IfOk, length, map};
 ghost use Rattle.gate_config.specs.Lookups.{connections_of, tenants_of};
 ghost use Rattle.gate_run_posts.specs.Ports.{pipeline_counts};
 ghost use Rattle.gate_run.specs.Inner.Queues.{AreOpen};
 ghost use Rattle.gate_run_threads.specs.Seats.{fresh_head, fresh_tail};
-ghost use Rattle.gate_run_threads.specs.Stages.{HavePlaces, IsOpenStage};
+ghost use Rattle.gate_run_threads.specs.QueueGroups.{HavePlaces, AreOpenQueues};
 
 use gate_config::Config;
 use gate_queue::{EventQueue, FreeHead, FreeQueue, FreeTail, Head, Tail};
 use gate_record::{ConnEntry, Memory, PipelineItem, TenantId, TenantItem};
-use gate_run_threads::{Lane, Stage, open_lane, open_stage};
+use gate_run_threads::{BoundedQueues, FreeQueues, open_bounded_queues, open_free_queues};
 use std::alloc::Global;
 
 /// The queues of a run.
 #[derive(Drop)]
 pub(crate) struct Queues {
-    /// By connection number: into which its reader puts, and from which its forwarder takes.
+    /// The queue of each connection, by connection number. Its reader puts into it, and its forwarder takes from it.
     pub(crate) records: Vec<EventQueue<ConnEntry>>,
-    /// By tenant number: into which each forwarder puts, and from which the tenant's worker takes.
+    /// The queue of each tenant, by tenant number. Every forwarder puts into it, and the tenant's worker takes from it.
     pub(crate) items: Vec<FreeQueue<TenantItem>>,
-    /// By tenant number and pipeline number: into which the tenant's worker puts, and from which the pipeline's worker takes.
+    /// The trigger queue of each pipeline, by tenant number and pipeline number. The tenant's worker puts into it, and the pipeline's
+    /// worker takes from it.
     pub(crate) triggers: Vec<Vec<FreeQueue<PipelineItem>>>,
 }
 
-/// All seats in the queues of a run: the takers' by queue, and the senders' by thread.
+/// All seats in the queues of a run: the takers' seats by queue, and the senders' seats by thread.
 #[derive(Drop)]
 pub(crate) struct QueueSeats {
     pub(crate) record_heads: Vec<Head<ConnEntry>>,
@@ -34,7 +35,7 @@ pub(crate) struct QueueSeats {
     pub(crate) trigger_tails: Vec<Vec<FreeTail<PipelineItem>>>,
 }
 
-/// Opens the queues of a run. Those of connections have so many places, and the others have no bound.
+/// Opens the queues of a run. Those of connections have `places` places, and the others have no bound.
 pub(crate) fn open_queues(
     alloc: Global,
     places: usize,
@@ -44,17 +45,17 @@ pub(crate) fn open_queues(
     ensures open { IfOk result (λ opened. AreOpen config.now opened.0 opened.1) }
     ensures places { IfOk result (λ opened. HavePlaces places opened.0.records.items) }
 {
-    let Lane {
+    let BoundedQueues {
         queues: records,
         heads: record_heads,
         tails: record_tails,
     } = open_records(alloc, places, config)?;
-    let Stage {
+    let FreeQueues {
         queues: items,
         heads: item_heads,
         tails: item_tails,
     } = open_items(alloc, config)?;
-    let Lanes {
+    let QueueGroups {
         queues: triggers,
         heads: trigger_heads,
         tails: trigger_tails,
@@ -75,66 +76,70 @@ pub(crate) fn open_queues(
     Ok((queues, seats))
 }
 
-// Stages with one sender each, and all their seats, by stage and queue.
+// Groups of queues with one sender each, with all their seats, by group and queue.
 #[derive(Drop)]
-struct Lanes<T: Drop> {
+struct QueueGroups<T: Drop> {
     queues: Vec<Vec<FreeQueue<T>>>,
     heads: Vec<Vec<FreeHead<T>>>,
     tails: Vec<Vec<FreeTail<T>>>,
 }
 
-// A queue for each connection, into which its reader puts.
-fn open_records(alloc: Global, places: usize, config: &Config) -> Result<Lane<ConnEntry>, Memory>
+// Opens a queue for each connection, whose only sender is the connection's reader.
+fn open_records(
+    alloc: Global,
+    places: usize,
+    config: &Config,
+) -> Result<BoundedQueues<ConnEntry>, Memory>
     requires places { 0 < places }
-    ensures opened { IfOk result (λ lane. IsOpenStage (length (connections_of config.now)) 1 lane.queues.items lane.heads.items (lane.tails.items ∷ [])) }
-    ensures places { IfOk result (λ lane. HavePlaces places lane.queues.items) }
+    ensures opened { IfOk result (λ group. AreOpenQueues (length (connections_of config.now)) 1 group.queues.items group.heads.items (group.tails.items ∷ [])) }
+    ensures places { IfOk result (λ group. HavePlaces places group.queues.items) }
 {
-    open_lane(alloc, places, config.connections().len())
+    open_bounded_queues(alloc, places, config.connections().len())
 }
 
-// A queue for each tenant, into which each connection's forwarder puts.
-fn open_items(alloc: Global, config: &Config) -> Result<Stage<TenantItem>, Memory>
-    ensures { IfOk result (λ stage. IsOpenStage (length (tenants_of config.now)) (length (connections_of config.now)) stage.queues.items stage.heads.items (map (λ row. row.items) stage.tails.items)) }
+// Opens a queue for each tenant, whose senders are the connections' forwarders.
+fn open_items(alloc: Global, config: &Config) -> Result<FreeQueues<TenantItem>, Memory>
+    ensures { IfOk result (λ opened. AreOpenQueues (length (tenants_of config.now)) (length (connections_of config.now)) opened.queues.items opened.heads.items (map (λ row. row.items) opened.tails.items)) }
 {
-    open_stage(alloc, config.tenants().len(), config.connections().len())
+    open_free_queues(alloc, config.tenants().len(), config.connections().len())
 }
 
-// A trigger queue of one sender for each pipeline, by tenant.
-fn open_triggers(alloc: Global, config: &Config) -> Result<Lanes<PipelineItem>, Memory>
-    ensures counts { IfOk result (λ lanes. map (λ queues. length queues.items) lanes.queues.items ≡ pipeline_counts config.now) }
-    ensures senders { IfOk result (λ lanes. map (λ queues. map (λ queue. queue.name.senders) queues.items) lanes.queues.items ≡ map (λ queues. map (λ queue. 1) queues.items) lanes.queues.items) }
-    ensures heads { IfOk result (λ lanes. map (λ row. row.items) lanes.heads.items ≡ map (λ queues. map fresh_head queues.items) lanes.queues.items) }
-    ensures tails { IfOk result (λ lanes. map (λ row. row.items) lanes.tails.items ≡ map (λ queues. map (fresh_tail 0) queues.items) lanes.queues.items) }
+// Opens a trigger queue for each pipeline, by tenant, whose only sender is the tenant's worker.
+fn open_triggers(alloc: Global, config: &Config) -> Result<QueueGroups<PipelineItem>, Memory>
+    ensures counts { IfOk result (λ groups. map (λ queues. length queues.items) groups.queues.items ≡ pipeline_counts config.now) }
+    ensures senders { IfOk result (λ groups. map (λ queues. map (λ queue. queue.name.senders) queues.items) groups.queues.items ≡ map (λ queues. map (λ queue. 1) queues.items) groups.queues.items) }
+    ensures heads { IfOk result (λ groups. map (λ row. row.items) groups.heads.items ≡ map (λ queues. map fresh_head queues.items) groups.queues.items) }
+    ensures tails { IfOk result (λ groups. map (λ row. row.items) groups.tails.items ≡ map (λ queues. map (fresh_tail 0) queues.items) groups.queues.items) }
 {
     let mut queues = Vec::new(alloc);
     let mut heads = Vec::new(alloc);
     let mut tails = Vec::new(alloc);
     for number in 0..config.tenants().len() {
         let count = config.pipelines(TenantId(number as u32)).len();
-        let (lane, own_heads, own_tails) = open_single(alloc, count)?;
-        queues.push(lane)?;
+        let (group, own_heads, own_tails) = open_single(alloc, count)?;
+        queues.push(group)?;
         heads.push(own_heads)?;
         tails.push(own_tails)?;
     }
-    Ok(Lanes {
+    Ok(QueueGroups {
         queues,
         heads,
         tails,
     })
 }
 
-// A stage of so many queues with one sender: all queues, then their takers' seats and their senders'.
+// Opens `count` queues with one sender. The answer has the queues, the takers' seats and the sender's.
 fn open_single<T: Drop>(
     alloc: Global,
     count: usize,
 ) -> Result<(Vec<FreeQueue<T>>, Vec<FreeHead<T>>, Vec<FreeTail<T>>), Memory>
-    ensures { IfOk result (λ opened. IsOpenStage count 1 opened.0.items opened.1.items (opened.2.items ∷ [])) }
+    ensures { IfOk result (λ opened. AreOpenQueues count 1 opened.0.items opened.1.items (opened.2.items ∷ [])) }
 {
-    let Stage {
+    let FreeQueues {
         queues,
         heads,
         mut tails,
-    } = open_stage(alloc, count, 1)?;
+    } = open_free_queues(alloc, count, 1)?;
     let Some(own) = tails.pop() else {
         unreachable!()
     };

@@ -1,4 +1,4 @@
-//! All threads of a run at once.
+//! Runs all threads at once, and waits for them.
 ghost use denote.Param.Send.{IsSync};
 ghost use Rattle.std.specs.Prelude.{◌≡◌, ◌-◌, ◌<◌, ◌^◌, All, IfOk, length, map};
 ghost use Rattle.gate_config.specs.Lookups.{connections_of};
@@ -11,19 +11,18 @@ ghost use Rattle.gate_run.specs.Inner.Works.{Dispatched, Forwarded, HaveRun, Rea
 
 use crate::gathering::Ends;
 use crate::queues::{QueueSeats, Queues};
-use crate::seating::{seat_dispatchers, seat_forwarders, seat_readers, seat_workers};
+use crate::seating::{seat_forwarders, seat_readers, seat_tenant_workers, seat_workers};
 use gate_config::Generations;
 use gate_queue::{FreeHead, Head};
 use gate_record::{ConnEntry, PipelineItem, TenantItem};
 use gate_run_crossing::{config_crosses, generations_cross};
-use gate_run_dispatcher::Dispatcher;
-use gate_run_forwarder::Forwarder;
 use gate_run_posts::{Asked, PipelineInbox};
 use gate_run_reader::{Reader, ReaderEnd};
+use gate_run_stages::{Forwarder, TenantWorker};
 use gate_run_threads::{
     PassedOn, RunFault, Signals, Thread, Work, join_all, join_lists, start_all, start_lists,
 };
-use gate_run_worker::{Gate, Worker, WorkerEnd};
+use gate_run_worker::{Gate, PipelineWorker, WorkerEnd};
 use gate_source::RecordFeed;
 use std::alloc::Global;
 use std::sync::Wait;
@@ -32,8 +31,8 @@ use std::thread;
 use std::thread::Threads;
 use std::time::Clock;
 
-/// Seats a thread for each connection's reader and forwarder, each tenant's worker and each pipeline's, runs them all, and waits for
-/// them: what they handed back. `Memory` and `Thread` as those that run them.
+/// Runs a thread for each connection's reader and forwarder, each tenant's worker and each pipeline's. It waits for all of them, and gives
+/// what they handed back. It fails as `serve` does.
 pub(crate) fn run_between<
     'a,
     F: RecordFeed + Drop + Send,
@@ -70,7 +69,7 @@ pub(crate) fn run_between<
         halted: AtomicBool::new(false),
         readers: Vec::new(alloc),
         forwarders: Vec::new(alloc),
-        dispatchers: Vec::new(alloc),
+        tenant_workers: Vec::new(alloc),
         workers: Vec::new(alloc),
     };
     let readers = seat_readers(
@@ -93,14 +92,14 @@ pub(crate) fn run_between<
         item_tails,
         &mut signals.forwarders,
     )?;
-    let dispatchers = seat_dispatchers(
+    let tenant_workers = seat_tenant_workers(
         alloc,
         gens,
         &queues.items,
         item_heads,
         &queues.triggers,
         trigger_tails,
-        &mut signals.dispatchers,
+        &mut signals.tenant_workers,
     )?;
     let workers = seat_workers(
         alloc,
@@ -117,30 +116,30 @@ pub(crate) fn run_between<
         &signals,
         readers,
         forwarders,
-        dispatchers,
+        tenant_workers,
         workers,
     )
 }
 
-// Starts a thread for each of these works, and waits for all of them: what they handed back. No reader reads before all are started.
-// `Thread` where one can't be started, and `Memory` where there is no room for a thread's handle or for what threads hand back; then
-// those that run are told to halt, and are waited for.
+// Starts a thread for each of these works, waits for all of them, and gives what they handed back. No reader reads before all threads are
+// started. `Thread` says that a thread couldn't be started, and `Memory` that there was no room for a thread's handle or for what threads
+// handed back. In both cases the threads that run are told to return, and are waited for.
 fn run_works<'a, F: RecordFeed + Drop + Send, G: Gate + Sync, R: Threads + Wait + Clock + Sync>(
     rt: &R,
     alloc: Global,
     signals: &Signals,
     readers: Vec<Reader<'a, F>>,
     forwarders: Vec<Forwarder<'a>>,
-    dispatchers: Vec<Dispatcher<'a>>,
-    workers: Vec<Vec<Worker<'a, G>>>,
+    tenant_workers: Vec<TenantWorker<'a>>,
+    workers: Vec<Vec<PipelineWorker<'a, G>>>,
 ) -> Result<Ends<F>, RunFault>
     requires readers { All (ReadyToRead F.fault_count) readers.items }
     requires forwarders { All ReadyToForward forwarders.items }
-    requires dispatchers { All ReadyToDispatch dispatchers.items }
+    requires tenant_workers { All ReadyToDispatch tenant_workers.items }
     requires workers { All (λ list. All ReadyToWork list.items) workers.items }
     ensures readers { IfOk result (λ ends. Pairwise (Read F.to_come F.fault_count) readers.entry.items ends.readers.items) }
     ensures forwarders { IfOk result (λ ends. Pairwise Forwarded forwarders.entry.items ends.forwarders.items) }
-    ensures dispatchers { IfOk result (λ ends. Pairwise Dispatched dispatchers.entry.items ends.dispatchers.items) }
+    ensures tenant_workers { IfOk result (λ ends. Pairwise Dispatched tenant_workers.entry.items ends.tenant_workers.items) }
     ensures workers { IfOk result (λ ends. Pairwise (Pairwise Worked) (map (λ list. list.items) workers.entry.items) (map (λ list. list.items) ends.workers.items)) }
 {
     thread::scope(
@@ -149,18 +148,18 @@ fn run_works<'a, F: RecordFeed + Drop + Send, G: Gate + Sync, R: Threads + Wait 
         move |scope| -> Result<Ends<F>, RunFault>
             requires readers { All (ReadyToRead F.fault_count) readers.items }
             requires forwarders { All ReadyToForward forwarders.items }
-            requires dispatchers { All ReadyToDispatch dispatchers.items }
+            requires tenant_workers { All ReadyToDispatch tenant_workers.items }
             requires workers { All (λ list. All ReadyToWork list.items) workers.items }
             ensures readers { IfOk result (λ ends. Pairwise (Read F.to_come F.fault_count) readers.entry.items ends.readers.items) }
             ensures forwarders { IfOk result (λ ends. Pairwise Forwarded forwarders.entry.items ends.forwarders.items) }
-            ensures dispatchers { IfOk result (λ ends. Pairwise Dispatched dispatchers.entry.items ends.dispatchers.items) }
+            ensures tenant_workers { IfOk result (λ ends. Pairwise Dispatched tenant_workers.entry.items ends.tenant_workers.items) }
             ensures workers { IfOk result (λ ends. Pairwise (Pairwise Worked) (map (λ list. list.items) workers.entry.items) (map (λ list. list.items) ends.workers.items)) }
         {
             config_crosses();
             generations_cross();
             is_shared::<G>();
             let workers = start_lists(scope, rt, alloc, signals, workers)?;
-            let dispatchers = start_all(scope, rt, alloc, signals, dispatchers)?;
+            let tenant_workers = start_all(scope, rt, alloc, signals, tenant_workers)?;
             let forwarders = start_all(scope, rt, alloc, signals, forwarders)?;
             let readers = start_all(scope, rt, alloc, signals, readers)?;
             signals.begin();
@@ -170,14 +169,15 @@ fn run_works<'a, F: RecordFeed + Drop + Send, G: Gate + Sync, R: Threads + Wait 
                 signals,
                 readers,
                 forwarders,
-                dispatchers,
+                tenant_workers,
                 workers,
             )
         },
     )
 }
 
-// Waits for all of these threads: what they handed back. It stands apart so that no thread is started among its exits.
+// Waits for all of these threads, and gives what they handed back. This is a function of its own so that no thread is started among its
+// exits.
 fn join_works<
     F: Drop,
     Reading: Work<ReaderEnd<F>>,
@@ -191,23 +191,23 @@ fn join_works<
     signals: &Signals,
     readers: Vec<Thread<ReaderEnd<F>, Reading>>,
     forwarders: Vec<Thread<PassedOn<Head<ConnEntry>, TenantItem>, Forwarding>>,
-    dispatchers: Vec<Thread<PassedOn<FreeHead<TenantItem>, PipelineItem>, Dispatching>>,
+    tenant_workers: Vec<Thread<PassedOn<FreeHead<TenantItem>, PipelineItem>, Dispatching>>,
     workers: Vec<Vec<Thread<WorkerEnd, Working>>>,
 ) -> Result<Ends<F>, RunFault>
     ensures readers { IfOk result (λ ends. Pairwise Reading.comes_to (map (λ thread. thread.promise.work.value) readers.items) ends.readers.items) }
     ensures forwarders { IfOk result (λ ends. Pairwise Forwarding.comes_to (map (λ thread. thread.promise.work.value) forwarders.items) ends.forwarders.items) }
-    ensures dispatchers { IfOk result (λ ends. Pairwise Dispatching.comes_to (map (λ thread. thread.promise.work.value) dispatchers.items) ends.dispatchers.items) }
+    ensures tenant_workers { IfOk result (λ ends. Pairwise Dispatching.comes_to (map (λ thread. thread.promise.work.value) tenant_workers.items) ends.tenant_workers.items) }
     ensures workers { IfOk result (λ ends. Pairwise (Pairwise Working.comes_to) (map (λ list. map (λ thread. thread.promise.work.value) list.items) workers.items) (map (λ list. list.items) ends.workers.items)) }
 {
     Ok(Ends {
         readers: join_all(rt, signals, readers)?,
         forwarders: join_all(rt, signals, forwarders)?,
-        dispatchers: join_all(rt, signals, dispatchers)?,
+        tenant_workers: join_all(rt, signals, tenant_workers)?,
         workers: join_lists(rt, alloc, signals, workers)?,
     })
 }
 
-// Of a type that threads may share, that they may.
+// `T` is `Sync`.
 fn is_shared<T: Sync>()
     ensures { IsSync T.row }
 {}

@@ -1,11 +1,11 @@
-//! The threads of a run before they begin, each with its seats, and what wakes them.
+//! Makes the threads of a run ready to start, each with its seats and its parker.
 ghost use Rattle.std.specs.Prelude.{◌≡◌, ◌-◌, ◌<◌, ◌^◌, All, IfOk, length, map};
 ghost use Rattle.std.specs.List.{range_with_len};
 ghost use Rattle.gate_config.specs.Lookups.{connections_of, pipelines_of, tenants_of};
 ghost use Rattle.gate_run_threads.specs.Lists.{EachAt};
 ghost use Rattle.gate_run_posts.specs.PipelineEnds.{inbox_of};
 ghost use Rattle.gate_run_posts.specs.Ports.{pipeline_counts};
-ghost use Rattle.gate_run.specs.Inner.Seatings.{AreWorkersOf, IsDispatcherOf, IsForwarderOf, IsReaderOf, IsWorkerOf};
+ghost use Rattle.gate_run.specs.Inner.Seatings.{AreWorkersOf, IsTenantWorkerOf, IsForwarderOf, IsReaderOf, IsWorkerOf};
 ghost use Rattle.gate_run_threads.specs.Seats.{fresh_head, fresh_tail};
 
 use crossbeam_utils::sync::{Parker, Unparker};
@@ -13,23 +13,22 @@ use gate_config::{Config, Generations};
 use gate_pipeline::Pipeline;
 use gate_queue::{EventQueue, FreeHead, FreeQueue, FreeTail, Head, Tail};
 use gate_record::{ConnEntry, ConnId, Memory, PipelineId, PipelineItem, TenantId, TenantItem};
-use gate_run_dispatcher::Dispatcher;
-use gate_run_forwarder::Forwarder;
 use gate_run_posts::PipelineInbox;
 use gate_run_reader::Reader;
+use gate_run_stages::{Forwarder, TenantWorker};
 use gate_run_threads::next_of;
-use gate_run_worker::Worker;
+use gate_run_worker::PipelineWorker;
 use gate_source::{RecordFeed, StopCell};
 use std::alloc::Global;
 
-// What a thread parks on. What wakes it is added to these.
+// Makes the parker of a thread, and adds its waker to a list.
 fn new_parker(alloc: Global, wakers: &mut Vec<Unparker>) -> Result<Parker, Memory> {
     let parker = Parker::new(alloc)?;
     wakers.push(parker.unparker().clone()?)?;
     Ok(parker)
 }
 
-/// A reader for each connection, and what wakes each.
+/// Makes a reader for each connection, and adds their wakers.
 pub(crate) fn seat_readers<'a, F: RecordFeed + Drop>(
     alloc: Global,
     config: &Config,
@@ -70,7 +69,7 @@ pub(crate) fn seat_readers<'a, F: RecordFeed + Drop>(
     Ok(readers)
 }
 
-/// A forwarder for each connection, and what wakes each.
+/// Makes a forwarder for each connection, and adds their wakers.
 pub(crate) fn seat_forwarders<'a>(
     alloc: Global,
     gens: &'a Generations,
@@ -106,8 +105,8 @@ pub(crate) fn seat_forwarders<'a>(
     Ok(forwarders)
 }
 
-/// A worker for each tenant, and what wakes each.
-pub(crate) fn seat_dispatchers<'a>(
+/// Makes a worker for each tenant, and adds their wakers.
+pub(crate) fn seat_tenant_workers<'a>(
     alloc: Global,
     gens: &'a Generations,
     sources: &'a [FreeQueue<TenantItem>],
@@ -115,21 +114,21 @@ pub(crate) fn seat_dispatchers<'a>(
     targets: &'a [Vec<FreeQueue<PipelineItem>>],
     tails: Vec<Vec<FreeTail<PipelineItem>>>,
     wakers: &mut Vec<Unparker>,
-) -> Result<Vec<Dispatcher<'a>>, Memory>
+) -> Result<Vec<TenantWorker<'a>>, Memory>
     requires sources { length sources.now ≡ length (tenants_of gens.now.first) }
     requires heads { heads.items ≡ map fresh_head sources.now }
     requires targets { map (λ queues. length queues.items) targets.now ≡ pipeline_counts gens.now.first }
     requires tails { map (λ row. row.items) tails.items ≡ map (λ queues. map (fresh_tail 0) queues.items) targets.now }
     ensures count { IfOk result (λ made. length made.items ≡ length (tenants_of gens.entry.now.first)) }
-    ensures dispatchers { IfOk result (λ made. EachAt (IsDispatcherOf gens.entry.now sources.entry.now (map (λ queues. queues.items) targets.entry.now)) made.items) }
+    ensures tenant_workers { IfOk result (λ made. EachAt (IsTenantWorkerOf gens.entry.now sources.entry.now (map (λ queues. queues.items) targets.entry.now)) made.items) }
 {
     let mut heads = heads.into_iter();
     let mut tails = tails.into_iter();
-    let mut dispatchers = Vec::new(alloc);
+    let mut tenant_workers = Vec::new(alloc);
     for number in 0..gens.first().tenants().len() {
         let tenant = TenantId(number as u32);
         let parker = new_parker(alloc, wakers)?;
-        dispatchers.push(Dispatcher {
+        tenant_workers.push(TenantWorker {
             alloc,
             gens,
             tenant,
@@ -140,10 +139,10 @@ pub(crate) fn seat_dispatchers<'a>(
             parker,
         })?;
     }
-    Ok(dispatchers)
+    Ok(tenant_workers)
 }
 
-/// A worker for each pipeline, by tenant, and what wakes each.
+/// Makes a worker for each pipeline, by tenant, and adds their wakers.
 pub(crate) fn seat_workers<'a, G>(
     alloc: Global,
     config: &'a Config,
@@ -152,7 +151,7 @@ pub(crate) fn seat_workers<'a, G>(
     inbox: Vec<Vec<PipelineInbox>>,
     gate: &'a G,
     wakers: &mut Vec<Vec<Unparker>>,
-) -> Result<Vec<Vec<Worker<'a, G>>>, Memory>
+) -> Result<Vec<Vec<PipelineWorker<'a, G>>>, Memory>
     requires sources { map (λ queues. length queues.items) sources.now ≡ pipeline_counts config.now }
     requires heads { map (λ row. row.items) heads.items ≡ map (λ queues. map fresh_head queues.items) sources.now }
     requires inbox { map (λ row. length row.items) inbox.items ≡ pipeline_counts config.now }
@@ -183,7 +182,7 @@ pub(crate) fn seat_workers<'a, G>(
     Ok(workers)
 }
 
-// A worker for each pipeline of a tenant.
+// Makes a worker for each pipeline of a tenant, and adds their wakers.
 fn seat_pipelines<'a, G>(
     alloc: Global,
     config: &'a Config,
@@ -193,7 +192,7 @@ fn seat_pipelines<'a, G>(
     inbox: Vec<PipelineInbox>,
     gate: &'a G,
     wakers: &mut Vec<Unparker>,
-) -> Result<Vec<Worker<'a, G>>, Memory>
+) -> Result<Vec<PipelineWorker<'a, G>>, Memory>
     requires sources { length sources.now ≡ length (pipelines_of config.now tenant.0) }
     requires heads { heads.items ≡ map fresh_head sources.now }
     requires inbox { length inbox.items ≡ length (pipelines_of config.now tenant.0) }
@@ -212,7 +211,7 @@ fn seat_pipelines<'a, G>(
             parker,
         } = place;
         wakers.push(parker.unparker().clone()?)?;
-        workers.push(Worker {
+        workers.push(PipelineWorker {
             config,
             tenant,
             pipeline,

@@ -1,4 +1,4 @@
-//! A whole run: its queues are opened, its threads work, and what they hand back is put together.
+//! A whole run: opens its queues, lets its threads work, and puts together what they hand back.
 ghost use Rattle.std.specs.Prelude.{◌≡◌, ◌∷◌, ◌-◌, ◌<◌, ◌^◌, [], All, IfOk, length, map};
 ghost use Rattle.std.specs.List.{range_with_len};
 ghost use Rattle.gate_config.specs.Lookups.{connections_of};
@@ -13,7 +13,7 @@ ghost use Rattle.gate_run_reader.specs.Readers.{notes_of};
 ghost use Rattle.gate_run_posts.specs.Ports.{IsInboxFor};
 ghost use Rattle.gate_run_threads.specs.Seats.{seat_in, seat_of};
 ghost use Rattle.gate_run.specs.Serving.{Serves};
-ghost use Rattle.gate_run_threads.specs.Stages.{AreLanesSettled, IsStageSettled};
+ghost use Rattle.gate_run_threads.specs.QueueGroups.{AreGroupsSettled, AreQueuesSettled};
 
 use crate::gathering::{Ends, Readings, Workings, gather_readers, gather_seats, gather_workers};
 use crate::queues::{Queues, open_queues};
@@ -23,11 +23,12 @@ use gate_delivery::each_way_delivers;
 use gate_pipeline::{Pipeline, what_was_taken_is_processed};
 use gate_queue::{EventQueue, FreeQueue};
 use gate_record::{
-    ConnEntry, Memory, PipelineItem, TenantItem, entries_have_generations, records_have_generations,
+    ConnEntry, Memory, PLACES, PipelineItem, TenantItem, entries_have_generations,
+    records_have_generations,
 };
-use gate_report::{PLACES, RunReport};
+use gate_report::RunReport;
 use gate_run_posts::{Asked, Inbox};
-use gate_run_threads::{RunFault, settle_lane, settle_lanes, settle_stage};
+use gate_run_threads::{RunFault, settle_bounded_queues, settle_free_queues, settle_groups};
 use gate_run_worker::Gate;
 use gate_source::RecordFeed;
 use std::alloc::Global;
@@ -35,40 +36,40 @@ use std::sync::Wait;
 use std::thread::Threads;
 use std::time::Clock;
 
-/// What a run hands back.
+/// What a run hands back when all of its threads have returned.
 #[derive(Drop)]
 pub struct Served<F> {
-    /// How many records of each connection were accepted, how many of them before each renewal, and why there were no more; and what
-    /// each pipeline has processed.
+    /// What happened. For each connection: how many records were accepted, how many of them before each renewal, and why there were no
+    /// more. For each pipeline: what it has processed.
     pub report: RunReport,
     /// The pipelines, by tenant number and pipeline number.
     pub pipelines: Vec<Vec<Pipeline>>,
     /// The feeds, by connection number.
     pub feeds: Vec<F>,
-    /// The inbox, for a next run.
+    /// The inbox, which a next run may take over.
     pub inbox: Inbox,
 }
 
-/// Runs a configuration until all that its feeds have is processed, or a stop was asked for, or memory was refused: a reader and a
-/// forwarder for each connection, a worker for each tenant and one for each pipeline, each in a thread of its own. The queue between a
-/// reader and its forwarder has 4,096 places; those of tenants and pipelines have no bound. It waits for all of them.
+/// Runs a configuration until all records of its feeds are processed, or a stop was asked for, or memory was refused. Each connection has a
+/// reader and a forwarder, and each tenant and each pipeline has a worker, each in a thread of its own. The queue between a reader and its
+/// forwarder has 4,096 places. The queues of tenants and the trigger queues have no bound. The call waits for all threads.
 ///
-/// Each connection begins with the first generation of the configuration. For each generation that is asked for through the inbox, or
-/// was so in a run before this one, its reader puts a mark behind the records that it has accepted, before it accepts the next one that
-/// it gets; from that mark on the connection goes by that generation. A stop comes before a mark.
+/// Each connection begins with the first generation of the configuration. For each generation that is asked for through the inbox, in this
+/// run or in one before it, the connection's reader puts a mark after the records that it has accepted, before it accepts the next record
+/// that it gets. From that mark on the connection goes by that generation. A stop comes before a mark.
 ///
-/// `feeds` are those of the connections, by connection number, each of which has answered fewer than 2^64 - 1 faults; `inbox` was
-/// opened on this configuration. Each pipeline begins with nothing in it. `gate` is told of each pipeline by its worker.
+/// `feeds` has one for each connection, by connection number, and each must have answered fewer than 2^64 - 1 faults. `inbox` must have
+/// been opened on this configuration. Each pipeline begins with no items. Each worker tells `gate` what its pipeline does.
 ///
-/// Where it answers, what each pipeline has processed of a connection is a prefix of what the rules select of the records that were
-/// accepted from that connection, each by the generation in force at it, in order, and all of it where the pipeline is finished; and it
-/// has processed the management events and results that its worker took from the inbox, in order. The report says for each connection
-/// how many records were accepted before each mark, and a mark was put only for a generation that was asked for. That it answers isn't
-/// promised: a feed may have records for ever, and a gate may wait for ever; nor is it that a mark is put, or when.
+/// If the call returns, what each pipeline has processed of a connection is a prefix of what its rules select of that connection's accepted
+/// records, in order, each record by the generation in force at it; and it is all of that where the pipeline is finished. Each pipeline has
+/// processed the management events and results that its worker took from the inbox, in order. The report says for each connection how many
+/// records were accepted before each mark, and a mark was put only for a generation that was asked for. It isn't promised that the call
+/// returns, because a feed may have records for ever, and a gate may wait for ever. Nor is it promised that a mark is put, or when.
 ///
-/// `Memory` where it was refused before the threads began, or for what they hand back, and `Thread` where a thread couldn't be started;
-/// then the threads that run are told to halt and are waited for, and feeds and inbox are lost. Where memory is refused to a thread
-/// all return early, and that is no fault: the report has the cause `Memory`, and pipelines may not be finished.
+/// `Memory` says that memory was refused before the threads began, or for what they hand back, and `Thread` that a thread couldn't be
+/// started. Then the threads that run are told to return and are waited for, and feeds and inbox are lost. Where memory is refused to a
+/// running thread, all threads return early. That is no fault: the report has the cause `Memory`, and pipelines may not be finished.
 pub fn serve<'c, F: RecordFeed + Drop + Send, G: Gate + Sync, R: Threads + Wait + Clock + Sync>(
     rt: &R,
     alloc: Global,
@@ -85,7 +86,7 @@ pub fn serve<'c, F: RecordFeed + Drop + Send, G: Gate + Sync, R: Threads + Wait 
     serve_over(rt, alloc, PLACES, gens, feeds, inbox, gate)
 }
 
-/// The same with so many places, at least one, for the queue of each connection.
+/// Does the same as `serve` with this many places, at least one, for the queue of each connection.
 pub fn serve_over<
     'c,
     F: RecordFeed + Drop + Send,
@@ -110,7 +111,7 @@ pub fn serve_over<
     records_have_generations();
     each_way_delivers();
     what_was_taken_is_processed();
-    let Inbox { tenants, asked } = inbox;
+    let (tenants, asked) = inbox.into_parts();
     let (queues, seats) = open_queues(alloc, places, gens.first())?;
     let ends = run_between(
         rt, alloc, gens, &queues, seats, feeds, tenants, &asked, gate,
@@ -124,7 +125,7 @@ pub fn serve_over<
     Ok(served)
 }
 
-/// Ends the queues of threads that have returned, and gathers what they handed back. `Memory` where there is none for that.
+/// Ends the queues of threads that have returned, and puts together what the threads handed back.
 pub(crate) fn finish<F: Drop, R: Wait>(
     rt: &R,
     alloc: Global,
@@ -140,11 +141,11 @@ pub(crate) fn finish<F: Drop, R: Wait>(
     requires record_heads { map (λ end. end.head.queue) ends.forwarders.items ≡ map (λ queue. queue.name) records.items }
     requires record_tails { map (λ end. seat_of end.tail) ends.readers.items ≡ map (seat_in 0) records.items }
     requires item_senders { map (λ queue. queue.name.senders) items.items ≡ map (λ queue. length ends.forwarders.items) items.items }
-    requires item_heads { map (λ end. end.head.queue) ends.dispatchers.items ≡ map (λ queue. queue.name) items.items }
+    requires item_heads { map (λ end. end.head.queue) ends.tenant_workers.items ≡ map (λ queue. queue.name) items.items }
     requires item_tails { map (λ end. map seat_of end.tails.items) ends.forwarders.items ≡ map (λ s. map (seat_in s) items.items) (range_with_len 0 (length ends.forwarders.items)) }
     requires trigger_senders { map (λ queues. map (λ queue. queue.name.senders) queues.items) triggers.items ≡ map (λ queues. map (λ queue. 1) queues.items) triggers.items }
     requires trigger_heads { map (λ list. map (λ end. end.head.queue) list.items) ends.workers.items ≡ map (λ queues. map (λ queue. queue.name) queues.items) triggers.items }
-    requires trigger_tails { map (λ end. map seat_of end.tails.items) ends.dispatchers.items ≡ map (λ queues. map (seat_in 0) queues.items) triggers.items }
+    requires trigger_tails { map (λ end. map seat_of end.tails.items) ends.tenant_workers.items ≡ map (λ queues. map (seat_in 0) queues.items) triggers.items }
     ensures feeds { IfOk result (λ served. served.feeds.items ≡ map (λ end. end.feed) ends.readers.items) }
     ensures connections { IfOk result (λ served. served.report.connections ≡ map report_of_reader ends.readers.items) }
     ensures reports { IfOk result (λ served. served.report.pipelines ≡ map (λ list. map (λ end. report_of end.state) list.items) ends.workers.items) }
@@ -156,14 +157,14 @@ pub(crate) fn finish<F: Drop, R: Wait>(
     ensures cells { IfOk result (λ served. served.inbox.cells ≡ asked.cells) }
     ensures asked { IfOk result (λ served. served.inbox.asked ≡ most_asked asked.asked ends.readers.items) }
     ensures known { IfOk result (λ served. AreKnown served.inbox.cells served.inbox.asked) }
-    ensures records { IfOk result (λ served. IsStageSettled records.items (map (λ end. end.head) ends.forwarders.items) (map (λ end. end.tail) ends.readers.items ∷ [])) }
-    ensures items { IfOk result (λ served. IsStageSettled items.items (map (λ end. end.head) ends.dispatchers.items) (map (λ end. end.tails.items) ends.forwarders.items)) }
-    ensures triggers { IfOk result (λ served. AreLanesSettled (map (λ queues. queues.items) triggers.items) (map (λ list. map (λ end. end.head) list.items) ends.workers.items) (map (λ end. end.tails.items) ends.dispatchers.items)) }
+    ensures records { IfOk result (λ served. AreQueuesSettled records.items (map (λ end. end.head) ends.forwarders.items) (map (λ end. end.tail) ends.readers.items ∷ [])) }
+    ensures items { IfOk result (λ served. AreQueuesSettled items.items (map (λ end. end.head) ends.tenant_workers.items) (map (λ end. end.tails.items) ends.forwarders.items)) }
+    ensures triggers { IfOk result (λ served. AreGroupsSettled (map (λ queues. queues.items) triggers.items) (map (λ list. map (λ end. end.head) list.items) ends.workers.items) (map (λ end. end.tails.items) ends.tenant_workers.items)) }
 {
     let Ends {
         readers,
         forwarders,
-        dispatchers,
+        tenant_workers,
         workers,
     } = ends;
     let Readings {
@@ -173,16 +174,16 @@ pub(crate) fn finish<F: Drop, R: Wait>(
         asked,
     } = gather_readers(alloc, readers, asked)?;
     let (record_heads, item_tails) = gather_seats(alloc, forwarders)?;
-    let (item_heads, trigger_tails) = gather_seats(alloc, dispatchers)?;
+    let (item_heads, trigger_tails) = gather_seats(alloc, tenant_workers)?;
     let Workings {
         heads: trigger_heads,
         pipelines,
         inbox,
         reports,
     } = gather_workers(alloc, workers)?;
-    settle_lane(rt, alloc, records, record_heads, record_tails)?;
-    settle_stage(rt, alloc, items, item_heads, item_tails)?;
-    settle_lanes(rt, alloc, triggers, trigger_heads, trigger_tails)?;
+    settle_bounded_queues(rt, alloc, records, record_heads, record_tails)?;
+    settle_free_queues(rt, alloc, items, item_heads, item_tails)?;
+    settle_groups(rt, alloc, triggers, trigger_heads, trigger_tails)?;
     Ok(Served {
         report: RunReport {
             connections,
@@ -190,9 +191,6 @@ pub(crate) fn finish<F: Drop, R: Wait>(
         },
         pipelines,
         feeds,
-        inbox: Inbox {
-            tenants: inbox,
-            asked,
-        },
+        inbox: Inbox::from_parts(inbox, asked),
     })
 }

@@ -1,4 +1,4 @@
-//! The queues of management events and results: what is posted from outside, and taken by the pipelines' workers.
+//! The queues of management events and results: `Posts` is the end where others put, and `Inbox` the one where the pipelines' workers take.
 ghost use Rattle.std.specs.Prelude.{◌≡◌, ◌<◌, ◌+◌, [], IfErr, IfNone, IfOk, IfSome, OnErr, OnOk, is_some, length, map};
 ghost use Rattle.gate_queue.specs.Seats.{IsTailOf};
 ghost use Rattle.gate_run_threads.specs.Lists.{Pairwise};
@@ -11,8 +11,7 @@ use crossbeam_utils::sync::{Parker, Unparker};
 use gate_config::{Config, Generations};
 use gate_items::{JobResult, Manage};
 use gate_queue::{EventQueue, Full, Tail};
-use gate_record::{Memory, PipelineId, Shared, TenantId};
-use gate_report::PLACES;
+use gate_record::{Memory, PLACES, PipelineId, Shared, TenantId};
 use gate_run_threads::open_queue;
 use gate_run_worker::InboxSeat;
 use gate_source::StopCause;
@@ -20,7 +19,7 @@ use std::alloc::Global;
 use std::marker::Model;
 use std::sync::Wait;
 
-/// Why a management event or a result was not posted; it comes back.
+/// Why a management event or a result was not posted. The value comes back.
 #[derive(Debug, Drop)]
 pub enum PostFault<T> {
     /// There is no such pipeline.
@@ -29,7 +28,7 @@ pub enum PostFault<T> {
     Full(T),
 }
 
-/// The only sender's seat, with its queue.
+/// The seat of the only sender of a queue, with the queue.
 #[derive(Drop)]
 pub(crate) struct PostSeat<T> {
     queue: Shared<EventQueue<T>>,
@@ -49,7 +48,7 @@ impl<T> PostSeat<T> {
     ghost use Rattle.gate_queue.specs.States.{MayBeFull};
     ghost use Rattle.gate_run_posts.specs.Ports.{posted};
 
-    /// Puts a value. It comes back where the queue was full.
+    /// Puts a value. The value comes back where the queue was full.
     fn put<R: Wait>(&mut self, rt: &R, value: T) -> Result<(), T>
         ensures puts { OnOk result (self.new ≡ posted value self.old) }
         ensures refused { IfErr result (λ back. (back ≡ value) × (self.new ≡ self.old)) }
@@ -62,7 +61,7 @@ impl<T> PostSeat<T> {
     }
 }
 
-// Both ends of a new queue with so many places.
+// Opens a queue of this many places, and gives both of its ends.
 fn open_pair<T: Drop>(alloc: Global, places: usize) -> Result<(PostSeat<T>, InboxSeat<T>), Memory>
     requires { 0 < places }
     ensures { IfOk result (λ ends. IsOpened places ends.0 ends.1) }
@@ -73,7 +72,7 @@ fn open_pair<T: Drop>(alloc: Global, places: usize) -> Result<(PostSeat<T>, Inbo
     Ok((PostSeat { queue, tail }, InboxSeat::new(other, head)))
 }
 
-/// Where management events and results are posted to one pipeline, and what wakes its worker.
+/// The end of one pipeline's queues where management events and results are posted, with what wakes the worker.
 #[derive(Drop)]
 pub(crate) struct PipelinePosts {
     management: PostSeat<Manage>,
@@ -81,20 +80,20 @@ pub(crate) struct PipelinePosts {
     worker: Unparker,
 }
 
-/// Where the worker of one pipeline takes them, and what it waits on.
+/// The end of one pipeline's queues where its worker takes, with what the worker waits on.
 #[derive(Drop)]
 pub struct PipelineInbox {
-    /// Of the pipeline's queue of management events.
+    /// The taker's seat in the pipeline's queue of management events.
     pub management: InboxSeat<Manage>,
-    /// Of its queue of results.
+    /// The taker's seat in its queue of results.
     pub results: InboxSeat<JobResult>,
-    /// What the worker waits on; whoever posts wakes it.
+    /// What the worker waits on. Whoever posts wakes it.
     pub parker: Parker,
 }
 
-/// Where management events and results are posted to the pipelines of a configuration while `serve` runs, and where `serve` is
-/// asked to stop, and to put later generations in force. Contracts see by tenant and pipeline number what was posted, and what is
-/// known of the cause to stop and of the generations that were asked for.
+/// Where management events and results are posted to the pipelines of a configuration while `serve` runs, and where `serve` is asked to
+/// stop or to put later generations in force. Contracts see what was posted, by tenant and pipeline number, and what is known of the cause
+/// to stop and of the generations that were asked for.
 #[derive(Drop)]
 pub struct Posts {
     tenants: Vec<Vec<PipelinePosts>>,
@@ -112,13 +111,13 @@ impl Model for Posts {
     ghost view = { λ posts. record { pipelines = map (λ tenant. map ends_of tenant.items) posts.tenants.items; note = posts.asked.note; cells = posts.asked.cells; asked = posts.asked.asked } };
 }
 
-/// The other ends of the queues of `Posts`, for `serve`.
+/// The other ends of the queues of `Posts`, which `serve` takes over.
 #[derive(Drop)]
 pub struct Inbox {
-    /// By tenant and pipeline number.
-    pub tenants: Vec<Vec<PipelineInbox>>,
+    /// The workers' ends, by tenant and pipeline number.
+    tenants: Vec<Vec<PipelineInbox>>,
     /// What `serve` is asked for.
-    pub asked: Asked,
+    asked: Asked,
 }
 
 impl Model for Inbox {
@@ -132,7 +131,7 @@ impl Model for Inbox {
     ghost view = { λ inbox. record { pipelines = map (λ tenant. map inbox_of tenant.items) inbox.tenants.items; note = inbox.asked.note; cells = inbox.asked.cells; asked = inbox.asked.asked } };
 }
 
-// Both ends of the queues of one pipeline.
+// Opens the queues of one pipeline, and gives both ends.
 fn open_pipeline(alloc: Global, places: usize) -> Result<(PipelinePosts, PipelineInbox), Memory>
     requires { 0 < places }
     ensures { IfOk result (λ ends. AreOpened places (ends_of ends.0) (inbox_of ends.1)) }
@@ -154,7 +153,7 @@ fn open_pipeline(alloc: Global, places: usize) -> Result<(PipelinePosts, Pipelin
     Ok((posts, inbox))
 }
 
-// Both ends of the queues of so many pipelines.
+// Opens the queues of `count` pipelines, and gives both ends.
 fn open_tenant(
     alloc: Global,
     places: usize,
@@ -174,7 +173,7 @@ fn open_tenant(
     Ok((posts, inbox))
 }
 
-// Both ends of the queues of all pipelines of a configuration.
+// Opens the queues of all pipelines of a configuration, and gives both ends.
 fn open_tenants(
     alloc: Global,
     places: usize,
@@ -202,9 +201,8 @@ impl Posts {
     ghost use Rattle.gate_run_posts.specs.PipelineEnds.{HandsBack, Judges};
     ghost use Rattle.gate_run_posts.specs.Ports.{ArePosts, with_manage, with_result};
 
-    /// Opens a queue of management events and one of results for each pipeline of a configuration, each of 4,096 places, a cell
-    /// for the cause to stop, and one for each generation behind the first: the posts, and the other ends for `serve`. `Memory`
-    /// where there is none for them.
+    /// Opens a queue of management events and one of results for each pipeline of a configuration, each with 4,096 places; a cell for the
+    /// cause to stop; and one for each generation after the first. The answer has the posts, and the other ends for `serve`.
     pub fn open(alloc: Global, gens: &Generations) -> Result<(Posts, Inbox), Memory>
         ensures { IfOk result (λ ends. ArePosts gens.now ends.0 ends.1) }
     {
@@ -221,10 +219,10 @@ impl Posts {
         Ok((posts, inbox))
     }
 
-    /// Posts a management event to a pipeline, behind those that wait there. It takes no memory.
+    /// Posts a management event to a pipeline, after those that wait there, and wakes the pipeline's worker. The call takes no memory.
     ///
-    /// `NoPipeline` exactly where there is no such pipeline, and else `Full` only where its queue was full at some moment of the call;
-    /// both hand the event back, and nothing is changed.
+    /// `NoPipeline` comes exactly where there is no such pipeline. `Full` comes only where the pipeline's queue was full at some moment of
+    /// the call. Both hand the event back and change nothing.
     pub fn manage<R: Wait>(
         &mut self,
         rt: &R,
@@ -253,10 +251,10 @@ impl Posts {
         Ok(())
     }
 
-    /// Posts a result to a pipeline, behind those that wait there. It takes no memory.
+    /// Posts a result to a pipeline, after those that wait there, and wakes the pipeline's worker. The call takes no memory.
     ///
-    /// `NoPipeline` exactly where there is no such pipeline, and else `Full` only where its queue was full at some moment of the call;
-    /// both hand the result back, and nothing is changed.
+    /// `NoPipeline` comes exactly where there is no such pipeline. `Full` comes only where the pipeline's queue was full at some moment of
+    /// the call. Both hand the result back and change nothing.
     pub fn result<R: Wait>(
         &mut self,
         rt: &R,
@@ -285,8 +283,8 @@ impl Posts {
         Ok(())
     }
 
-    /// Asks `serve` to stop. The answer is the cause that counts, this one or that of whoever asked before. `Memory` only where nobody
-    /// is known to have asked, and then nothing is changed.
+    /// Asks `serve` to stop. The answer is the cause that counts, this one or that of whoever asked before. `Memory` comes only where these
+    /// posts know of nobody who asked.
     pub fn stop(&mut self, cause: StopCause) -> Result<StopCause, Memory>
         ensures stops { IfOk result (λ held. Learns self.old.note held self.new.note) }
         ensures memory { OnErr result ((self.old.note.cause ≡ None) × (self.new ≡ self.old)) }
@@ -297,17 +295,17 @@ impl Posts {
         self.asked.stop(cause)
     }
 
-    /// Whether a stop was asked for, as far as these posts know: whether they have asked for it themselves.
+    /// Whether these posts have asked for a stop. A stop that was asked for elsewhere isn't looked up.
     pub fn stopped(&self) -> bool
         ensures { result ≡ is_some self.now.note.cause }
     {
         self.asked.stopped()
     }
 
-    /// Asks `serve` to put the next generation in force on each connection, behind the last one that these posts asked for, or
-    /// behind the first of all. The answer is its number. A connection's reader puts its mark before the next record that it gets.
+    /// Asks `serve` to put the next generation in force on each connection: the one after the last that these posts asked for, or the
+    /// second of all. The answer is its number. A connection's reader puts the generation's mark before the next record that it gets.
     ///
-    /// `Last` comes exactly where there is no such generation, and then `Memory`; both change nothing.
+    /// `Last` comes exactly where there is no such generation. Otherwise `Memory` may come. Both change nothing.
     pub fn renew(&mut self) -> Result<u32, RenewPostFault>
         ensures number { IfOk result (λ generation. generation ≡ length self.old.asked + 1) }
         ensures asks { IfOk result (λ generation. AsksForNext self.old.cells self.old.asked self.new.asked) }
@@ -323,8 +321,8 @@ impl Inbox {
     ghost use Rattle.std.specs.Prelude.{None};
     ghost use Rattle.gate_run_posts.specs.Ports.{IsInboxFor};
 
-    /// The inbox of a run to which nobody posts, and which nobody asks for anything: its queues have one place in place of 4,096, so it
-    /// takes some kilobytes for a pipeline where `Posts::open` takes 670. `Memory` where there is none for them.
+    /// The inbox of a run to which nobody posts and which nobody asks for anything. Its queues have one place instead of 4,096, so a
+    /// pipeline takes some kilobytes where `Posts::open` takes 670.
     pub fn without_posts(alloc: Global, config: &Config) -> Result<Inbox, Memory>
         ensures for_config { IfOk result (λ inbox. IsInboxFor config.now inbox) }
         ensures knows_none { IfOk result (λ inbox. inbox.note.cause ≡ None) }
@@ -335,11 +333,31 @@ impl Inbox {
         Ok(Inbox { tenants, asked })
     }
 
-    /// What asks the run of this inbox to stop, from whichever thread. `Memory` where there is none for it.
+    /// Makes a `Stopper`, which may ask the run of this inbox to stop from any thread.
     pub fn stopper(&self) -> Result<Stopper, Memory>
         ensures cell { IfOk result (λ stopper. stopper.cell ≡ self.now.note.cell) }
         ensures knows_none { IfOk result (λ stopper. stopper.cause ≡ None) }
     {
         self.asked.stopper()
+    }
+
+    /// Takes the inbox apart: what each pipeline's worker takes from, by tenant and pipeline number, and what the run is asked for.
+    pub fn into_parts(self) -> (Vec<Vec<PipelineInbox>>, Asked)
+        ensures pipelines { map (λ tenant. map inbox_of tenant.items) result.0.items ≡ self.pipelines }
+        ensures note { result.1.note ≡ self.note }
+        ensures cells { result.1.cells ≡ self.cells }
+        ensures asked { result.1.asked ≡ self.asked }
+    {
+        (self.tenants, self.asked)
+    }
+
+    /// Puts the parts of an inbox together.
+    pub fn from_parts(tenants: Vec<Vec<PipelineInbox>>, asked: Asked) -> Inbox
+        ensures pipelines { result.pipelines ≡ map (λ tenant. map inbox_of tenant.items) tenants.items }
+        ensures note { result.note ≡ asked.note }
+        ensures cells { result.cells ≡ asked.cells }
+        ensures asked { result.asked ≡ asked.asked }
+    {
+        Inbox { tenants, asked }
     }
 }

@@ -16,8 +16,8 @@ use Rattle.gate_source.specs.declared.feed.FeedStep.TheVariants as step
 use Rattle.gate_source.specs.Feeds.{AreAll, AreFirst, Steps, Told}
 use Rattle.gate_source.specs.Inner.Feeds.{Leaves}
 use Rattle.gate_run_reader.specs.declared.reader.ReaderEnd.{ReaderEnd}
-use Rattle.gate_run_reader.specs.declared.reading.Reading.{Reading}
-use Rattle.gate_run_reader.specs.declared.reading.Renewal.{Renewal}
+use Rattle.gate_run_reader.specs.declared.running.RunningReader.{RunningReader}
+use Rattle.gate_run_reader.specs.declared.running.Renewal.{Renewal}
 use Rattle.gate_run_reader.specs.Asked.{AreKnown, IsNext}
 use Rattle.gate_run_reader.specs.Readers.{Means, is_closed, HasRead, counts_of, notes_of}
 use Rattle.gate_run_reader.specs.Inner.Readers.{Closes, Continues, CutsShort, IsReading, TakesIn}
@@ -133,7 +133,7 @@ module _ {tail : SenderSeat ConnEntry} {generations : ℕ} {cells : List ℕ} wh
       means_by (inr e) = subst (λ c. Means c before after was.lines faults faults' note') (sym e) tt
 
 -- where a look let the reading go on, and then the record was accepted, that record is taken in
-pub takes_in : {generations : ℕ} {cells : List ℕ} (before mid now : Reading) (refused : Option EndCause) (line : Record) → Continues generations cells before mid → IfNone refused (now.source ≡ accepted mid.source line) → now.renewals ≡ mid.renewals → IfNone refused (TakesIn generations cells line before now)
+pub takes_in : {generations : ℕ} {cells : List ℕ} (before mid now : RunningReader) (refused : Option EndCause) (line : Record) → Continues generations cells before mid → IfNone refused (now.source ≡ accepted mid.source line) → now.renewals ≡ mid.renewals → IfNone refused (TakesIn generations cells line before now)
 takes_in before mid now (Some cause) line continues took same = tt
 takes_in before mid now None line continues took same = λ told told' told'' tail steps was. read_more line (continues told told' tail was) steps took (ap (λ (v : Vec Renewal). v.items) same)
 
@@ -145,7 +145,7 @@ cut_means Ended before after lines faults faults' note cuts = absurd cuts
 cut_means Failed before after lines faults faults' note cuts = absurd cuts
 cut_means Unclosed before after lines faults faults' note cuts = absurd cuts
 
-module _ {F : Type 0} (to_come : F → Told) (faults : F → ℕ) (feed feed' : F) (tail : SenderSeat ConnEntry) (generations : ℕ) (cells : List ℕ) (reading : Reading) (cause : EndCause) (note : Note) (end : ReaderEnd F) where
+module _ {F : Type 0} (to_come : F → Told) (faults : F → ℕ) (feed feed' : F) (tail : SenderSeat ConnEntry) (generations : ℕ) (cells : List ℕ) (reading : RunningReader) (cause : EndCause) (note : Note) (end : ReaderEnd F) where
   -- what a reader that returns did, from what it did while it read, and from how it ended
   pub reading_ends : {mid : Told} → AcceptedAreNumbered → tail.put ≡ [] → 0 < generations → (was : IsReading (to_come feed) mid tail generations cells reading.source reading.renewals.items) → reading.note.cell ≡ note.cell →
       Means cause (to_come feed) (to_come feed') was.lines (faults feed) (faults feed') reading.note →

@@ -1,9 +1,9 @@
-//! The thread that reads a connection's records into its queue, with the marks of later generations between them.
+//! The reader: the thread that puts a connection's records into its queue, with the marks of later generations between them.
 #![tactic(auto)]
 
 mod backoff;
 mod reader;
-mod reading;
+mod running;
 
 pub use reader::{Reader, ReaderEnd};
-pub use reading::Renewal;
+pub use running::Renewal;

@@ -1,4 +1,4 @@
-//! The thread that reads a connection's records into its queue.
+//! The reader's thread, from its seat at the beginning to what it hands back.
 ghost use Rattle.std.specs.Prelude.{◌≡◌};
 ghost use Rattle.gate_queue.specs.Seats.{IsTailOf};
 ghost use Rattle.gate_report.specs.declared.report.EndCause.TheVariants as cause;
@@ -6,7 +6,7 @@ ghost use Rattle.gate_run_reader.specs.Readers.{CanRead, HasRead};
 ghost use Rattle.gate_run_reader.specs.Inner.Readers.{Closes};
 
 use crate::backoff::Backoff;
-use crate::reading::{Reading, Renewal};
+use crate::running::{Context, Renewal, RunningReader};
 use crossbeam_utils::sync::Parker;
 use gate_queue::{EventQueue, Tail};
 use gate_record::{ConnEntry, ConnId};
@@ -20,31 +20,31 @@ use std::sync::Wait;
 use std::thread::Threads;
 use std::time::Clock;
 
-/// A connection's reader before it begins, with its seat.
+/// A connection's reader before it begins, with its feed and its seat.
 #[derive(Drop)]
 pub struct Reader<'a, F> {
     pub conn: ConnId,
     pub feed: F,
-    /// The connection's queue, and its only sender's seat.
+    /// The connection's queue, and the seat of its only sender.
     pub queue: &'a EventQueue<ConnEntry>,
     pub tail: Tail<ConnEntry>,
-    /// What tells to stop, and what the reader knows of it.
+    /// The stop cell, and what the reader knows of it.
     pub cell: &'a StopCell,
     pub note: StopNote,
-    /// How many generations the configuration has, and what tells to put each behind the first in force, in order.
+    /// How many generations the configuration has, and the cells of those after the first, in order, which tell to put them in force.
     pub generations: u32,
     pub cells: &'a [StopCell],
     pub alloc: Global,
     pub parker: Parker,
 }
 
-/// A reader that returned.
+/// What a reader hands back when its thread returns.
 #[derive(Drop)]
 pub struct ReaderEnd<F> {
     pub feed: F,
     pub tail: Tail<ConnEntry>,
     pub note: StopNote,
-    /// How many records were accepted.
+    /// How many records it accepted.
     pub count: u64,
     /// The generations that it put in force, in order.
     pub renewals: Vec<Renewal>,
@@ -70,41 +70,40 @@ impl<'a, F: RecordFeed + Drop> Work<ReaderEnd<F>> for Reader<'a, F> {
             alloc,
             parker,
         } = self;
-        let mut reading = Reading {
+        let mut reading = RunningReader {
             conn,
             source: Source::new(tail),
             note,
             renewals: Vec::new(alloc),
             parker,
         };
+        let context = Context {
+            queue,
+            cell,
+            generations,
+            cells,
+            signals,
+        };
         signals.wait_to_begin(rt, &reading.parker);
         let mut backoff = Backoff::none();
         for _ in rt.forever() {
-            if let Some(cause) = reading.look(rt, queue, cell, generations, cells, signals) {
-                return reading.end(rt, queue, signals, feed, cause);
+            if let Some(cause) = reading.look(rt, &context) {
+                return reading.end(rt, &context, feed, cause);
             }
             match feed.next(rt) {
                 FeedStep::Got(line) => {
                     backoff = Backoff::none();
-                    if let Some(cause) = reading.take_in(
-                        rt,
-                        queue,
-                        cell,
-                        generations,
-                        cells,
-                        signals,
-                        line,
-                    ) {
-                        return reading.end(rt, queue, signals, feed, cause);
+                    if let Some(cause) = reading.take_in(rt, &context, line) {
+                        return reading.end(rt, &context, feed, cause);
                     }
                 }
                 FeedStep::Pending if feed.is_idle() => backoff.wait(rt),
                 FeedStep::Pending => backoff = Backoff::none(),
-                FeedStep::Ended => return reading.end(rt, queue, signals, feed, EndCause::Ended),
-                FeedStep::Fault => return reading.end(rt, queue, signals, feed, EndCause::Failed),
+                FeedStep::Ended => return reading.end(rt, &context, feed, EndCause::Ended),
+                FeedStep::Fault => return reading.end(rt, &context, feed, EndCause::Failed),
                 FeedStep::Memory => {
                     signals.halt();
-                    return reading.end(rt, queue, signals, feed, EndCause::Memory);
+                    return reading.end(rt, &context, feed, EndCause::Memory);
                 }
             }
         }
@@ -112,25 +111,24 @@ impl<'a, F: RecordFeed + Drop> Work<ReaderEnd<F>> for Reader<'a, F> {
     }
 }
 
-impl Reading {
-    // Puts the end mark, but where memory was refused, and leaves the queue. Where threads are to return before there is room for
-    // the mark, the cause is that.
+impl RunningReader {
+    // Ends the reading for this cause. The end mark is put, unless memory was refused. Where threads are told to return before there is
+    // room for the mark, none is put and the cause becomes `Memory`.
     fn end<F: Drop, R: Wait>(
         self,
         rt: &R,
-        queue: &EventQueue<ConnEntry>,
-        signals: &Signals,
+        context: &Context<'_>,
         feed: F,
         cause: EndCause,
     ) -> ReaderEnd<F>
-        requires seat { IsTailOf queue.now self.source.seat }
+        requires seat { IsTailOf context.now.queue.now self.source.seat }
         ensures feed { result.feed ≡ feed }
         ensures count { result.count ≡ self.source.count }
         ensures closes { Closes cause self.source.seat result.cause result.tail }
         ensures renewals { result.renewals.items ≡ self.renewals.items }
         ensures note { result.note ≡ self.note }
     {
-        let Reading {
+        let RunningReader {
             conn,
             mut source,
             note,
@@ -141,9 +139,9 @@ impl Reading {
             return left(source, note, renewals, feed);
         }
         for _ in rt.forever() {
-            match source.close(rt, queue) {
+            match source.close(rt, context.queue) {
                 Ok(ClosedSource { count, tail }) => {
-                    signals.wake_forwarder(conn);
+                    context.signals.wake_forwarder(conn);
                     return ReaderEnd {
                         feed,
                         tail,
@@ -154,7 +152,7 @@ impl Reading {
                     };
                 }
                 Err(back) => {
-                    if signals.is_halted() {
+                    if context.signals.is_halted() {
                         return left(back, note, renewals, feed);
                     }
                     parker.park(rt);

@@ -1,5 +1,5 @@
 pub mod Paired
 pub mod Places
 pub mod Seated
-pub mod Staged
+pub mod Grouped
 pub mod Turned

@@ -1,5 +1,5 @@
 pub mod Lists
 pub mod Seats
-pub mod Stages
+pub mod QueueGroups
 pub mod Steps
 pub mod Tables

@@ -12,8 +12,10 @@ use Rattle.gate_config.specs.declared.config.TenantSpec.{TenantSpec}
 use Rattle.gate_config.specs.Lookups.{connections_of, lists, pipelines_of, tenants_of}
 use Rattle.gate_report.specs.declared.report.PipelineReport.{PipelineReport}
 use Rattle.gate_report.specs.declared.report.RunReport.{RunReport}
-use Rattle.gate_delivery.specs.Wanted.{numbers_from, wanted}
-use Rattle.gate_core.specs.Output.{connection_lines, done_lines, done_start, number_text, pipeline_line, pipeline_lines, report_text, tenant_lines}
+use Rattle.gate_record.specs.Stamps.{numbers_from}
+use Rattle.gate_delivery.specs.Wanted.{wanted}
+use Rattle.gate_line.specs.Words.{spaced_number}
+use Rattle.gate_report_text.specs.ReportText.{connection_lines, done_lines, done_start, pipeline_line, pipeline_lines, report_text, tenant_lines}
 use Rattle.gate_run_posts.specs.Ports.{at_pipeline, pipeline_counts}
 use Rattle.gate_run_told.specs.Told.{AllFinished, Stream, all_lines, ended_with, finished_lines, in_force_of, text_of, wanted_lines}
 
@@ -33,8 +35,8 @@ module _ (gens : Generations) (streams : List Stream) where
   of_connections : (t p c : ℕ) (names : List (List ℕ)) (tenant pipeline : List ℕ) (stamps : List Stamp) → AreWanted t p stamps → done_lines gens.first t c names tenant pipeline stamps ≡ wanted_lines gens streams t p c names tenant pipeline
   of_connections t p c [] tenant pipeline stamps all = refl
   of_connections t p c (name ∷ names) tenant pipeline stamps all =
-      ap (λ ns. (if lists gens.first t c then done_start tenant pipeline name ++ (flat_map number_text ns ++ codes "\n") else []) ++ done_lines gens.first t (c + 1) names tenant pipeline stamps) (all c)
-      ∙ ap (λ rest. (if lists gens.first t c then done_start tenant pipeline name ++ (flat_map number_text (wanted gens t p c (in_force_of c streams)) ++ codes "\n") else []) ++ rest) (of_connections t p (c + 1) names tenant pipeline stamps all)
+      ap (λ ns. (if lists gens.first t c then done_start tenant pipeline name ++ (flat_map spaced_number ns ++ codes "\n") else []) ++ done_lines gens.first t (c + 1) names tenant pipeline stamps) (all c)
+      ∙ ap (λ rest. (if lists gens.first t c then done_start tenant pipeline name ++ (flat_map spaced_number (wanted gens t p c (in_force_of c streams)) ++ codes "\n") else []) ++ rest) (of_connections t p (c + 1) names tenant pipeline stamps all)
 
   -- and so wherever a pipeline is finished
   abbrev pub AreDone : List (List PipelineReport) → Type 0

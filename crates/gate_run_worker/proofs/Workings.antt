@@ -11,7 +11,7 @@ use Rattle.gate_pipeline.specs.Histories.{Happens, beginning, begins, manage_in,
 use Rattle.gate_pipeline.specs.States.{MayBeRefused, Processed, State, asked, first_state, found_empty, held_as, is_taking, next_of, taken_in, takes, to_process}
 use Rattle.gate_queue.specs.declared.tagged.Tagged.{Tagged}
 use Rattle.gate_queue.specs.Seats.{TakerSeat, with_taken}
-use Rattle.gate_run_worker.specs.declared.worker.Working.{Working}
+use Rattle.gate_run_worker.specs.declared.worker.RunningWorker.{RunningWorker}
 use Rattle.gate_run_worker.specs.Workers.{TookMore, HasWorked}
 use Rattle.gate_run_worker.specs.Inner.Workers.{IsWorking, MayProcess}
 
@@ -33,7 +33,7 @@ module _ {T : Type 0} where
   pub took_same : {before now now' : TakerSeat T} {items items' : List T} → items ≡ items' → now' ≡ now → TookMore before items now → TookMore before items' now'
   took_same {before} {now} {now'} {items} {items'} e same more = subst (λ xs. TookMore before xs now') e (subst (λ h. TookMore before items h) (sym same) more)
 
-module _ {config : Config} {t p : ℕ} {trigger : TakerSeat PipelineItem} {manage : TakerSeat Manage} {result : TakerSeat JobResult} {w : Working} (w' : Working) where
+module _ {config : Config} {t p : ℕ} {trigger : TakerSeat PipelineItem} {manage : TakerSeat Manage} {result : TakerSeat JobResult} {w : RunningWorker} (w' : RunningWorker) where
   -- a queue was found empty
   pub found_nothing : IsWorking config t p trigger manage result None w → is_taking (next_of w.state) ≡ true → w'.state ≡ found_empty w.state → w'.head ≡ w.head → w'.management ≡ w.management → w'.results ≡ w.results →
       IsWorking config t p trigger manage result None w'
@@ -85,7 +85,7 @@ module _ {config : Config} {t p : ℕ} {trigger : TakerSeat PipelineItem} {manag
             (refused given was.happens wants (subst (λ (s : State). MayBeRefused s.items.manager (to_process s.held given)) (sym was.now) may))
             (ap (λ (s : State). held_as (to_process s.held given) (taken_in given s)) was.now ∙ sym kept)
 
-pub working_begins : (config : Config) (t p : ℕ) (w : Working) → w.state ≡ first_state config t p → IsWorking config t p w.head w.management w.results None w
+pub working_begins : (config : Config) (t p : ℕ) (w : RunningWorker) → w.state ≡ first_state config t p → IsWorking config t p w.head w.management w.results None w
 working_begins config t p w state = record {
   past = beginning config t p;
   happens = begins;
@@ -95,7 +95,7 @@ working_begins config t p w state = record {
   results = took_none w.results w.results refl;
 }
 
-pub worker_ends : {config : Config} {t p : ℕ} {trigger : TakerSeat PipelineItem} {manage : TakerSeat Manage} {result : TakerSeat JobResult} {w : Working} (trigger' : TakerSeat PipelineItem) (manage' : TakerSeat Manage) (result' : TakerSeat JobResult) (state : State) →
+pub worker_ends : {config : Config} {t p : ℕ} {trigger : TakerSeat PipelineItem} {manage : TakerSeat Manage} {result : TakerSeat JobResult} {w : RunningWorker} (trigger' : TakerSeat PipelineItem) (manage' : TakerSeat Manage) (result' : TakerSeat JobResult) (state : State) →
     trigger' ≡ w.head → manage' ≡ w.management → result' ≡ w.results → state ≡ w.state → IsWorking config t p trigger manage result None w → HasWorked config t p trigger trigger' manage manage' result result' state
 worker_ends trigger' manage' result' state head management results same was = record {
   past = was.past;

@@ -1,4 +1,4 @@
-//! The thread that works off a pipeline's management events, results and trigger events.
+//! The worker: the thread that processes a pipeline's management events, results and trigger events.
 #![tactic(auto)]
 
 mod gate;
@@ -7,4 +7,4 @@ mod worker;
 
 pub use gate::Gate;
 pub use inbox::InboxSeat;
-pub use worker::{Worker, WorkerEnd};
+pub use worker::{PipelineWorker, WorkerEnd};

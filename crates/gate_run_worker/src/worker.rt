@@ -1,4 +1,4 @@
-//! The thread that works off a pipeline's management events, results and trigger events.
+//! The thread of a pipeline's worker, from its seats at the beginning to what it hands back.
 ghost use Rattle.std.specs.Prelude.{◌≡◌, true};
 ghost use Rattle.gate_queue.specs.Seats.{IsHeadOf};
 ghost use Rattle.gate_pipeline.specs.States.{asked, found_empty, is_taking, next_of};
@@ -18,16 +18,16 @@ use std::sync::Wait;
 use std::thread::Threads;
 use std::time::Clock;
 
-// How many queues a pipeline takes from: after so many empty ones in a row there is nothing to do.
+// How many queues a pipeline takes from. After so many empty ones in a row the worker has nothing to do.
 const QUEUES: u8 = 3;
 
 /// The worker of a pipeline before it begins, with its seats.
 #[derive(Drop)]
-pub struct Worker<'a, G> {
+pub struct PipelineWorker<'a, G> {
     pub config: &'a Config,
     pub tenant: TenantId,
     pub pipeline: PipelineId,
-    /// Nothing was taken yet.
+    /// The pipeline, which has taken nothing yet.
     pub state: Pipeline,
     /// The trigger queue, and the taker's seat in it.
     pub source: &'a FreeQueue<PipelineItem>,
@@ -38,7 +38,7 @@ pub struct Worker<'a, G> {
     pub gate: &'a G,
 }
 
-/// A pipeline whose worker returned, and its seats.
+/// What a worker hands back when its thread returns: the pipeline and the seats.
 #[derive(Drop)]
 pub struct WorkerEnd {
     pub state: Pipeline,
@@ -48,13 +48,13 @@ pub struct WorkerEnd {
     pub parker: Parker,
 }
 
-impl<'a, G: Gate + Sync> Work<WorkerEnd> for Worker<'a, G> {
+impl<'a, G: Gate + Sync> Work<WorkerEnd> for PipelineWorker<'a, G> {
     ghost ready = { λ w. CanWork w.config.now w.tenant.0 w.pipeline.0 w.state w.source.now w.head };
 
     ghost comes_to = { λ w end. HasWorked w.config.now w.tenant.0 w.pipeline.0 w.head end.head w.management end.management w.results end.results end.state };
 
     fn work<R: Threads + Wait + Clock + Sync>(self, rt: &R, signals: &Signals) -> WorkerEnd {
-        let Worker {
+        let PipelineWorker {
             config,
             tenant,
             pipeline,
@@ -66,7 +66,7 @@ impl<'a, G: Gate + Sync> Work<WorkerEnd> for Worker<'a, G> {
             parker,
             gate,
         } = self;
-        let mut working = Working {
+        let mut working = RunningWorker {
             tenant,
             pipeline,
             state,
@@ -89,21 +89,21 @@ impl<'a, G: Gate + Sync> Work<WorkerEnd> for Worker<'a, G> {
     }
 }
 
-// A pipeline at work.
+// A pipeline's worker at work.
 #[derive(Drop)]
-pub(crate) struct Working {
+pub(crate) struct RunningWorker {
     pub(crate) tenant: TenantId,
     pub(crate) pipeline: PipelineId,
     pub(crate) state: Pipeline,
     pub(crate) head: FreeHead<PipelineItem>,
     pub(crate) management: InboxSeat<Manage>,
     pub(crate) results: InboxSeat<JobResult>,
-    // How many queues were found empty since something was processed.
+    // How many queues were found empty since the last value was processed.
     pub(crate) empty: u8,
 }
 
-impl Working {
-    // Takes what the pipeline wants, and processes it.
+impl RunningWorker {
+    // Takes a value of the queue that the pipeline wants next, and processes it.
     fn step<G: Gate, R: Wait>(
         &mut self,
         rt: &R,
@@ -140,7 +140,7 @@ impl Working {
         }
     }
 
-    // The queue that the pipeline wants was empty. Once each of them was, there is nothing to do.
+    // Notes that the queue which the pipeline wanted was empty. Once all queues were, the thread has nothing to do.
     fn found_empty(&mut self) -> StepOutcome
         requires asked { is_taking (next_of self.old.state) ≡ true }
         ensures finds { self.new.state ≡ found_empty self.old.state }
@@ -157,7 +157,7 @@ impl Working {
         StepOutcome::Pending
     }
 
-    // Processes what was taken. Where memory is refused the pipeline holds it.
+    // Processes a value that was taken. Where memory is refused, the pipeline holds the value.
     fn process<G: Gate, R: Wait>(
         &mut self,
         rt: &R,
@@ -181,7 +181,7 @@ impl Working {
                 gate.after(rt, self.tenant, self.pipeline, &self.state, &processed);
                 StepOutcome::Ready
             }
-            // The end mark, which is no action.
+            // This was the end mark, which is no action.
             Ok(None) => StepOutcome::Ready,
             Err(Memory) => {
                 signals.halt();
@@ -190,7 +190,7 @@ impl Working {
         }
     }
 
-    // The pipeline and its seats, once its gate was told.
+    // Tells the gate for the last time, and hands back the pipeline and the seats.
     fn end<G: Gate, R: Wait>(self, rt: &R, parker: Parker, gate: &G) -> WorkerEnd
         ensures state { result.state ≡ self.state }
         ensures head { result.head ≡ self.head }

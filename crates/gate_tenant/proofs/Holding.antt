@@ -22,9 +22,9 @@ use Rattle.gate_tenant.proofs.Shares.{of_items, of_marks}
 pub record Holds (gens : Generations) (t : ℕ) (h : History) : Type 0 where
   -- the marks are those of all that was matched
   pub marks : h.state.marks ≡ marks_after h.done no_marks
-  -- while something is gathered the hand is empty, and some end mark is missing
-  pub turn : (length h.state.gathered == 0) ≡ false → (all_marked gens.first t h.state.marks ≡ false) × (h.state.items ≡ []) × (h.out ≡ None)
-  pub share : (p : ℕ) → p < length (pipelines_of gens.first t) → items_for p (h.given ++ (option_to_list h.out ++ h.state.items)) ≡ chosen gens t p h.done
+  -- while something is gathered the outbox is empty, and some end mark is missing
+  pub turn : (length h.state.gathered == 0) ≡ false → (all_marked gens.first t h.state.marks ≡ false) × (h.state.outbox.items ≡ []) × (h.out ≡ None)
+  pub share : (p : ℕ) → p < length (pipelines_of gens.first t) → items_for p (h.given ++ (option_to_list h.out ++ h.state.outbox.items)) ≡ chosen gens t p h.done
   pub taken : h.done ++ h.state.gathered ≡ h.taken
 
 and_true : (b : Bool) → (b && true) ≡ b
@@ -37,8 +37,8 @@ room_empty gathered (item ∷ items) h =
     let none : 0 < 0 = subst (λ b. 0 < (if b then most_gathered - length gathered else 0)) (eqb-suc-zero (length items)) h in
     absurd (omega (arith, none))
 
--- the hand is empty, so some end mark is missing
-goes_on : (gens : Generations) (t : ℕ) (s : State) → s.items ≡ [] → has_ended gens.first t s ≡ false → all_marked gens.first t s.marks ≡ false
+-- the outbox is empty, so some end mark is missing
+goes_on : (gens : Generations) (t : ℕ) (s : State) → s.outbox.items ≡ [] → has_ended gens.first t s ≡ false → all_marked gens.first t s.marks ≡ false
 goes_on gens t s empty e = sym (and_true (all_marked gens.first t s.marks)) ∙ subst (λ items. (all_marked gens.first t s.marks && (length items == 0)) ≡ false) empty e
 
 module _ (gens : Generations) (t : ℕ) where
@@ -53,7 +53,7 @@ module _ (gens : Generations) (t : ℕ) where
   gathered : {h : History} (item : TenantItem) → Holds gens t h → h.out ≡ None → 0 < room_of h.state → has_ended gens.first t h.state ≡ false →
       Holds gens t (record h { state = record h.state { gathered = h.state.gathered ++ item ∷ [] }; taken = h.taken ++ item ∷ [] })
   gathered {h} item was no_out room e =
-      let empty : h.state.items ≡ [] = room_empty h.state.gathered h.state.items room in
+      let empty : h.state.outbox.items ≡ [] = room_empty h.state.gathered h.state.outbox.items room in
       record {
         marks = was.marks;
         turn = λ some. (goes_on gens t h.state empty e, empty, no_out);
@@ -81,12 +81,12 @@ module _ (gens : Generations) (t : ℕ) where
     -- all that was matched was given
     given_so_far : (p : ℕ) → p < length (pipelines_of gens.first t) → items_for p h.given ≡ filter_map (chosen_item gens t p) h.done
     given_so_far p few =
-        sym (ap (items_for p) (ap (λ o. h.given ++ (option_to_list o ++ h.state.items)) (was.turn some).2 ∙ ap (λ items. h.given ++ items) (was.turn some).1 ∙ append-nil h.given))
+        sym (ap (items_for p) (ap (λ o. h.given ++ (option_to_list o ++ h.state.outbox.items)) (was.turn some).2 ∙ ap (λ items. h.given ++ items) (was.turn some).1 ∙ append-nil h.given))
         ∙ was.share p few
         ∙ ap (λ b. filter_map (chosen_item gens t p) h.done ++ (if b then pipeline.End ∷ [] else [])) missing
         ∙ append-nil (filter_map (chosen_item gens t p) h.done)
 
-    new_share : (p : ℕ) → p < length (pipelines_of gens.first t) → items_for p (h.given ++ (option_to_list h.out ++ (matched gens t h.state).items)) ≡ chosen gens t p (h.done ++ h.state.gathered)
+    new_share : (p : ℕ) → p < length (pipelines_of gens.first t) → items_for p (h.given ++ (option_to_list h.out ++ (matched gens t h.state).outbox.items)) ≡ chosen gens t p (h.done ++ h.state.gathered)
     new_share p few =
         let events = flat_map (by_pipeline gens t) h.state.gathered in
         let marks = last_marks gens.first t h.state.gathered h.state.marks in
@@ -113,9 +113,9 @@ module _ (gens : Generations) (t : ℕ) where
 
   -- an item goes from place to place, which it doesn't while something is gathered
   hands_on : {h : History} {items given : List (PipelineId × PipelineItem)} {place : Option PipelineId} {out : Option (PipelineId × PipelineItem)} (was : Holds gens t h) →
-      ((all_marked gens.first t h.state.marks ≡ false) × (h.state.items ≡ []) × (h.out ≡ None) → ⊥) →
+      ((all_marked gens.first t h.state.marks ≡ false) × (h.state.outbox.items ≡ []) × (h.out ≡ None) → ⊥) →
       ((p : ℕ) → p < length (pipelines_of gens.first t) → items_for p (given ++ (option_to_list out ++ items)) ≡ chosen gens t p h.done) →
-      Holds gens t (record h { state = record h.state { items = items; out = place }; given = given; out = out })
+      Holds gens t (record h { state = record h.state { outbox = record { items = items; out = place } }; given = given; out = out })
   hands_on was none share = record { marks = was.marks; turn = λ e. absurd (none (was.turn e)); share = share; taken = was.taken }
 
   pub holds : {h : History} → Happens gens t h → Holds gens t h
@@ -125,15 +125,15 @@ module _ (gens : Generations) (t : ℕ) where
   holds (moves {h} {first} {items} before no_out is) =
       let was = holds before in
       hands_on was (λ turn. let none : first ∷ items ≡ [] = sym is ∙ turn.1 in absurd (cc))
-      (λ p few. ap (λ xs. items_for p (h.given ++ xs)) (sym (ap (λ o. option_to_list o ++ h.state.items) no_out ∙ is)) ∙ was.share p few)
+      (λ p few. ap (λ xs. items_for p (h.given ++ xs)) (sym (ap (λ o. option_to_list o ++ h.state.outbox.items) no_out ∙ is)) ∙ was.share p few)
   holds (gives {h} {item} before out) =
       let was = holds before in
       hands_on was (λ turn. let none : Some item ≡ None = sym out ∙ turn.2 in absurd (cc))
-      (λ p few. ap (items_for p) (append_assoc h.given (item ∷ []) h.state.items ∙ ap (λ o. h.given ++ (option_to_list o ++ h.state.items)) (sym out)) ∙ was.share p few)
+      (λ p few. ap (items_for p) (append_assoc h.given (item ∷ []) h.state.outbox.items ∙ ap (λ o. h.given ++ (option_to_list o ++ h.state.outbox.items)) (sym out)) ∙ was.share p few)
   holds (comes_back {h} {item} before out) =
       let was = holds before in
       hands_on was (λ turn. let none : Some item ≡ None = sym out ∙ turn.2 in absurd (cc))
-      (λ p few. ap (λ o. items_for p (h.given ++ (option_to_list o ++ h.state.items))) (sym out) ∙ was.share p few)
+      (λ p few. ap (λ o. items_for p (h.given ++ (option_to_list o ++ h.state.outbox.items))) (sym out) ∙ was.share p few)
 
 pub each_gets_its_own : EachGetsItsOwn
 each_gets_its_own gens t p h few happens = (holds gens t happens).share p few
@@ -163,8 +163,8 @@ none_gathered gens t h was marked = by (length h.state.gathered == 0) refl
 pub all_was_given : AllWasGiven
 all_was_given gens t p h few happens no_out e =
     let was : Holds gens t h = holds gens t happens in
-    let marked : all_marked gens.first t h.state.marks ≡ true = and_left (all_marked gens.first t h.state.marks) (length h.state.items == 0) e in
-    let empty : h.state.items ≡ [] = nil_of h.state.items (and_right (all_marked gens.first t h.state.marks) (length h.state.items == 0) e) in
+    let marked : all_marked gens.first t h.state.marks ≡ true = and_left (all_marked gens.first t h.state.marks) (length h.state.outbox.items == 0) e in
+    let empty : h.state.outbox.items ≡ [] = nil_of h.state.outbox.items (and_right (all_marked gens.first t h.state.marks) (length h.state.outbox.items == 0) e) in
     let all : h.done ≡ h.taken = sym (append-nil h.done) ∙ ap (λ items. h.done ++ items) (sym (none_gathered gens t h was marked)) ∙ was.taken in
-    ap (items_for p) (sym (ap (λ o. h.given ++ (option_to_list o ++ h.state.items)) no_out ∙ ap (λ items. h.given ++ items) empty ∙ append-nil h.given))
+    ap (items_for p) (sym (ap (λ o. h.given ++ (option_to_list o ++ h.state.outbox.items)) no_out ∙ ap (λ items. h.given ++ items) empty ∙ append-nil h.given))
     ∙ was.share p few ∙ ap (chosen gens t p) all

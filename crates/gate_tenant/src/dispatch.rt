@@ -1,44 +1,45 @@
+//! `Dispatch`, what a tenant's worker keeps: the items that are gathered, and those that its pipelines are still to get.
 ghost use Rattle.gate_match.specs.Selecting.{gens_of as program_gens, tenant_of as program_tenant};
 ghost use Rattle.gate_tenant.specs.Limits.{most_gathered};
 ghost use Rattle.std.specs.Prelude.{◌≡◌, ◌≤◌, ◌==◌, ◌∷◌, ◌++◌, ◌<◌, [], true, false, length, is_some, None, not, ◌+◌, IfErr, IfOk, IsOk, OnErr, OnOk};
 
 use crate::MAX_GATHERED;
-use crate::hand::Hand;
 use crate::marks::Marks;
 use crate::matching::{all_marked, match_items, push_end_marks};
 use gate_config::Generations;
 use gate_match::Program;
-use gate_record::{Memory, PipelineId, PipelineItem, TenantId, TenantItem};
+use gate_record::{Memory, Outbox, PipelineId, PipelineItem, TenantId, TenantItem};
 use std::alloc::{AllocFailed, Global};
 use std::collections::VecDeque;
 
-/// The dispatch of the worker of one tenant: its items are gathered, up to 256 of them, and matched together; what came
-/// of that is moved out, event by event in the order of gathering, and for each event to the pipelines that select it in
-/// rising number. When the end mark of each connection that the tenant lists was matched, the end mark of each pipeline
-/// follows as the last. A tenant that lists no connection begins with these.
+/// What the worker of one tenant keeps. The tenant's items are gathered, at most 256, and matched together. Then the results are
+/// moved out, event by event in the order of gathering, and of each event to the pipelines that select it, in rising number.
+/// After the end marks of all connections that the tenant lists were matched, the end marks of all pipelines follow as the last
+/// items. For a tenant that lists no connection these end marks are there from the beginning.
 ///
-/// An item that was moved out leaves its place open: [`given`](Dispatch::given) closes the place,
-/// [`ungiven`](Dispatch::ungiven) fills it again. Until then nothing else may be asked.
+/// An item that was moved out leaves its place open. [`given`](Dispatch::given) closes the place, and
+/// [`ungiven`](Dispatch::ungiven) fills it again. Between the two, nothing may be gathered or moved out.
 #[derive(Drop)]
 pub struct Dispatch<'c> {
     pub(crate) gens: &'c Generations,
     pub(crate) tenant: TenantId,
     pub(crate) program: Program<'c>,
     pub(crate) gathered: Vec<TenantItem>,
-    pub(crate) hand: Hand,
+    pub(crate) outbox: Outbox<PipelineId, PipelineItem, VecDeque<(PipelineId, PipelineItem)>>,
     pub(crate) marks: Marks,
-    /// Items are gathered while the hand is empty.
+    /// At most 256 items are gathered.
     pub ghost few: { length gathered.items ≤ most_gathered },
     pub ghost of_gens: { program_gens program ≡ gens.now },
     pub ghost of_tenant: { program_tenant program ≡ tenant.0 },
-    pub ghost in_turn: { (length gathered.items == 0) ≡ false → (hand.items.items ≡ []) × (hand.out ≡ None) },
+    /// Items are gathered only while the outbox is empty and no item is out.
+    pub ghost in_turn: { (length gathered.items == 0) ≡ false → (outbox.items ≡ []) × (outbox.out ≡ None) },
 }
 
 impl<'c> Dispatch<'c> {
-    ghost use Rattle.gate_tenant.specs.States.{first_state, gens_of, has_ended, matched, moved_out, needs_memory, put_back, reserved_of, room_of, state_of, tenant_of};
+    ghost use Rattle.gate_tenant.specs.States.{first_state, gens_of, has_ended, matched, needs_memory, reserved_of, room_of, state_of, tenant_of};
+    ghost use Rattle.gate_record.specs.Outboxes.{moved_out, put_back};
 
-    /// The dispatch of a tenant, with nothing gathered. `Memory` where the end marks of a tenant that lists no connection
-    /// find no room.
+    /// Returns the dispatch of a tenant, with nothing gathered and the tenant's rules compiled.
     pub fn new(
         alloc: Global,
         gens: &'c Generations,
@@ -58,15 +59,15 @@ impl<'c> Dispatch<'c> {
             tenant,
             program: Program::new(alloc, gens, tenant)?,
             gathered: Vec::new(alloc),
-            hand: Hand::new(items),
+            outbox: Outbox::new(items),
             marks,
         })
     }
 
-    /// Gathers an item, behind those that are gathered. Where memory is refused the item comes back, and all is as
-    /// before; it isn't where [`make_room`](Dispatch::make_room) made room for it.
+    /// Gathers an item, behind those that are gathered already. When memory is refused, the item comes back in the error and the
+    /// dispatch is unchanged. Memory isn't refused while there is room that [`make_room`](Dispatch::make_room) has made.
     pub fn gather(&mut self, item: TenantItem) -> Result<(), AllocFailed<TenantItem>>
-        requires in_hand { (state_of self.old).out ≡ None }
+        requires none_out { (state_of self.old).outbox.out ≡ None }
         requires room { 0 < room_of (state_of self.old) }
         requires goes_on { has_ended (gens_of self.old).first (tenant_of self.old) (state_of self.old) ≡ false }
         ensures gens { gens_of self.new ≡ gens_of self.old }
@@ -79,11 +80,10 @@ impl<'c> Dispatch<'c> {
         self.gathered.push(item)
     }
 
-    /// Makes room for so many more items, of which each is then gathered without memory. It takes no more than
-    /// [`room`](Dispatch::room) says. Where memory is refused, all is as before. The room stays until items are gathered in it,
-    /// whatever else is called.
+    /// Reserves room, so that the next `count` items are gathered without memory. `count` is at most what
+    /// [`room`](Dispatch::room) says. The room stays, whatever else is called, until items are gathered in it.
     pub fn make_room(&mut self, count: usize) -> Result<(), Memory>
-        requires in_hand { (state_of self.old).out ≡ None }
+        requires none_out { (state_of self.old).outbox.out ≡ None }
         requires room { count ≤ room_of (state_of self.old) }
         ensures gens { gens_of self.new ≡ gens_of self.old }
         ensures tenant { tenant_of self.new ≡ tenant_of self.old }
@@ -96,26 +96,26 @@ impl<'c> Dispatch<'c> {
         Ok(())
     }
 
-    /// How many items may be gathered: 256 less those that are, and none while the hand isn't empty.
+    /// Returns how many more items may be gathered: 256 less those that are gathered, and none while the outbox isn't empty.
     pub fn room(&self) -> usize
-        requires in_hand { (state_of self.now).out ≡ None }
+        requires none_out { (state_of self.now).outbox.out ≡ None }
         ensures { result ≡ room_of (state_of self.now) }
     {
-        if !self.hand.is_empty() {
+        if !self.outbox.is_empty() {
             return 0;
         }
         MAX_GATHERED - self.gathered.len()
     }
 
-    /// Whether something is gathered, and so can be matched.
+    /// Returns whether anything is gathered, which can then be matched.
     pub fn has_gathered(&self) -> bool
         ensures { result ≡ not (length (state_of self.now).gathered == 0) }
     {
         !self.gathered.is_empty()
     }
 
-    /// Matches what is gathered: the hand gets what came of it. `Memory` where an event is matched or the pipelines' end marks
-    /// are due, and what that takes finds no room: then all stays gathered, and is as before.
+    /// Matches all gathered items, and puts into the outbox what the pipelines get of them. This needs memory only if an event is
+    /// gathered or the pipelines' end marks are due. After `Memory` everything is still gathered.
     pub fn match_batch(&mut self, alloc: Global) -> Result<(), Memory>
         requires gathered { (length (state_of self.old).gathered == 0) ≡ false }
         ensures gens { gens_of self.new ≡ gens_of self.old }
@@ -138,65 +138,66 @@ impl<'c> Dispatch<'c> {
         {
             push_end_marks(self.gens.first(), self.tenant, &mut items)?;
         }
-        self.hand = Hand::new(items);
+        self.outbox = Outbox::new(items);
         self.marks = marks;
         self.gathered.clear();
         Ok(())
     }
 
-    /// Moves the first item of the hand out, with the pipeline that is to get it, and leaves its place open. Nothing comes
-    /// of an empty hand.
+    /// Moves the first item of the outbox out, with the pipeline that is to get it, and leaves its place open. The result is `None`
+    /// if the outbox is empty.
     pub fn next(&mut self) -> Option<(PipelineId, PipelineItem)>
-        requires in_hand { (state_of self.old).out ≡ None }
+        requires none_out { (state_of self.old).outbox.out ≡ None }
         ensures gens { gens_of self.new ≡ gens_of self.old }
         ensures tenant { tenant_of self.new ≡ tenant_of self.old }
-        ensures moves { (state_of self.new, result) ≡ moved_out (state_of self.old).items (state_of self.old) }
+        ensures moves { ((state_of self.new).outbox, result) ≡ moved_out (state_of self.old).outbox.items (state_of self.old).outbox }
+        ensures rest { state_of self.new ≡ record (state_of self.old) { outbox = (state_of self.new).outbox } }
         ensures keeps_room { reserved_of self.old ≤ reserved_of self.new }
     {
-        self.hand.next()
+        self.outbox.next()
     }
 
-    /// The item that was moved out was given: its place is closed.
+    /// Says that the item which was moved out was given to its pipeline. This closes its place.
     pub fn given(&mut self)
-        requires out { is_some (state_of self.old).out ≡ true }
+        requires out { is_some (state_of self.old).outbox.out ≡ true }
         ensures gens { gens_of self.new ≡ gens_of self.old }
         ensures tenant { tenant_of self.new ≡ tenant_of self.old }
-        ensures closes { state_of self.new ≡ record (state_of self.old) { out = None } }
+        ensures closes { state_of self.new ≡ record (state_of self.old) { outbox = record (state_of self.old).outbox { out = None } } }
         ensures keeps_room { reserved_of self.old ≤ reserved_of self.new }
     {
-        self.hand.close();
+        self.outbox.close();
     }
 
-    /// The item that was moved out wasn't given: its place gets this one, which is the first again.
+    /// Says that the item which was moved out wasn't given, and puts `item` into its place. That item is the first again.
     pub fn ungiven(&mut self, item: PipelineItem)
-        requires out { is_some (state_of self.old).out ≡ true }
+        requires out { is_some (state_of self.old).outbox.out ≡ true }
         ensures gens { gens_of self.new ≡ gens_of self.old }
         ensures tenant { tenant_of self.new ≡ tenant_of self.old }
-        ensures fills { state_of self.new ≡ put_back item (state_of self.old).out (state_of self.old) }
+        ensures fills { state_of self.new ≡ record (state_of self.old) { outbox = put_back item (state_of self.old).outbox.out (state_of self.old).outbox } }
         ensures keeps_room { reserved_of self.old ≤ reserved_of self.new }
     {
-        self.hand.put_back(item);
+        self.outbox.put_back(item);
     }
 
-    /// Whether nothing is left to be given.
+    /// Returns whether nothing is left to be given.
     pub fn is_empty(&self) -> bool
-        ensures { result ≡ (length (state_of self.now).items == 0) }
+        ensures { result ≡ (length (state_of self.now).outbox.items == 0) }
     {
-        self.hand.is_empty()
+        self.outbox.is_empty()
     }
 
-    /// Whether an item was moved out of which nobody said yet what became of it.
+    /// Returns whether an item is out: it was moved out, and neither `given` nor `ungiven` was called since.
     pub fn is_out(&self) -> bool
-        ensures { result ≡ is_some (state_of self.now).out }
+        ensures { result ≡ is_some (state_of self.now).outbox.out }
     {
-        self.hand.out.is_some()
+        self.outbox.is_out()
     }
 
-    /// Whether each end mark was matched and the hand is empty.
+    /// Returns whether the end marks of all connections that the tenant lists were matched and nothing is left to be given.
     pub fn ended(&self) -> bool
-        requires in_hand { (state_of self.now).out ≡ None }
+        requires none_out { (state_of self.now).outbox.out ≡ None }
         ensures { result ≡ has_ended (gens_of self.now).first (tenant_of self.now) (state_of self.now) }
     {
-        all_marked(self.gens.first(), self.tenant, &self.marks.seen) && self.hand.is_empty()
+        all_marked(self.gens.first(), self.tenant, &self.marks.seen) && self.outbox.is_empty()
     }
 }

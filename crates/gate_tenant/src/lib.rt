@@ -1,9 +1,8 @@
-//! The worker of a tenant: what the tenant's items are matched to, and the hand from which its pipelines are given it.
+//! The worker of a tenant: it matches the tenant's items with the rules, and gives each pipeline the events that it selects.
 #![tactic(auto)]
 
 mod batch;
 mod dispatch;
-mod hand;
 mod laws;
 mod marks;
 mod matching;
@@ -14,5 +13,5 @@ pub use laws::{
     nothing_that_was_gathered_is_lost,
 };
 
-/// How many items of a tenant may be gathered and matched together (this project's profile).
+/// How many items of a tenant may be gathered and then matched together (this project's profile).
 pub const MAX_GATHERED: usize = 256;

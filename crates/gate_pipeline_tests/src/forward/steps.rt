@@ -61,14 +61,14 @@ fn load_record(
     record: Record,
 ) -> Result<(), Fail> {
     if forward.is_out() || !forward.is_empty() {
-        return Err(Fail::from("an item is in the hand"));
+        return Err(Fail::from("an item is in the outbox"));
     }
     Ok(forward.load(alloc, number, record)?)
 }
 
 fn load_end(forward: &mut Forward<'_>) -> Result<(), Fail> {
     if forward.is_out() || !forward.is_empty() {
-        return Err(Fail::from("an item is in the hand"));
+        return Err(Fail::from("an item is in the outbox"));
     }
     forward.load_end();
     Ok(())
@@ -76,7 +76,7 @@ fn load_end(forward: &mut Forward<'_>) -> Result<(), Fail> {
 
 fn load_renew(text: &mut String, forward: &mut Forward<'_>) -> Result<(), Fail> {
     if forward.is_out() || !forward.is_empty() {
-        return Err(Fail::from("an item is in the hand"));
+        return Err(Fail::from("an item is in the outbox"));
     }
     match forward.load_renew() {
         Ok(()) => Ok(()),

@@ -4,7 +4,7 @@ use Rattle.gate_queue.specs.Seats.{Shape}
 use Rattle.gate_run_posts.specs.PipelineEnds.{inbox_of}
 use Rattle.gate_run_posts.specs.Ports.{pipeline_counts}
 use Rattle.gate_run_threads.specs.Lists.{EachAt}
-use Rattle.gate_run.specs.Inner.Seatings.{AreWorkersOf, Cells, IsDispatcherOf, IsForwarderOf, IsReaderOf, IsWorkerOf}
+use Rattle.gate_run.specs.Inner.Seatings.{AreWorkersOf, Cells, IsTenantWorkerOf, IsForwarderOf, IsReaderOf, IsWorkerOf}
 use Rattle.gate_run.specs.Inner.Works.{ReadyToDispatch, ReadyToForward, ReadyToRead, ReadyToWork}
 use Rattle.gate_run_threads.proofs.Paired.{map_length}
 use Rattle.gate_run_threads.proofs.Places.{all_of_at}
@@ -14,7 +14,7 @@ use Rattle.gate_run.proofs.running.run_between.Goals as goal
 
 pub seat_workers-requires-clause-sources : goal.seat_workers-requires-clause-sources
 seat_workers-requires-clause-sources g c =
-    ap (λ lanes. map (λ queues. length queues.items) lanes) c.deref-6.ensures.value ∙ c.requires.seats.trigger_counts ∙ ap pipeline_counts (sym c.first-config.ensures)
+    ap (λ groups. map (λ queues. length queues.items) groups) c.deref-6.ensures.value ∙ c.requires.seats.trigger_counts ∙ ap pipeline_counts (sym c.first-config.ensures)
 
 pub run_works-requires-clause-readers : goal.run_works-requires-clause-readers
 run_works-requires-clause-readers g c κs within =
@@ -26,18 +26,18 @@ pub run_works-requires-clause-forwarders : goal.run_works-requires-clause-forwar
 run_works-requires-clause-forwarders g c κs within =
     all_of_at (IsForwarderOf c.args.gens.now c.deref-2.result.now c.deref-3.result.now) ReadyToForward (λ k w (is : IsForwarderOf c.args.gens.now c.deref-2.result.now c.deref-3.result.now k w). is.can) c.in_ok-forwarders.forwarders.items c.in_ok-forwarders.ensures.forwarders
 
-pub run_works-requires-clause-dispatchers : goal.run_works-requires-clause-dispatchers
-run_works-requires-clause-dispatchers g c κs within =
-    let lanes = map (λ lane. lane.items) c.deref-5.result.now in
-    all_of_at (IsDispatcherOf c.args.gens.now c.deref-4.result.now lanes) ReadyToDispatch (λ k w (is : IsDispatcherOf c.args.gens.now c.deref-4.result.now lanes k w). is.can) c.in_ok-dispatchers.dispatchers.items c.in_ok-dispatchers.ensures.dispatchers
+pub run_works-requires-clause-tenant_workers : goal.run_works-requires-clause-tenant_workers
+run_works-requires-clause-tenant_workers g c κs within =
+    let groups = map (λ group. group.items) c.deref-5.result.now in
+    all_of_at (IsTenantWorkerOf c.args.gens.now c.deref-4.result.now groups) ReadyToDispatch (λ k w (is : IsTenantWorkerOf c.args.gens.now c.deref-4.result.now groups k w). is.can) c.in_ok-tenant_workers.tenant_workers.items c.in_ok-tenant_workers.ensures.tenant_workers
 
 pub run_works-requires-clause-workers : goal.run_works-requires-clause-workers
 run_works-requires-clause-workers g c κs within =
     let config = c.first-config.result.now in
-    let lanes = map (λ lane. lane.items) c.deref-6.result.now in
+    let groups = map (λ group. group.items) c.deref-6.result.now in
     let inbox = map (λ row. map inbox_of row.items) c.args.inbox.items in
-    all_ready (λ row. row.items) (AreWorkersOf config lanes inbox) ReadyToWork
-    (λ k ws (are : AreWorkersOf config lanes inbox k ws). all_of_at (IsWorkerOf config k are.own_sources are.own_inbox) ReadyToWork (λ p w (is : IsWorkerOf config k are.own_sources are.own_inbox p w). is.can) ws are.each)
+    all_ready (λ row. row.items) (AreWorkersOf config groups inbox) ReadyToWork
+    (λ k ws (are : AreWorkersOf config groups inbox k ws). all_of_at (IsWorkerOf config k are.own_sources are.own_inbox) ReadyToWork (λ p w (is : IsWorkerOf config k are.own_sources are.own_inbox p w). is.can) ws are.each)
     c.in_ok-workers.workers.items c.in_ok-workers.ensures.workers
 
 pub returns : goal.returns
@@ -46,26 +46,26 @@ returns g c =
     let faults = g.F.RecordFeed.fault_count in
     let readers = c.in_ok-readers.readers.items in
     let forwarders = c.in_ok-forwarders.forwarders.items in
-    let dispatchers = c.in_ok-dispatchers.dispatchers.items in
+    let tenant_workers = c.in_ok-tenant_workers.tenant_workers.items in
     let rows = c.in_ok-workers.workers.items in
     let inbox = map (λ row. map inbox_of row.items) c.args.inbox.items in
     if_ok c.run_works.result
     (λ ends read forwarded dispatched worked. record {
       readers = readers;
       forwarders = forwarders;
-      dispatchers = dispatchers;
+      tenant_workers = tenant_workers;
       workers = map (λ row. row.items) rows;
       reader_count = c.in_ok-readers.ensures.count ∙ ap (λ config. length (connections_of config)) c.first-config.ensures;
       forwarder_count = c.in_ok-forwarders.ensures.count;
-      dispatcher_count = c.in_ok-dispatchers.ensures.count;
+      tenant_worker_count = c.in_ok-tenant_workers.ensures.count;
       worker_count = map_length (λ row. row.items) rows ∙ c.in_ok-workers.ensures.count ∙ ap (λ config. length (tenants_of config)) c.first-config.ensures;
       are_readers = subst (λ (x : List Shape × Cells). EachAt (IsReaderOf faults c.args.feeds.items x.0 x.1) readers) (λ i. (c.deref.ensures.value i, record { stop = c.stop_cell.ensures i; generations = c.count.ensures i; later = c.cells.ensures i })) c.in_ok-readers.ensures.readers;
       are_forwarders = subst (λ targets. EachAt (IsForwarderOf gens c.args.queues.now.records.items targets) forwarders) c.deref-3.ensures.value (subst (λ sources. EachAt (IsForwarderOf gens sources c.deref-3.result.now) forwarders) c.deref-2.ensures.value c.in_ok-forwarders.ensures.forwarders);
-      are_dispatchers = subst (λ lanes. EachAt (IsDispatcherOf gens c.args.queues.now.items.items (map (λ lane. lane.items) lanes)) dispatchers) c.deref-5.ensures.value (subst (λ sources. EachAt (IsDispatcherOf gens sources (map (λ lane. lane.items) c.deref-5.result.now)) dispatchers) c.deref-4.ensures.value c.in_ok-dispatchers.ensures.dispatchers);
-      are_workers = subst (λ lanes. EachAt (AreWorkersOf gens.first (map (λ lane. lane.items) lanes) inbox) (map (λ row. row.items) rows)) c.deref-6.ensures.value (subst (λ config. EachAt (AreWorkersOf config (map (λ lane. lane.items) c.deref-6.result.now) inbox) (map (λ row. row.items) rows)) c.first-config.ensures c.in_ok-workers.ensures.workers);
+      are_tenant_workers = subst (λ groups. EachAt (IsTenantWorkerOf gens c.args.queues.now.items.items (map (λ group. group.items) groups)) tenant_workers) c.deref-5.ensures.value (subst (λ sources. EachAt (IsTenantWorkerOf gens sources (map (λ group. group.items) c.deref-5.result.now)) tenant_workers) c.deref-4.ensures.value c.in_ok-tenant_workers.ensures.tenant_workers);
+      are_workers = subst (λ groups. EachAt (AreWorkersOf gens.first (map (λ group. group.items) groups) inbox) (map (λ row. row.items) rows)) c.deref-6.ensures.value (subst (λ config. EachAt (AreWorkersOf config (map (λ group. group.items) c.deref-6.result.now) inbox) (map (λ row. row.items) rows)) c.first-config.ensures c.in_ok-workers.ensures.workers);
       have_read = read;
       have_forwarded = forwarded;
       have_dispatched = dispatched;
       have_worked = worked;
     })
-    c.run_works.ensures.readers c.run_works.ensures.forwarders c.run_works.ensures.dispatchers c.run_works.ensures.workers
+    c.run_works.ensures.readers c.run_works.ensures.forwarders c.run_works.ensures.tenant_workers c.run_works.ensures.workers

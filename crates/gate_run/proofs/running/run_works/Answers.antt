@@ -8,7 +8,7 @@ scoped-requires g c = record {
     (
       c.requires.forwarders,
       (
-        c.requires.dispatchers,
+        c.requires.tenant_workers,
         (
           c.requires.workers,
           (search rules, record { shared = c.type_bounds.sync-G.shared }, record { shared = c.type_bounds.sync-R.shared }),

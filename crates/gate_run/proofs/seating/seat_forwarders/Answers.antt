@@ -7,7 +7,7 @@ use Rattle.gate_run.specs.Inner.Seatings.{IsForwarderOf}
 use Rattle.std.specs.List.{range_with_len}
 use Rattle.gate_run_threads.specs.Seats.{fresh_tail}
 use Rattle.gate_run_threads.proofs.Places.{left_is, next_is, some_left}
-use Rattle.gate_run_threads.proofs.Staged.{range_length}
+use Rattle.gate_run_threads.proofs.Grouped.{range_length}
 use Rattle.gate_run.proofs.Seatings.{as_many_of, forwarder_of, here_mapped, one_more}
 use Rattle.gate_run.proofs.seating.seat_forwarders.Goals as goal
 

@@ -11,7 +11,7 @@ use Rattle.gate_run_threads.specs.Seats.{fresh_head}
 use Rattle.gate_run_threads.proofs.Paired.{map_length}
 use Rattle.gate_run_threads.proofs.Places.{left_is, next_is, some_left}
 use Rattle.gate_run.proofs.Seatings.{as_many_of, count_here, here_mapped, is_mapped, one_more}
-use Rattle.gate_run_threads.proofs.Staged.{range_length}
+use Rattle.gate_run_threads.proofs.Grouped.{range_length}
 use Rattle.gate_run.proofs.seating.seat_workers.Goals as goal
 
 pub bounds-sources-number : goal.bounds-sources-number
@@ -43,11 +43,11 @@ seat_pipelines-requires-clause-sources g c =
     let sources = c.args.sources.now in
     let tenants = length (tenants_of config) in
     let number = c.loop-number.number in
-    let lane = c.index-sources-number.result in
+    let group = c.index-sources-number.result in
     let inside : number < tenants = search rules in
     let low : number < length sources = omega (arith, inside, as_many_of (λ queues. length queues.items) (λ t. length (pipelines_of config t)) sources (range_with_len 0 tenants) c.requires.sources, range_length 0 tenants) in
-    let here : slice_get sources number ≡ Some lane = slice_get_read sources (length sources) number lane refl low (search rules) in
-    ap length c.as_slice.ensures.value ∙ count_here (λ queues. length queues.items) (λ t. length (pipelines_of config t)) sources tenants number lane c.requires.sources here
+    let here : slice_get sources number ≡ Some group = slice_get_read sources (length sources) number group refl low (search rules) in
+    ap length c.as_slice.ensures.value ∙ count_here (λ queues. length queues.items) (λ t. length (pipelines_of config t)) sources tenants number group c.requires.sources here
 
 pub seat_pipelines-requires-clause-heads : goal.seat_pipelines-requires-clause-heads
 seat_pipelines-requires-clause-heads g c =
@@ -56,13 +56,13 @@ seat_pipelines-requires-clause-heads g c =
     let heads = c.args.heads.items in
     let tenants = length (tenants_of config) in
     let number = c.loop-number.number in
-    let lane = c.index-sources-number.result in
+    let group = c.index-sources-number.result in
     let inside : number < tenants = search rules in
     let low : number < length sources = omega (arith, inside, as_many_of (λ queues. length queues.items) (λ t. length (pipelines_of config t)) sources (range_with_len 0 tenants) c.requires.sources, range_length 0 tenants) in
-    let here : slice_get sources number ≡ Some lane = slice_get_read sources (length sources) number lane refl low (search rules) in
+    let here : slice_get sources number ≡ Some group = slice_get_read sources (length sources) number group refl low (search rules) in
     let step = sym c.next_of-own_heads.ensures.next ∙ c.loop-number.invariant.1 in
     let own = next_is heads number c.next_of-own_heads.result (into_iter_items c.next_of-own_heads.new.rest) step in
-    is_mapped (λ queues. map fresh_head queues.items) sources (map (λ row. row.items) heads) number lane c.next_of-own_heads.result.items c.requires.heads here (here_mapped (λ row. row.items) heads number c.next_of-own_heads.result own)
+    is_mapped (λ queues. map fresh_head queues.items) sources (map (λ row. row.items) heads) number group c.next_of-own_heads.result.items c.requires.heads here (here_mapped (λ row. row.items) heads number c.next_of-own_heads.result own)
     ∙ ap (map fresh_head) (sym c.as_slice.ensures.value)
 
 pub seat_pipelines-requires-clause-inbox : goal.seat_pipelines-requires-clause-inbox
@@ -81,10 +81,10 @@ loop-number-preserved g c =
     let inbox = c.args.inbox.items in
     let tenants = length (tenants_of config) in
     let number = c.loop-number.number in
-    let lane = c.index-sources-number.result in
+    let group = c.index-sources-number.result in
     let inside : number < tenants = search rules in
     let low : number < length sources = omega (arith, inside, as_many_of (λ queues. length queues.items) (λ t. length (pipelines_of config t)) sources (range_with_len 0 tenants) c.requires.sources, range_length 0 tenants) in
-    let here : slice_get sources number ≡ Some lane = slice_get_read sources (length sources) number lane refl low (search rules) in
+    let here : slice_get sources number ≡ Some group = slice_get_read sources (length sources) number group refl low (search rules) in
     let head_step = sym c.next_of-own_heads.ensures.next ∙ headed in
     let box_step = sym c.next_of-own_inbox.ensures.next ∙ boxed in
     let workers = c.loop-number.workers.items in
@@ -94,7 +94,7 @@ loop-number-preserved g c =
     (record {
       own_sources = c.as_slice.result.now;
       own_inbox = map inbox_of c.next_of-own_inbox.result.items;
-      sources_here = here_mapped (λ queues. queues.items) sources number lane here ∙ ap Some (sym c.as_slice.ensures.value);
+      sources_here = here_mapped (λ queues. queues.items) sources number group here ∙ ap Some (sym c.as_slice.ensures.value);
       inbox_here = here_mapped (λ row. map inbox_of row.items) inbox number c.next_of-own_inbox.result (next_is inbox number c.next_of-own_inbox.result (into_iter_items c.next_of-own_inbox.new.rest) box_step);
       count = c.in_ok-own.ensures.count;
       each = c.in_ok-own.ensures.workers;

@@ -6,27 +6,27 @@ use Rattle.gate_run.proofs.Seatings.{as_many_of}
 use Rattle.gate_run_threads.proofs.Turned.{map_same}
 use Rattle.gate_run.proofs.serving.finish.Goals as goal
 
-pub settle_lane-requires-clause-heads : goal.settle_lane-requires-clause-heads
-settle_lane-requires-clause-heads g c =
+pub settle_bounded_queues-requires-clause-heads : goal.settle_bounded_queues-requires-clause-heads
+settle_bounded_queues-requires-clause-heads g c =
     ap (map (λ head. head.queue)) c.in_ok-record_heads.ensures.heads ∙ map_map (λ head. head.queue) (λ end. end.head) c.args.ends.forwarders.items ∙ c.requires.record_heads
 
-pub settle_lane-requires-clause-tails : goal.settle_lane-requires-clause-tails
-settle_lane-requires-clause-tails g c =
+pub settle_bounded_queues-requires-clause-tails : goal.settle_bounded_queues-requires-clause-tails
+settle_bounded_queues-requires-clause-tails g c =
     ap (map seat_of) c.in_ok-feeds.ensures.tails ∙ map_map seat_of (λ end. end.tail) c.args.ends.readers.items ∙ c.requires.record_tails
 
-pub settle_stage-requires-clause-senders : goal.settle_stage-requires-clause-senders
-settle_stage-requires-clause-senders g c =
+pub settle_free_queues-requires-clause-senders : goal.settle_free_queues-requires-clause-senders
+settle_free_queues-requires-clause-senders g c =
     let forwarders = c.args.ends.forwarders.items in
     let tails = c.in_ok-record_heads.item_tails.items in
     let many : length forwarders ≡ length tails = sym (as_many_of (λ row. row.items) (λ end. end.tails.items) tails forwarders c.in_ok-record_heads.ensures.tails) in
     c.requires.item_senders ∙ ap (λ n. map (λ queue. n) c.args.items.items) many
 
-pub settle_stage-requires-clause-heads : goal.settle_stage-requires-clause-heads
-settle_stage-requires-clause-heads g c =
-    ap (map (λ head. head.queue)) c.in_ok-item_heads.ensures.heads ∙ map_map (λ head. head.queue) (λ end. end.head) c.args.ends.dispatchers.items ∙ c.requires.item_heads
+pub settle_free_queues-requires-clause-heads : goal.settle_free_queues-requires-clause-heads
+settle_free_queues-requires-clause-heads g c =
+    ap (map (λ head. head.queue)) c.in_ok-item_heads.ensures.heads ∙ map_map (λ head. head.queue) (λ end. end.head) c.args.ends.tenant_workers.items ∙ c.requires.item_heads
 
-pub settle_stage-requires-clause-tails : goal.settle_stage-requires-clause-tails
-settle_stage-requires-clause-tails g c =
+pub settle_free_queues-requires-clause-tails : goal.settle_free_queues-requires-clause-tails
+settle_free_queues-requires-clause-tails g c =
     let forwarders = c.args.ends.forwarders.items in
     let tails = c.in_ok-record_heads.item_tails.items in
     let many : length forwarders ≡ length tails = sym (as_many_of (λ row. row.items) (λ end. end.tails.items) tails forwarders c.in_ok-record_heads.ensures.tails) in
@@ -36,8 +36,8 @@ settle_stage-requires-clause-tails g c =
     ∙ c.requires.item_tails
     ∙ ap (λ n. map (λ s. map (seat_in s) c.args.items.items) (range_with_len 0 n)) many
 
-pub settle_lanes-requires-clause-heads : goal.settle_lanes-requires-clause-heads
-settle_lanes-requires-clause-heads g c =
+pub settle_groups-requires-clause-heads : goal.settle_groups-requires-clause-heads
+settle_groups-requires-clause-heads g c =
     let lists = c.args.ends.workers.items in
     sym (map_map (map (λ head. head.queue)) (λ row. row.items) c.in_ok-trigger_heads.field-0.heads.items)
     ∙ ap (map (map (λ head. head.queue))) c.in_ok-trigger_heads.ensures.heads
@@ -45,9 +45,9 @@ settle_lanes-requires-clause-heads g c =
     ∙ map_same (λ list. map (λ head. head.queue) (map (λ end. end.head) list.items)) (λ list. map (λ end. end.head.queue) list.items) (λ list. map_map (λ head. head.queue) (λ end. end.head) list.items) lists
     ∙ c.requires.trigger_heads
 
-pub settle_lanes-requires-clause-tails : goal.settle_lanes-requires-clause-tails
-settle_lanes-requires-clause-tails g c =
+pub settle_groups-requires-clause-tails : goal.settle_groups-requires-clause-tails
+settle_groups-requires-clause-tails g c =
     sym (map_map (map seat_of) (λ row. row.items) c.in_ok-item_heads.trigger_tails.items)
     ∙ ap (map (map seat_of)) c.in_ok-item_heads.ensures.tails
-    ∙ map_map (map seat_of) (λ end. end.tails.items) c.args.ends.dispatchers.items
+    ∙ map_map (map seat_of) (λ end. end.tails.items) c.args.ends.tenant_workers.items
     ∙ c.requires.trigger_tails

@@ -4,7 +4,7 @@ use Rattle.std.specs.Vec.Iter.{into_iter_items}
 use Rattle.gate_run_threads.specs.Tables.{dealt_all}
 use Rattle.gate_run_threads.proofs.Paired.{map_length}
 use Rattle.gate_run_threads.proofs.Places.{head_same, tail_same}
-use Rattle.gate_run_threads.proofs.Staged.{range_length}
+use Rattle.gate_run_threads.proofs.Grouped.{range_length}
 use Rattle.gate_run_threads.proofs.Turned.{dealt_length}
 use Rattle.gate_run_threads.proofs.lists.columns_of.Goals as goal
 

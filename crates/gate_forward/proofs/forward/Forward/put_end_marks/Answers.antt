@@ -2,7 +2,7 @@ use Rattle.std.proofs.Common.{arith, ◌-◌, ap, length}
 use Rattle.gate_config.specs.Lookups.{tenants_of}
 use Rattle.gate_record.specs.declared.transit.ConnEntry.TheVariants as entry
 use Rattle.gate_forward.specs.Forwarding.{forwarded_entry}
-use Rattle.gate_forward.specs.Hands.{conn_of, gens_of, hand_of}
+use Rattle.gate_forward.specs.States.{conn_of, gens_of, state_of}
 use Rattle.gate_forward.proofs.Addressed.{few}
 use Rattle.gate_forward.proofs.forward.Forward.put_end_marks.Goals as goal
 
@@ -11,4 +11,4 @@ put_first-requires-clause-room c =
     let gens = gens_of c.args.self.now in
     let tenant = c.loop-tenant.tenant in
     let left = length (tenants_of gens.first) - tenant in
-    omega (arith, ap length c.loop-tenant.invariant.items, few (λ t. forwarded_entry gens t (conn_of c.args.self.now) (hand_of c.args.self.now).generation entry.End) tenant left, c.loop-tenant-test.true, c.loop-tenant.invariant.within, gens.first.few_tenants)
+    omega (arith, ap length c.loop-tenant.invariant.items, few (λ t. forwarded_entry gens t (conn_of c.args.self.now) (state_of c.args.self.now).generation entry.End) tenant left, c.loop-tenant-test.true, c.loop-tenant.invariant.within, gens.first.few_tenants)

@@ -2,7 +2,7 @@ use Rattle.std.proofs.Common.{◌≡◌, ◌-◌, ◌≤◌, length, None}
 use Rattle.gate_config.specs.Lookups.{tenants_of}
 use Rattle.gate_record.specs.declared.transit.ConnEntry.TheVariants as entry
 use Rattle.gate_forward.specs.Forwarding.{forwarded_entry}
-use Rattle.gate_forward.specs.Hands.{conn_of, gens_of, hand_of}
+use Rattle.gate_forward.specs.States.{conn_of, gens_of, state_of}
 use Rattle.gate_forward.specs.Inner.Forwarding.{KeepsAllElse}
 use Rattle.gate_forward.proofs.Addressed.{from}
 use Rattle.gate_forward.proofs.forward.Forward.put_end_marks.Given as goal
@@ -10,7 +10,7 @@ use Rattle.gate_forward.proofs.forward.Forward.put_end_marks.Given as goal
 abbrev pub invariant-loop-tenant : goal.invariant-loop-tenant
 invariant-loop-tenant l = record {
   within : l.tenant ≤ length (tenants_of (gens_of l.fn.self).first);
-  items : l.self.outbox.items ≡ from (λ t. forwarded_entry (gens_of l.fn.self) t (conn_of l.fn.self) (hand_of l.fn.self).generation entry.End) l.tenant (length (tenants_of (gens_of l.fn.self).first) - l.tenant);
+  items : l.self.outbox.items ≡ from (λ t. forwarded_entry (gens_of l.fn.self) t (conn_of l.fn.self) (state_of l.fn.self).generation entry.End) l.tenant (length (tenants_of (gens_of l.fn.self).first) - l.tenant);
   out : l.self.outbox.out ≡ None;
   same : KeepsAllElse l.fn.self l.self;
 }

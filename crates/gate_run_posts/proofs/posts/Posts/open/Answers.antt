@@ -1,5 +1,5 @@
 use Rattle.std.proofs.Common.{rules, ◌∙◌, sym, ap, length, map}
-use Rattle.gate_report.specs.Limits.{places}
+use Rattle.gate_record.specs.Limits.{places}
 use Rattle.gate_run_posts.specs.Asked.{AskedView}
 use Rattle.gate_run_posts.specs.PipelineEnds.{ends_of, inbox_of}
 use Rattle.gate_run_posts.specs.Ports.{AreOpened, pipeline_counts}

@@ -1,18 +1,18 @@
 use Rattle.std.proofs.Common.{List, map, subst}
 use Rattle.std.specs.Prelude.{IfOk}
 use denote.Param.Send.{IsSync, sendable}
-use Rattle.gate_run_dispatcher.specs.declared.dispatcher.Dispatcher.{Dispatcher}
-use Rattle.gate_run_forwarder.specs.declared.forwarder.Forwarder.{Forwarder}
+use Rattle.gate_run_stages.specs.declared.tenant_worker.TenantWorker.{TenantWorker}
+use Rattle.gate_run_stages.specs.declared.forwarder.Forwarder.{Forwarder}
 use Rattle.gate_run_reader.specs.declared.reader.Reader.{Reader}
-use Rattle.gate_run_worker.specs.declared.worker.Worker.{Worker}
+use Rattle.gate_run_worker.specs.declared.worker.PipelineWorker.{PipelineWorker}
 use Rattle.gate_run_threads.specs.Lists.{Pairwise}
 use Rattle.gate_run.specs.declared.gathering.Ends.{Ends}
 use Rattle.gate_run.specs.Inner.Works.{Dispatched, Forwarded, Read, Worked}
-use Rattle.gate_run.proofs.Sendings.{dispatcher_send, forwarder_send, worker_send}
+use Rattle.gate_run.proofs.Sendings.{tenant_worker_send, forwarder_send, worker_send}
 use Rattle.gate_run.proofs.running.fn.run_works.scope.Goals as goal
 
 pub start_all-requires-send-W : goal.start_all-requires-send-W
-start_all-requires-send-W g c κs within = let s = c.generations_cross.ensures.sync in search (sendable, dispatcher_send)
+start_all-requires-send-W g c κs within = let s = c.generations_cross.ensures.sync in search (sendable, tenant_worker_send)
 
 pub start_all-requires-2-send-W : goal.start_all-requires-2-send-W
 start_all-requires-2-send-W g c κs within = let s = c.generations_cross.ensures.sync in search (sendable, forwarder_send)
@@ -24,6 +24,6 @@ pub returns : goal.returns
 returns g c = record {
   readers = subst (λ (ws : List (Reader _)). IfOk c.join_works.result (λ (ends : Ends _). Pairwise (Read g.F.RecordFeed.to_come g.F.RecordFeed.fault_count) ws ends.readers.items)) c.in_ok-readers.ensures c.join_works.ensures.readers;
   forwarders = subst (λ (ws : List Forwarder). IfOk c.join_works.result (λ (ends : Ends _). Pairwise Forwarded ws ends.forwarders.items)) c.in_ok-forwarders.ensures c.join_works.ensures.forwarders;
-  dispatchers = subst (λ (ws : List Dispatcher). IfOk c.join_works.result (λ (ends : Ends _). Pairwise Dispatched ws ends.dispatchers.items)) c.in_ok-dispatchers.ensures c.join_works.ensures.dispatchers;
-  workers = subst (λ (ws : List (List (Worker _))). IfOk c.join_works.result (λ (ends : Ends _). Pairwise (Pairwise Worked) ws (map (λ list. list.items) ends.workers.items))) c.in_ok-workers.ensures c.join_works.ensures.workers;
+  tenant_workers = subst (λ (ws : List TenantWorker). IfOk c.join_works.result (λ (ends : Ends _). Pairwise Dispatched ws ends.tenant_workers.items)) c.in_ok-tenant_workers.ensures c.join_works.ensures.tenant_workers;
+  workers = subst (λ (ws : List (List (PipelineWorker _))). IfOk c.join_works.result (λ (ends : Ends _). Pairwise (Pairwise Worked) ws (map (λ list. list.items) ends.workers.items))) c.in_ok-workers.ensures c.join_works.ensures.workers;
 }

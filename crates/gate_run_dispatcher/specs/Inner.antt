@@ -1,2 +1,0 @@
--- What only private contracts and proofs cite: no public contract rests on it.
-pub mod Dispatchers

@@ -1,2 +1,0 @@
-pub mod Dispatchers
-pub mod Inner

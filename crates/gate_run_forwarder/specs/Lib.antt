@@ -1,2 +1,0 @@
-pub mod Forwarders
-pub mod Inner

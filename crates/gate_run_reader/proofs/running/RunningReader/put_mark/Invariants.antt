@@ -1,0 +1,9 @@
+use Rattle.std.specs.Prelude.{◌≡◌}
+use Rattle.gate_run_reader.proofs.running.RunningReader.put_mark.Given as goal
+
+abbrev pub invariant-loop : goal.invariant-loop
+invariant-loop g l =
+    ((goal.iterator-loop g).can_next l.iterator' × (goal.iterator-loop g).is_finite l.iterator')
+    × (l.self.source ≡ l.fn.self.source)
+    × (l.self.renewals ≡ l.fn.self.renewals)
+    × (l.self.note.cell ≡ l.fn.self.note.cell)

@@ -1,0 +1,3 @@
+pub mod Forwarders
+pub mod Stages
+pub mod TenantWorkers

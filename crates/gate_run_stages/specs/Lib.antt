@@ -1,0 +1,3 @@
+pub mod Forwarders
+pub mod Inner
+pub mod TenantWorkers
