@@ -1,5 +1,5 @@
-"""The streams and the configuration that `bench/load`, `bench/soak` and `bench/journal` have, with the plain filter that says what each
-pipeline is to process."""
+"""The streams and the configuration of `bench/load`, `bench/soak` and `bench/journal`, with the plain filter that says what each pipeline
+is to process. Writing the streams takes as long as their bytes."""
 import importlib.machinery
 import importlib.util
 from pathlib import Path
@@ -8,7 +8,8 @@ SIZE = 2048
 SECONDS = 120
 
 CONNECTIONS = [f"gerrit{number:02}" for number in range(16)]
-TENANTS = {"north": "ab", "east": "bc", "south": "cd", "west": "da"}   # the projects of each; nobody lists `e`
+# The projects of each tenant. No tenant lists `e`.
+TENANTS = {"north": "ab", "east": "bc", "south": "cd", "west": "da"}
 PIPELINES = {
     "check": ("independent", ["build"], {"event": "patchset-created"}),
     "gate": ("dependent", ["build"], {"event": "comment-added", "branch": "master"}),

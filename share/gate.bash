@@ -1,7 +1,7 @@
-# Completes the words of gate in bash. Files are completed where this has no word.
+# Completes the words of gate in bash, and files where it has no word.
 _gate() {
     local word=${COMP_WORDS[COMP_CWORD]} words=
-    # bash takes `:` and `=` for words of their own
+    # bash takes `:` and `=` for words of their own.
     case ${COMP_WORDS[1]}.$COMP_CWORD.${COMP_WORDS[COMP_CWORD - 1]} in
     *.1.*)
         words='check replay serve explain help --help --version'

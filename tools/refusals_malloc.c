@@ -1,7 +1,7 @@
-// Refuses memory and threads to the program that this library is preloaded to (tools/refusals): a call of malloc or realloc that
-// stands in the program itself, and not in a library of it, is counted from 1, over all threads. REFUSE is CALL:TIMES:THREAD: from
-// that call on so many are answered NULL, and that thread, counted from 1, isn't started. The file REFUSE_COUNTS is mapped, so it has
-// three numbers of 64 bits however the program ends: the calls of malloc, what was refused, and the threads that were asked for.
+// Refuses memory and threads to the program for which this library is preloaded (tools/refusals). It counts the calls of malloc and realloc
+// that stand in the program itself, not in its libraries, from 1 and over all threads. REFUSE is CALL:TIMES:THREAD. From that call on, so
+// many calls return NULL; and that thread, counted from 1, isn't started. The file REFUSE_COUNTS is mapped, so it has three numbers of 64
+// bits however the program ends: the calls, how much was refused, and the threads that the program asked for.
 #define _GNU_SOURCE
 #include <dlfcn.h>
 #include <errno.h>
@@ -14,7 +14,7 @@
 #include <sys/mman.h>
 #include <unistd.h>
 
-// The function of this name behind this library's own.
+// The function of this name that this library's own stands before.
 #define REAL(name) \
     static __typeof__(&name) real; \
     if (!real) \

@@ -1,17 +1,17 @@
 #!/usr/bin/env python3
 """Runs the jobs that the journal of a `gate serve` asks for, and posts how they have ended.
 
-JOURNAL is what GATE_JOURNAL names for the program: a FIFO, or a file, which is read as it grows. It has to be there. COMMAND is run for
-each job of each build set, all of them side by side, and finds in its environment what it is for:
+JOURNAL is what GATE_JOURNAL names for the program: a FIFO, or a file, which the runner reads as it grows. JOURNAL has to be there. The
+runner runs COMMAND for each job of each build set, all of them side by side. COMMAND finds its job in its environment:
 
   GATE_TENANT, GATE_PIPELINE, GATE_SET, GATE_JOB   the build set, by its number in the pipeline, and the job
-  GATE_CONNECTION, GATE_PATCHSET                   whence the change or the ref comes; a ref has patch set 0
+  GATE_CONNECTION, GATE_PATCHSET                   where the change or the ref comes from; a ref has patch set 0
   GATE_CHANGE                                      the number of the change, or else
-  GATE_REF, GATE_NEWREV, GATE_PROJECT              what was updated, and to which revision
+  GATE_REF, GATE_NEWREV, GATE_PROJECT              which ref was updated, and to which revision
 
-A job whose status is 0 has succeeded, and any other has failed. What it leaves running is killed when it ends. The jobs of a build set that
-is cancelled are killed, and so are all where a run begins or a pipeline ends. The runner ends when each pipeline of the run has ended.
-Where it has something to post and the port gives no answer for 90 seconds, that is a fault.
+A job whose status is 0 has succeeded, and any other has failed. When a job ends, the processes that it leaves are killed. The jobs of a
+build set that is cancelled are killed, and so are all jobs where a run begins or a pipeline ends. The runner ends when each pipeline of the
+run has ended. It is a fault if the runner has something to post and the port gives no answer for 90 seconds.
 """
 import argparse
 import json
@@ -25,7 +25,7 @@ from collections.abc import Iterable, Iterator
 
 PROGRAM = "runner.py"
 START = b'{"start":1}'
-# For how long it looks for nothing, and for how long the port may give no answer.
+# How many seconds the runner sleeps between two looks, and for how many the port may give no answer.
 PAUSE, PATIENCE = 0.05, 90
 STATUSES = "exit status: 0 each pipeline has ended; 1 fault; 2 command line. A fault is one line on standard error, and kills all jobs."
 
@@ -34,7 +34,7 @@ Key = tuple[int, int, int]
 
 
 class Fault(Exception):
-    """What is wrong, in a line, and the status that says so."""
+    """A fault, in a line, and the exit status that says so."""
 
     def __init__(self, text: str, status: int = 1):
         super().__init__(text)
@@ -50,12 +50,12 @@ class Journal:
     """The lines of a FIFO, or of a file as it grows."""
 
     def __init__(self, path: str):
-        # So a FIFO doesn't wait for its writer, and goes on when one run has ended and the next one opens it.
+        # Opened so, a FIFO doesn't wait for its writer, and goes on when one run has ended and the next one opens it.
         self.file = os.open(path, os.O_RDONLY | os.O_NONBLOCK)
         self.rest = b""
 
     def lines(self) -> Iterator[bytes]:
-        """The whole lines that have come since this was last asked."""
+        """The whole lines that have come since the last call."""
         while piece := self.piece():
             *lines, self.rest = (self.rest + piece).split(b"\n")
             yield from lines
@@ -68,7 +68,7 @@ class Journal:
 
 
 class Session:
-    """A session of the status port, which serves one after the other."""
+    """A session of the status port, which serves sessions one after another."""
 
     def __init__(self, port: str):
         form, _, where = port.partition(":")
@@ -120,7 +120,7 @@ class BuildSet:
         while self.waiting:
             job = self.waiting.pop(0)
             try:
-                # A session of its own makes it a group of its own, with all that it starts.
+                # A job has a session of its own, so the job and all that it starts are a process group.
                 how = {"stdin": subprocess.DEVNULL, "start_new_session": True}
                 self.running[job] = subprocess.Popen(command, env=environment(self.told, job), **how)
             except (OSError, ValueError) as error:
@@ -135,12 +135,12 @@ class BuildSet:
             end(process)
 
     def line_of(self, job: str) -> str:
-        """What posts the result of a job."""
+        """The line that posts the result of a job."""
         return f"result {self.told['t']} {self.told['p']} {self.told['begin']} {self.results[job]} {job}"
 
 
 def environment(told: dict, job: str) -> dict[str, str]:
-    """That of a job. Other variables of such names aren't handed on: a job that runs `gate` isn't to write to this journal."""
+    """The environment of a job. It has no other variables of such names: a job that runs `gate` isn't to write to this journal."""
     own = {"tenant": told["tenant"], "pipeline": told["pipeline"], "set": told["begin"], "job": job, "patchset": told["patchset"]}
     match told:
         case {"change": {"connection": connection, "number": number}}:
@@ -152,12 +152,12 @@ def environment(told: dict, job: str) -> dict[str, str]:
 
 
 def has_ended(process: subprocess.Popen) -> bool:
-    """Leaves it to be waited for, so that its number is no other's until its group is killed."""
+    """Whether a process has ended. It isn't waited for yet, so that no other process gets its number before its group is killed."""
     return os.waitid(os.P_PID, process.pid, os.WEXITED | os.WNOHANG | os.WNOWAIT) is not None
 
 
 def end(process: subprocess.Popen) -> int:
-    """Kills what is left of its group, and gives its status."""
+    """Kills the rest of a process's group, and gives the status of the process."""
     os.killpg(process.pid, signal.SIGKILL)
     return process.wait()
 
@@ -165,9 +165,9 @@ def end(process: subprocess.Popen) -> int:
 class Runner:
     def __init__(self, journal: Journal, port: str, command: list[str]):
         self.journal, self.port, self.command = journal, port, command
-        # Those that have begun, and were neither cancelled nor reported.
+        # The build sets that have begun, and were neither cancelled nor reported.
         self.sets: dict[Key, BuildSet] = {}
-        # The pipelines of this run that have ended, and how many it has, once its port has said so.
+        # The pipelines of this run that have ended, and how many the run has, once its port has said so.
         self.ended: set[tuple[int, int]] = set()
         self.pipelines: int | None = None
         self.answered = time.monotonic()
@@ -186,16 +186,16 @@ class Runner:
             self.try_to_post()
         else:
             self.answered = time.monotonic()
-        # What stands in a journal may be of a run that is no more: nothing begins before its port has answered.
+        # A journal may have lines of a run that is over. So no job begins before the port has answered.
         if self.pipelines is not None:
             for build_set in self.sets.values():
                 build_set.begin(self.command)
                 build_set.collect()
 
     def read(self) -> None:
-        """Takes all lines that are there, before any job begins: so none begins whose build set is over some lines further on."""
+        """Takes all lines that are there before any job begins. So no job begins whose build set is over some lines further on."""
         for line in self.journal.lines():
-            # Where the run before was killed as it wrote, this stands behind half a line.
+            # Where the run before was killed while it wrote, the start stands behind half a line.
             if line.endswith(START):
                 self.drop(list(self.sets))
                 self.ended, self.pipelines = set(), None
@@ -213,7 +213,7 @@ class Runner:
                 self.ended.add((tenant, pipeline))
 
     def drop(self, keys: Iterable[Key]) -> None:
-        """These are over, with all their jobs and results."""
+        """Drops these build sets, with all their jobs and results."""
         for key in keys:
             if build_set := self.sets.pop(key, None):
                 build_set.kill()
@@ -233,16 +233,16 @@ class Runner:
         except OSError as error:
             self.read()
             if self.pipelines is None and self.ended:
-                # It had nothing to run, and a port that goes away behind an end is that of a run that is over.
+                # The run had nothing to run, and it is over: its port has gone away after a pipeline's end.
                 self.pipelines = len(self.ended)
             elif time.monotonic() - self.answered > PATIENCE:
                 raise Fault(f"{self.port}: {error.strerror or error}") from None
 
     def post(self, session: Session) -> None:
-        """Posts all results that there are. What finds no room is posted by a later session."""
+        """Posts all results. A later session posts those for which there is no room."""
         pipelines = session.count_pipelines()
-        # A run writes its `start` before its port answers. Read behind the answer, the journal drops what is of an earlier run, whose build
-        # sets had the same numbers.
+        # A run writes its `start` before its port answers. So the journal is read after the answer: that drops the build sets of an earlier
+        # run, which had the same numbers.
         self.read()
         self.pipelines = pipelines
         for build_set, job in self.results():
@@ -273,7 +273,7 @@ def main() -> None:
     given = words.parse_args()
     if not given.command:
         words.error("there is no COMMAND")
-    # Where it is ended so, no job stays either.
+    # A signal ends the runner by an exception, so that no job stays then either.
     signal.signal(signal.SIGTERM, lambda *_: sys.exit(128 + signal.SIGTERM))
     try:
         Runner(Journal(given.journal), given.port, given.command).run()

@@ -1,5 +1,6 @@
 """Verdicts that were reached before: those that the repository records, and those of earlier runs on this machine, which lie in a
-folder of the user's caches. Both by the sum of all that a verdict rests on, so none of them goes stale."""
+folder of the user's caches. Both have the sum of all that a verdict rests on, so none of them goes stale. A sum takes the reading of the
+crate and of those below it."""
 import contextlib
 import functools
 import glob
@@ -41,8 +42,8 @@ def kit():
 
 
 def seen_of(folder):
-    """What a check of a crate above sees of this one, beside its line of crates.txt: its definitions, and its code, of which it sees no
-    function that isn't public, and of the others the contracts alone."""
+    """What a check of a crate above sees of this one, beside its line of crates.txt: the definitions, and the code without functions that
+    aren't public and without the bodies of the others."""
     files = [it for part in ("src", "specs") for it in glob.glob(f"{glob.escape(folder)}/{part}/**/*", recursive=True)]
     return seen_as(folder, tuple((it, os.stat(it).st_mtime_ns, os.stat(it).st_size) for it in sorted(files)))
 
@@ -53,11 +54,11 @@ def seen_as(folder, _files):
     read.read("src/lib.rt")
     texts = []
     for file, data in sorted(read.data.items()):
-        # (where the kit doesn't say which functions are constants, none is taken for one that isn't)
+        # (Where the kit doesn't say which functions are constants, each is taken for one.)
         plain = [it for it in read.functions if it.file == file and it.has_body and not getattr(it, "is_constant", True)]
         text, end = b"", 0
         for begin, closes in sorted((it.opens if it.is_pub else it.first, it.end) for it in plain):
-            # one that stands in another's body has gone with it
+            # A function that stands in another's body has gone with that.
             if begin >= end:
                 text, end = text + data[end:begin], closes
         texts.append((file, code_in(text + data[end:])))

@@ -1,4 +1,4 @@
-"""The processors that checks wait for."""
+"""The processors that checks wait for. A check waits until a processor is free and none more urgent waits."""
 import contextlib
 import heapq
 import itertools

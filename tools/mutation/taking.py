@@ -1,16 +1,17 @@
-"""What `rt ci` proved of the very same files on this machine, in any checkout, put into out/ here. Some kits keep it, and some don't."""
+"""Puts into out/ what `rt ci` proved of the very same files on this machine, in any checkout. Some kits keep that, and some don't. It takes
+as long as copying the files."""
 import contextlib
 import os
 from pathlib import Path
 
-from mutation.checks import rt
+from .checks import rt
 
-ROOT = str(Path(__file__).resolve().parent.parent)
+ROOT = str(Path(__file__).resolve().parent.parent.parent)
 
 
 def take(crates):
     """Gives crates, lowest first, what rt ci keeps of them, each library with the stamp by which rt knows it as built. Returns the
-    names of those that got it. What is built already stays, unless something below it was given: it was made of other files then."""
+    names of those that got it. A library that is built already stays, unless one below it was given: then it was made of other files."""
     given = set()
     if not hasattr(rt, "Kept"):
         return given
@@ -31,7 +32,7 @@ def is_given(kept, crate):
     key = kept.key(crate)
     if not kept.at or not os.path.isdir(kept.place(crate, False, key)):
         return False
-    # A file that is kept may have a second name here: it is removed, and not written into.
+    # A kept file may have a second name here. So that name is removed, and nothing is written into the file.
     for made in kept.made(crate, False):
         with contextlib.suppress(FileNotFoundError):
             os.remove(f"{crate.folder}/out/{made}")

@@ -1,5 +1,6 @@
-"""What tools and benchmarks share that run a program beside peers of their own: the program, ports and streams, sessions of the status
-port, and waiting for what is so in the end. A place is `tcp:HOST:PORT` or `unix:PATH`, as the words of `serve` have it."""
+"""What tools and benchmarks share that run the program beside peers: the program itself, ports, streams, sessions of the status port, and
+waiting. A place is `tcp:HOST:PORT` or `unix:PATH`, as in the words of `serve`. A wait takes SECONDS at the most, where its caller gives no
+other time."""
 import os
 import socket
 import struct
@@ -8,29 +9,29 @@ import sys
 import time
 from pathlib import Path
 
-ROOT = Path(__file__).resolve().parent.parent
+ROOT = Path(__file__).resolve().parent.parent.parent
 BUILT = ROOT / "crates/gate_main/out/gate_main"
 PROGRAM = str(Path(os.environ.get("GATE") or BUILT).resolve())
-# For how long something is waited for, where nothing else is said.
+# How long a wait takes at the most, where its caller gives no other time.
 SECONDS = 20
 
 
 def build(crate="gate_main"):
-    """Builds a program, but not in place of the one that GATE names."""
+    """Builds a program, unless GATE names another in its place."""
     is_given = crate == "gate_main" and os.environ.get("GATE")
     if not is_given and subprocess.run([ROOT / "bin/build", crate]).returncode:
         sys.exit(f"{Path(sys.argv[0]).resolve().relative_to(ROOT)}: {crate} isn't built")
 
 
 def ended(process):
-    """What a process used, once it has ended."""
+    """Waits for the end of a process, and gives what the process used."""
     _, status, used = os.wait4(process.pid, 0)
     process.returncode = os.waitstatus_to_exitcode(status)
     return used
 
 
 def awaited(find, is_so, until=None, pause=0.01):
-    """What is found once it is so, or what was found last, where it isn't so until then."""
+    """Looks again and again, until what is found is so or the time is up. Gives what was found last."""
     until = time.monotonic() + SECONDS if until is None else until
     while not is_so(found := find()) and time.monotonic() <= until:
         time.sleep(pause)
@@ -59,7 +60,7 @@ def server(kind="tcp", timeout=SECONDS):
 
 
 def connect(place, until=None, timeout=SECONDS):
-    """A connection to a place, once somebody listens there. It is tried until then."""
+    """A connection to a place. Tries until somebody listens there or the time is up."""
     until = time.monotonic() + timeout if until is None else until
     form, where = place.split(":", 1)
     host, _, number = where.rpartition(":")
