@@ -81,9 +81,9 @@ module _ (gens : Generations) (t p : ℕ) where
       chosen_of gens t p (map (λ (row : Row). row.1) batch) active ≡ map (of_key (key_of active)) batch
   unfolding of_key
   chosen_is active batch e =
-      let asks = meets_any (rules_of (config_at gens active.generation) t p active.conn) in
+      let asks = meets_any (rules_of (config_at gens active.key.generation) t p active.key.conn) in
       ap₂ both e (map-map asks (λ (row : Row). row.1) batch)
-      ∙ zip2-map (λ a b. a && b) (λ (row : Row). same_key row.0 (key_of active) && is_listed (config_at gens active.generation) t active.conn row.1.project) (λ (row : Row). asks row.1) batch
+      ∙ zip2-map (λ a b. a && b) (λ (row : Row). same_key row.0 (key_of active) && is_listed (config_at gens active.key.generation) t active.key.conn row.1.project) (λ (row : Row). asks row.1) batch
 
   joined : (actives : List Active) (g : Row → Bool) (batch : List Row) → AreActive gens t batch actives →
       chosen gens t p (map (λ (row : Row). row.1) batch) (map g batch) actives ≡ map (λ row. g row || list_any (λ (a : Active). of_key (key_of a) row) actives) batch

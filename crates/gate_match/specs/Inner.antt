@@ -1,3 +1,4 @@
 -- Definitions that only private contracts and proofs cite. No public contract rests on them.
+pub mod Batches
 pub mod Choosing
 pub mod Tables

@@ -1,24 +1,26 @@
 //! Selects the events of a batch for each pipeline of a tenant.
-ghost use Rattle.std.specs.Prelude.{◌≡◌, ℕ, IfOk, IfSome, OnOk, length, map, replicate, false, true};
-ghost use Rattle.std.specs.List.{All, zip};
+ghost use Rattle.std.specs.Prelude.{◌≡◌, ℕ, IfOk, IfSome, OnOk, length, map, true};
+ghost use Rattle.std.specs.List.{zip};
 ghost use Rattle.gate_config.specs.Generations.{config_at};
 ghost use Rattle.gate_config.specs.Lookups.{rules_of};
-ghost use Rattle.gate_match.specs.Inner.Choosing.{AreActive, active_in, chosen, chosen_of, has_all, is_key_of, key_of};
+ghost use Rattle.gate_match.specs.Inner.Batches.{keys_in, rows_in};
+ghost use Rattle.gate_match.specs.Inner.Choosing.{AreActive, active_in, has_all, is_key_of, key_of};
 ghost use Rattle.gate_match_rules.specs.Compiling.{rules_in};
-ghost use Rattle.gate_match_rules.specs.Knowing.{AreRight};
-ghost use Rattle.gate_match_rules.specs.Marks.{either};
-ghost use Rattle.gate_match.specs.Selecting.{gens_of, mask_of, masks_of, tenant_of};
+ghost use Rattle.gate_match.specs.Selecting.{gens_of, masks_of, tenant_of};
 ghost use Rattle.gate_match.specs.Inner.Tables.{AskAlike};
-ghost use Rattle.gate_match.specs.declared.active.Active.{Active};
 
 use crate::active::Active;
+use crate::batch::Batch;
+use crate::key::Key;
 use crate::listed::listed_rows;
+use crate::pipeline_rules::PipelineRules;
 use crate::program::Program;
 use crate::table::{pipelines, place_of, table};
+use crate::tenant_rules::TenantRules;
 use gate_config::Generations;
 use gate_intern::Columns;
-use gate_match_rules::{Answers, Compiled, Mask, MatcherCache, add_meeting, compile};
-use gate_record::{ConnId, Memory, PipelineId, TenantId};
+use gate_match_rules::{Answers, Compiled, Mask, MatcherCache, Search};
+use gate_record::{ConnId, Memory, TenantId};
 use std::alloc::Global;
 
 impl<'c> Program<'c> {
@@ -33,7 +35,8 @@ impl<'c> Program<'c> {
         ensures tenant { IfOk result (λ program. tenant_of program ≡ tenant.0) }
     {
         let mut cache = MatcherCache::new(alloc);
-        let table = table(alloc, gens, tenant, &mut cache)?;
+        let source = TenantRules { gens, tenant };
+        let table = table(alloc, &source, &mut cache)?;
         Ok(Program {
             gens,
             tenant,
@@ -59,153 +62,42 @@ impl<'c> Program<'c> {
         requires conns { length conns.now ≡ length columns.now }
         ensures { IfOk result (λ masks. map (λ mask. mask.items) masks.items ≡ masks_of (gens_of self.now) (tenant_of self.now) (zip (zip gens.now conns.now) columns.now)) }
     {
-        let actives = self.actives(alloc, columns, gens, conns)?;
+        let cache = &self.cache;
+        let batch = Batch {
+            search: Search {
+                alloc,
+                cache,
+                columns,
+            },
+            gens,
+            conns,
+        };
+        let actives = self.actives(&batch)?;
         let mut answers = Answers::none(alloc);
         let mut masks = Vec::new(alloc);
         for pipeline in 0..pipelines(self.gens.first(), self.tenant) {
-            let mask = self.mask(
-                alloc,
-                columns,
-                gens,
-                conns,
+            let rules = PipelineRules {
+                program: self,
                 pipeline,
-                actives.as_slice(),
-                &mut answers,
-            )?;
+            };
+            let mask = rules.mask(&batch, actives.as_slice(), &mut answers)?;
             masks.push(mask)?;
         }
         Ok(masks)
     }
 
-    // Returns the mask of one pipeline.
-    fn mask(
-        &self,
-        alloc: Global,
-        columns: &Columns<'_>,
-        gens: &[u32],
-        conns: &[u32],
-        pipeline: u32,
-        actives: &[Active],
-        answers: &mut Answers<'c>,
-    ) -> Result<Vec<u32>, Memory>
-        requires right { AreRight columns.now answers.old }
-        requires gens { length gens.now ≡ length columns.now }
-        requires len { length conns.now ≡ length columns.now }
-        requires actives { AreActive (gens_of self.now) (tenant_of self.now) (zip (zip gens.now conns.now) columns.now) actives.now }
-        requires all { has_all actives.now (zip gens.now conns.now) ≡ true }
-        ensures right { AreRight columns.now answers.new }
-        ensures mask { IfOk result (λ mask. mask.items ≡ mask_of (gens_of self.now) (tenant_of self.now) pipeline (zip (zip gens.now conns.now) columns.now)) }
-    {
-        let rows = self.chosen(alloc, columns, pipeline, actives, answers)?;
-        Ok(rows.into_words())
-    }
-
-    // Returns the rows that a pipeline selects of these connections in their generations.
-    fn chosen(
-        &self,
-        alloc: Global,
-        columns: &Columns<'_>,
-        pipeline: u32,
-        actives: &[Active],
-        answers: &mut Answers<'c>,
-    ) -> Result<Mask, Memory>
-        requires right { AreRight columns.now answers.old }
-        requires lens { All (λ (active : Active). length active.rows ≡ length columns.now) actives.now }
-        ensures right { AreRight columns.now answers.new }
-        ensures chosen { IfOk result (λ rows. rows ≡ chosen (gens_of self.now) (tenant_of self.now) pipeline columns.now (replicate (length columns.now) false) actives.now) }
-    {
-        let mut out = Mask::none(alloc, columns.rows())?;
-        for active in actives {
-            self.add_chosen(alloc, columns, pipeline, active, answers, &mut out)?;
-        }
-        Ok(out)
-    }
-
-    // Adds the rows that a pipeline selects of one connection in one generation.
-    fn add_chosen(
-        &self,
-        alloc: Global,
-        columns: &Columns<'_>,
-        pipeline: u32,
-        active: &Active,
-        answers: &mut Answers<'c>,
-        out: &mut Mask,
-    ) -> Result<(), Memory>
-        requires right { AreRight columns.now answers.old }
-        requires rows { length active.now.rows ≡ length columns.now }
-        requires len { length out.old ≡ length columns.now }
-        ensures right { AreRight columns.now answers.new }
-        ensures len { length out.new ≡ length columns.now }
-        ensures adds { OnOk result (out.new ≡ either out.old (chosen_of (gens_of self.now) (tenant_of self.now) pipeline columns.now active.now)) }
-    {
-        match self.find(active.generation, pipeline, active.conn) {
-            Some(rules) => add_meeting(
-                alloc,
-                &self.cache,
-                columns,
-                rules,
-                answers,
-                &active.rows,
-                out,
-            ),
-            None => {
-                let config = self.gens.generation(active.generation);
-                let conn = ConnId(active.conn);
-                let rules = config.rules(self.tenant, PipelineId(pipeline), conn);
-                let mut cache = MatcherCache::new(alloc);
-                let rules = compile(alloc, &mut cache, rules)?;
-                add_meeting(
-                    alloc,
-                    &cache,
-                    columns,
-                    rules.as_slice(),
-                    answers,
-                    &active.rows,
-                    out,
-                )
-            }
-        }
-    }
-
-    // Returns the compiled rules of a pipeline for a connection in a generation. The table has them for every connection of the
-    // configuration.
-    fn find(&self, generation: u32, pipeline: u32, conn: u32) -> Option<&[Compiled<'c>]>
-        ensures { IfSome result (λ rules. AskAlike (rules_in rules.now) (rules_of (config_at (gens_of self.now) generation) (tenant_of self.now) pipeline conn)) }
-    {
-        let place = place_of(self.gens, self.tenant, generation, pipeline, conn);
-        match self.table.as_slice().get(place) {
-            Some(entry)
-                if entry.generation == generation
-                    && entry.pipeline == pipeline
-                    && entry.conn == conn => { Some(entry.rules.as_slice()) }
-            _ => None,
-        }
-    }
-
     // Returns the connections of a batch in their generations, each pair once.
-    fn actives(
-        &self,
-        alloc: Global,
-        columns: &Columns<'_>,
-        gens: &[u32],
-        conns: &[u32],
-    ) -> Result<Vec<Active>, Memory>
-        requires gens { length gens.now ≡ length columns.now }
-        requires conns { length conns.now ≡ length columns.now }
-        ensures active { IfOk result (λ actives. AreActive (gens_of self.now) (tenant_of self.now) (zip (zip gens.now conns.now) columns.now) actives.items) }
-        ensures all { IfOk result (λ actives. has_all actives.items (zip gens.now conns.now) ≡ true) }
+    fn actives(&self, batch: &Batch<'_, '_>) -> Result<Vec<Active>, Memory>
+        ensures active { IfOk result (λ actives. AreActive (gens_of self.now) (tenant_of self.now) (rows_in batch.now) actives.items) }
+        ensures all { IfOk result (λ actives. has_all actives.items (keys_in batch.now) ≡ true) }
     {
-        let mut actives = Vec::new(alloc);
-        for row in 0..conns.len() {
-            self.add_active(
-                alloc,
-                columns,
-                gens,
-                conns,
-                gens[row],
-                conns[row],
-                &mut actives,
-            )?;
+        let mut actives = Vec::new(batch.search.alloc);
+        for row in 0..batch.conns.len() {
+            let key = Key {
+                generation: batch.gens[row],
+                conn: batch.conns[row],
+            };
+            self.add_active(batch, key, &mut actives)?;
         }
         Ok(actives)
     }
@@ -213,57 +105,53 @@ impl<'c> Program<'c> {
     // Adds a connection in a generation, unless it is there already.
     fn add_active(
         &self,
-        alloc: Global,
-        columns: &Columns<'_>,
-        gens: &[u32],
-        conns: &[u32],
-        generation: u32,
-        conn: u32,
+        batch: &Batch<'_, '_>,
+        key: Key,
         actives: &mut Vec<Active>,
     ) -> Result<(), Memory>
-        requires gens { length gens.now ≡ length columns.now }
-        requires len { length conns.now ≡ length columns.now }
-        requires active { AreActive (gens_of self.now) (tenant_of self.now) (zip (zip gens.now conns.now) columns.now) actives.old.items }
-        ensures active { OnOk result (AreActive (gens_of self.now) (tenant_of self.now) (zip (zip gens.now conns.now) columns.now) actives.new.items) }
-        ensures has { OnOk result (is_key_of actives.new.items (generation, conn) ≡ true) }
-        ensures keeps { OnOk result ((key : ℕ × ℕ) → is_key_of actives.old.items key ≡ true → is_key_of actives.new.items key ≡ true) }
+        requires active { AreActive (gens_of self.now) (tenant_of self.now) (rows_in batch.now) actives.old.items }
+        ensures active { OnOk result (AreActive (gens_of self.now) (tenant_of self.now) (rows_in batch.now) actives.new.items) }
+        ensures has { OnOk result (is_key_of actives.new.items (key.generation, key.conn) ≡ true) }
+        ensures keeps { OnOk result ((other : ℕ × ℕ) → is_key_of actives.old.items other ≡ true → is_key_of actives.new.items other ≡ true) }
     {
-        if !has_key(actives.as_slice(), generation, conn) {
-            actives.push(self.active(alloc, columns, gens, conns, generation, conn)?)?;
+        if !has_key(actives.as_slice(), key) {
+            actives.push(self.active(batch, key)?)?;
         }
         Ok(())
     }
 
     // Finds the rows of a connection in a generation whose project the tenant lists under the connection.
-    fn active(
-        &self,
-        alloc: Global,
-        columns: &Columns<'_>,
-        gens: &[u32],
-        conns: &[u32],
-        generation: u32,
-        conn: u32,
-    ) -> Result<Active, Memory>
-        requires gens { length gens.now ≡ length columns.now }
-        requires conns { length conns.now ≡ length columns.now }
-        ensures key { IfOk result (λ active. key_of active ≡ (generation, conn)) }
-        ensures rows { IfOk result (λ active. active.rows ≡ active_in (gens_of self.now) (tenant_of self.now) (generation, conn) (zip (zip gens.now conns.now) columns.now)) }
+    fn active(&self, batch: &Batch<'_, '_>, key: Key) -> Result<Active, Memory>
+        ensures of_key { IfOk result (λ active. key_of active ≡ (key.generation, key.conn)) }
+        ensures rows { IfOk result (λ active. active.rows ≡ active_in (gens_of self.now) (tenant_of self.now) (key.generation, key.conn) (rows_in batch.now)) }
     {
-        let mut rows = Mask::of_ids(alloc, gens, &[generation])?;
-        rows.and(&Mask::of_ids(alloc, conns, &[conn])?);
-        let config = self.gens.generation(generation);
-        let listed = listed_rows(alloc, config, self.tenant, ConnId(conn), columns)?;
+        let search = &batch.search;
+        let mut rows = Mask::of_ids(search.alloc, batch.gens, &[key.generation])?;
+        rows.and(&Mask::of_ids(search.alloc, batch.conns, &[key.conn])?);
+        let config = self.gens.generation(key.generation);
+        let conn = ConnId(key.conn);
+        let listed = listed_rows(search.alloc, config, self.tenant, conn, search.columns)?;
         rows.and(&listed);
-        Ok(Active {
-            generation,
-            conn,
-            rows,
-        })
+        Ok(Active { key, rows })
+    }
+
+    // Returns the compiled rules of a pipeline for the events of a key, if the table has them.
+    pub(crate) fn find(&self, pipeline: u32, key: Key) -> Option<&[Compiled<'c>]>
+        ensures { IfSome result (λ rules. AskAlike (rules_in rules.now) (rules_of (config_at (gens_of self.now) key.generation) (tenant_of self.now) pipeline key.conn)) }
+    {
+        let place = place_of(self.gens, self.tenant, pipeline, key);
+        match self.table.as_slice().get(place) {
+            Some(entry) if entry.key == key && entry.pipeline == pipeline => {
+                Some(entry.rules.as_slice())
+            }
+            _ => None,
+        }
     }
 }
 
-fn has_key(actives: &[Active], generation: u32, conn: u32) -> bool
-    ensures { result ≡ is_key_of actives.now (generation, conn) }
+fn has_key(actives: &[Active], key: Key) -> bool
+    ensures { result ≡ is_key_of actives.now (key.generation, key.conn) }
 {
-    actives.iter().any(|active| generation == active.generation && conn == active.conn)
+    actives.iter().any(|active| key.generation == active.key.generation
+        && key.conn == active.key.conn)
 }

@@ -5,12 +5,13 @@ ghost use Rattle.gate_match_rules.specs.Finding.{HoldsOfEntry, met_in, texts_of}
 ghost use Rattle.gate_match_rules.specs.Knowing.{asked_in};
 ghost use Rattle.gate_match_rules.specs.Inner.Joined.{joined};
 
-use crate::asked::Asked;
 use crate::given::Approvals;
 use crate::mask::{Joining, Mask};
 use crate::matcher_cache::MatcherCache;
+use crate::question::Question;
 use crate::reach::reach_in;
-use gate_intern::{Columns, Field, texts_mark_their_events};
+use crate::search::Search;
+use gate_intern::{Field, texts_mark_their_events};
 use gate_record::Memory;
 use gate_rule::Entry;
 use std::alloc::Global;
@@ -62,56 +63,53 @@ impl<'c> Answers<'c> {
     // yet.
     pub(crate) fn join(
         &mut self,
-        alloc: Global,
-        cache: &MatcherCache<'c>,
-        columns: &Columns<'_>,
-        field: Field,
-        asked: &Asked<'c>,
+        search: &Search<'_, 'c>,
+        question: &Question<'_, 'c>,
         joining: Joining,
         out: &mut Mask,
     ) -> Result<(), Memory>
-        requires { AreRight columns.now self.old × (length out.old ≡ length columns.now) }
-        ensures fits { AreRight columns.now self.new × (length out.new ≡ length columns.now) }
-        ensures joins { OnOk result (out.new ≡ joined joining out.old (met_in field asked.now.entry.now columns.now)) }
+        requires { AreRight search.now.columns.now self.old × (length out.old ≡ length search.now.columns.now) }
+        ensures fits { AreRight search.now.columns.now self.new × (length out.new ≡ length search.now.columns.now) }
+        ensures joins { OnOk result (out.new ≡ joined joining out.old (met_in question.now.field question.now.asked.now.entry.now search.now.columns.now)) }
     {
-        if let Some(rows) = self.find(field, asked) {
+        if let Some(rows) = self.find(question) {
             out.join(joining, rows);
             return Ok(());
         }
-        let rows = rows(alloc, cache, columns, field, asked)?;
+        let rows = rows(search, question)?;
         out.join(joining, &rows);
-        self.keep(alloc, cache, field, asked, rows)
+        self.keep(search, question, rows)
     }
 
     // Returns the rows whose field meets the entry, if they are known.
-    pub(crate) fn find(&self, field: Field, asked: &Asked<'c>) -> Option<&Mask>
-        ensures { (events : List Event) → AreRight events self.now → IfSome result (λ rows. rows.now ≡ met_in field asked.now.entry.now events) }
+    pub(crate) fn find(&self, question: &Question<'_, 'c>) -> Option<&Mask>
+        ensures { (events : List Event) → AreRight events self.now → IfSome result (λ rows. rows.now ≡ met_in question.now.field question.now.asked.now.entry.now events) }
     {
+        let asked = question.asked;
         let count = *self.index.get(asked.place)? as usize;
         match self.known.get(count.wrapping_sub(1)) {
-            Some(answer) if answer.is_of(field, asked.entry) => Some(&answer.rows),
+            Some(answer) if answer.is_of(question.field, asked.entry) => Some(&answer.rows),
             _ => None,
         }
     }
 
     fn keep(
         &mut self,
-        alloc: Global,
-        cache: &MatcherCache<'c>,
-        field: Field,
-        asked: &Asked<'c>,
+        search: &Search<'_, 'c>,
+        question: &Question<'_, 'c>,
         rows: Mask,
     ) -> Result<(), Memory>
-        ensures { (events : List Event) → AreRight events self.old → HoldsOfEntry (texts_of asked.now.entry.now) (λ entry. rows ≡ met_in field entry events) → AreRight events self.new }
+        ensures { (events : List Event) → AreRight events self.old → HoldsOfEntry (texts_of question.now.asked.now.entry.now) (λ entry. rows ≡ met_in question.now.field entry events) → AreRight events self.new }
     {
+        let asked = question.asked;
         let answer = Answer {
-            field,
+            field: question.field,
             text: asked.entry.pattern.text(),
             negate: asked.entry.negate,
             rows,
         };
         self.known.push(answer)?;
-        self.note_last(alloc, cache, asked.place)
+        self.note_last(search.alloc, search.cache, asked.place)
     }
 
     // Points the index at the answer that was added last.
@@ -137,21 +135,14 @@ impl<'c> Answers<'c> {
 // Finds the rows whose field meets the entry, and so each entry with the same pattern text and the same `negate`. This stands
 // apart from the look-up of a known answer, to keep that short (`inline(never)`).
 #[inline(never)]
-fn rows<'c>(
-    alloc: Global,
-    cache: &MatcherCache<'c>,
-    columns: &Columns<'_>,
-    field: Field,
-    asked: &Asked<'c>,
-) -> Result<Mask, Memory>
-    ensures { IfOk result (λ rows. HoldsOfEntry (texts_of asked.now.entry.now) (λ entry. rows ≡ met_in field entry columns.now)) }
+fn rows<'c>(search: &Search<'_, 'c>, question: &Question<'_, 'c>) -> Result<Mask, Memory>
+    ensures { IfOk result (λ rows. HoldsOfEntry (texts_of question.now.asked.now.entry.now) (λ entry. rows ≡ met_in question.now.field entry search.now.columns.now)) }
 {
     texts_mark_their_events();
-    cache.rows(
-        alloc,
-        asked,
-        reach_in(field),
-        columns.texts(field),
-        columns.column(field),
-    )
+    let field = question.field;
+    let texts = search.columns.texts(field);
+    let ids = search
+        .cache
+        .ids(search.alloc, question.asked, reach_in(field), texts)?;
+    Mask::of_ids(search.alloc, search.columns.column(field), ids.as_slice())
 }

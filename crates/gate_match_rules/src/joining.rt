@@ -8,37 +8,35 @@ ghost use Rattle.gate_match_rules.specs.Narrowing.{meeting_any};
 use crate::answers::Answers;
 use crate::compiled::Compiled;
 use crate::mask::Mask;
-use crate::matcher_cache::MatcherCache;
 use crate::narrowing::narrow;
-use gate_intern::{Columns, Field};
+use crate::question::Question;
+use crate::search::Search;
+use gate_intern::Field;
 use gate_record::Memory;
-use std::alloc::Global;
 
-/// Adds to `out` those of `rows` that meet one of the rules. The rules must have been compiled with this cache. What is found
-/// about the batch stays in `answers`.
+/// Adds to `out` those of `rows` that meet one of the rules. The rules must have been compiled with the cache of `search`. What is
+/// found about the batch stays in `answers`.
 pub fn add_meeting<'c>(
-    alloc: Global,
-    cache: &MatcherCache<'c>,
-    columns: &Columns<'_>,
+    search: &Search<'_, 'c>,
     rules: &[Compiled<'c>],
     answers: &mut Answers<'c>,
     rows: &Mask,
     out: &mut Mask,
 ) -> Result<(), Memory>
-    requires right { AreRight columns.now answers.old }
-    requires rows { length rows.now ≡ length columns.now }
-    requires len { length out.old ≡ length columns.now }
-    ensures right { AreRight columns.now answers.new }
-    ensures len { length out.new ≡ length columns.now }
-    ensures adds { OnOk result (out.new ≡ either out.old (both rows.now (meeting_any (rules_in rules.now) columns.now))) }
+    requires right { AreRight search.now.columns.now answers.old }
+    requires rows { length rows.now ≡ length search.now.columns.now }
+    requires len { length out.old ≡ length search.now.columns.now }
+    ensures right { AreRight search.now.columns.now answers.new }
+    ensures len { length out.new ≡ length search.now.columns.now }
+    ensures adds { OnOk result (out.new ≡ either out.old (both rows.now (meeting_any (rules_in rules.now) search.now.columns.now))) }
 {
-    let mut met = Mask::none(alloc, columns.rows())?;
+    let mut met = Mask::none(search.alloc, search.columns.rows())?;
     for rule in rules {
         if is_ruled_out(answers, rule) {
             continue;
         }
         met.copy_from(rows);
-        narrow(alloc, cache, columns, rule, answers, &mut met)?;
+        narrow(search, rule, answers, &mut met)?;
         out.or(&met);
     }
     Ok(())
@@ -56,7 +54,11 @@ fn is_ruled_out<'c>(answers: &Answers<'c>, rule: &Compiled<'c>) -> bool
     let [one] = rule.event.as_slice() else {
         return false;
     };
-    match answers.find(Field::Kind, one) {
+    let question = Question {
+        field: Field::Kind,
+        asked: one,
+    };
+    match answers.find(&question) {
         Some(rows) => rows.is_none(),
         None => false,
     }

@@ -12,7 +12,9 @@ mod mask;
 mod matcher_cache;
 mod narrowing;
 mod numbering;
+mod question;
 mod reach;
+mod search;
 
 pub use answers::Answers;
 pub use compiled::Compiled;
@@ -21,3 +23,4 @@ pub use joining::add_meeting;
 pub use mask::Mask;
 pub use matcher_cache::MatcherCache;
 pub use numbering::number_text;
+pub use search::Search;

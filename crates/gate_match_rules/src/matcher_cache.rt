@@ -1,13 +1,11 @@
 //! `MatcherCache`, the matchers of all patterns of a tenant's rules, kept from batch to batch.
-ghost use Rattle.std.specs.Prelude.{◌≡◌, IfOk, IfSome, map};
+ghost use Rattle.std.specs.Prelude.{◌≡◌, IfOk, map};
 ghost use Rattle.gate_rule.specs.Pattern.{text_of};
-ghost use Rattle.gate_lanes.specs.Masks.{is_among};
 ghost use Rattle.gate_intern.specs.Marks.{numbers_where};
 ghost use Rattle.gate_match_rules.specs.Finding.{HoldsOfEntry, entry_meets, texts_of};
 
 use crate::asked::Asked;
 use crate::kept::Kept;
-use crate::mask::Mask;
 use crate::reach::Reach;
 use gate_intern::Field;
 use gate_record::Memory;
@@ -65,21 +63,20 @@ impl<'c> MatcherCache<'c> {
         })
     }
 
-    // Returns the mask of the rows of a column whose text meets the entry.
-    pub(crate) fn rows(
+    // Returns the numbers of those texts that meet the entry. The first text has number 1.
+    pub(crate) fn ids(
         &self,
         alloc: Global,
         asked: &Asked<'c>,
         reach: Reach,
         texts: &[&str],
-        column: &[u32],
-    ) -> Result<Mask, Memory>
-        ensures { IfOk result (λ mask. HoldsOfEntry (texts_of asked.now.entry.now) (λ entry. mask ≡ map (is_among (numbers_where (entry_meets reach entry) (map (λ text. text.now) texts.now))) column.now)) }
+    ) -> Result<Vec<u32>, Memory>
+        ensures { IfOk result (λ ids. HoldsOfEntry (texts_of asked.now.entry.now) (λ entry. ids.items ≡ numbers_where (entry_meets reach entry) (map (λ text. text.now) texts.now))) }
     {
         let mut kept = self.take(alloc, asked)?;
         let ids = kept.ids(alloc, reach, asked.entry, texts);
         self.put_back(asked.number, kept);
-        Mask::of_ids(alloc, column, ids?.as_slice())
+        ids
     }
 
     // Takes a matcher for the entry's pattern text out of its cell, or makes one.

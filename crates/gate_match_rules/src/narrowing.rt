@@ -9,75 +9,53 @@ use crate::answers::Answers;
 use crate::asked::Asked;
 use crate::compiled::Compiled;
 use crate::mask::{Joining, Mask};
-use crate::matcher_cache::MatcherCache;
+use crate::question::Question;
+use crate::search::Search;
 use gate_intern::{Columns, Field};
 use gate_record::{Memory, Text};
-use std::alloc::Global;
 
 // Leaves of the rows those whose event meets the rule. As soon as no row is left, the remaining attributes aren't looked at.
 pub(crate) fn narrow<'c>(
-    alloc: Global,
-    cache: &MatcherCache<'c>,
-    columns: &Columns<'_>,
+    search: &Search<'_, 'c>,
     rule: &Compiled<'c>,
     answers: &mut Answers<'c>,
     out: &mut Mask,
 ) -> Result<(), Memory>
-    requires right { AreRight columns.now answers.old }
-    requires len { length out.old ≡ length columns.now }
-    ensures right { AreRight columns.now answers.new }
-    ensures len { length out.new ≡ length columns.now }
-    ensures leaves { OnOk result (out.new ≡ both out.old (meeting (rule_of rule.now) columns.now)) }
+    requires right { AreRight search.now.columns.now answers.old }
+    requires len { length out.old ≡ length search.now.columns.now }
+    ensures right { AreRight search.now.columns.now answers.new }
+    ensures len { length out.new ≡ length search.now.columns.now }
+    ensures leaves { OnOk result (out.new ≡ both out.old (meeting (rule_of rule.now) search.now.columns.now)) }
 {
-    narrow_front(alloc, cache, columns, rule, answers, out)?;
+    narrow_front(search, rule, answers, out)?;
     if out.is_none() {
         return Ok(());
     }
-    narrow_rest(alloc, cache, columns, rule, answers, out)
+    narrow_rest(search, rule, answers, out)
 }
 
 fn narrow_front<'c>(
-    alloc: Global,
-    cache: &MatcherCache<'c>,
-    columns: &Columns<'_>,
+    search: &Search<'_, 'c>,
     rule: &Compiled<'c>,
     answers: &mut Answers<'c>,
     out: &mut Mask,
 ) -> Result<(), Memory>
-    requires right { AreRight columns.now answers.old }
-    requires len { length out.old ≡ length columns.now }
-    ensures right { AreRight columns.now answers.new }
-    ensures len { length out.new ≡ length columns.now }
-    ensures leaves { OnOk result (out.new ≡ both out.old (meeting_front (rule_of rule.now) columns.now)) }
+    requires right { AreRight search.now.columns.now answers.old }
+    requires len { length out.old ≡ length search.now.columns.now }
+    ensures right { AreRight search.now.columns.now answers.new }
+    ensures len { length out.new ≡ length search.now.columns.now }
+    ensures leaves { OnOk result (out.new ≡ both out.old (meeting_front (rule_of rule.now) search.now.columns.now)) }
 {
-    narrow_in(
-        alloc,
-        cache,
-        columns,
-        Field::Kind,
-        rule.event.as_slice(),
-        answers,
-        out,
-    )?;
+    narrow_in(search, Field::Kind, rule.event.as_slice(), answers, out)?;
+    if out.is_none() {
+        return Ok(());
+    }
+    narrow_in(search, Field::Branch, rule.branch.as_slice(), answers, out)?;
     if out.is_none() {
         return Ok(());
     }
     narrow_in(
-        alloc,
-        cache,
-        columns,
-        Field::Branch,
-        rule.branch.as_slice(),
-        answers,
-        out,
-    )?;
-    if out.is_none() {
-        return Ok(());
-    }
-    narrow_in(
-        alloc,
-        cache,
-        columns,
+        search,
         Field::Refname,
         rule.refname.as_slice(),
         answers,
@@ -86,136 +64,119 @@ fn narrow_front<'c>(
 }
 
 fn narrow_rest<'c>(
-    alloc: Global,
-    cache: &MatcherCache<'c>,
-    columns: &Columns<'_>,
+    search: &Search<'_, 'c>,
     rule: &Compiled<'c>,
     answers: &mut Answers<'c>,
     out: &mut Mask,
 ) -> Result<(), Memory>
-    requires right { AreRight columns.now answers.old }
-    requires len { length out.old ≡ length columns.now }
-    ensures right { AreRight columns.now answers.new }
-    ensures len { length out.new ≡ length columns.now }
-    ensures leaves { OnOk result (out.new ≡ both out.old (meeting_rest (rule_of rule.now) columns.now)) }
+    requires right { AreRight search.now.columns.now answers.old }
+    requires len { length out.old ≡ length search.now.columns.now }
+    ensures right { AreRight search.now.columns.now answers.new }
+    ensures len { length out.new ≡ length search.now.columns.now }
+    ensures leaves { OnOk result (out.new ≡ both out.old (meeting_rest (rule_of rule.now) search.now.columns.now)) }
 {
     narrow_in(
-        alloc,
-        cache,
-        columns,
+        search,
         Field::Username,
         rule.username.as_slice(),
         answers,
         out,
     )?;
+    narrow_left_in(search, Field::Email, rule.email.as_slice(), answers, out)?;
     narrow_left_in(
-        alloc,
-        cache,
-        columns,
-        Field::Email,
-        rule.email.as_slice(),
-        answers,
-        out,
-    )?;
-    narrow_left_in(
-        alloc,
-        cache,
-        columns,
+        search,
         Field::Comment,
         rule.comment.as_slice(),
         answers,
         out,
     )?;
-    narrow_approved(alloc, columns, rule.approval, answers, out)?;
-    narrow_deletes(columns, rule.ignore_deletes, out);
+    narrow_approved(search, rule.approval, answers, out)?;
+    narrow_deletes(search.columns, rule.ignore_deletes, out);
     Ok(())
 }
 
 // Leaves of the rows those whose field meets one of the entries. Without entries the attribute isn't listed, so all rows stay.
 fn narrow_in<'c>(
-    alloc: Global,
-    cache: &MatcherCache<'c>,
-    columns: &Columns<'_>,
+    search: &Search<'_, 'c>,
     field: Field,
     asked: &[Asked<'c>],
     answers: &mut Answers<'c>,
     out: &mut Mask,
 ) -> Result<(), Memory>
-    requires right { AreRight columns.now answers.old }
-    requires len { length out.old ≡ length columns.now }
-    ensures right { AreRight columns.now answers.new }
-    ensures len { length out.new ≡ length columns.now }
-    ensures leaves { OnOk result (out.new ≡ both out.old (meeting_in field (entries_of asked.now) columns.now)) }
+    requires right { AreRight search.now.columns.now answers.old }
+    requires len { length out.old ≡ length search.now.columns.now }
+    ensures right { AreRight search.now.columns.now answers.new }
+    ensures len { length out.new ≡ length search.now.columns.now }
+    ensures leaves { OnOk result (out.new ≡ both out.old (meeting_in field (entries_of asked.now) search.now.columns.now)) }
 {
     if asked.is_empty() {
         return Ok(());
     }
     if let [one] = asked {
-        return answers.join(alloc, cache, columns, field, one, Joining::Both, out);
+        let question = Question { field, asked: one };
+        return answers.join(search, &question, Joining::Both, out);
     }
-    let met = any_met(alloc, cache, columns, field, asked, answers)?;
+    let met = any_met(search, field, asked, answers)?;
     out.and(&met);
     Ok(())
 }
 
 // Does as `narrow_in`, but tries no entry if no row is left.
 fn narrow_left_in<'c>(
-    alloc: Global,
-    cache: &MatcherCache<'c>,
-    columns: &Columns<'_>,
+    search: &Search<'_, 'c>,
     field: Field,
     asked: &[Asked<'c>],
     answers: &mut Answers<'c>,
     out: &mut Mask,
 ) -> Result<(), Memory>
-    requires right { AreRight columns.now answers.old }
-    requires len { length out.old ≡ length columns.now }
-    ensures right { AreRight columns.now answers.new }
-    ensures len { length out.new ≡ length columns.now }
-    ensures leaves { OnOk result (out.new ≡ both out.old (meeting_in field (entries_of asked.now) columns.now)) }
+    requires right { AreRight search.now.columns.now answers.old }
+    requires len { length out.old ≡ length search.now.columns.now }
+    ensures right { AreRight search.now.columns.now answers.new }
+    ensures len { length out.new ≡ length search.now.columns.now }
+    ensures leaves { OnOk result (out.new ≡ both out.old (meeting_in field (entries_of asked.now) search.now.columns.now)) }
 {
     if out.is_none() {
         return Ok(());
     }
-    narrow_in(alloc, cache, columns, field, asked, answers, out)
+    narrow_in(search, field, asked, answers, out)
 }
 
 // Returns the rows whose field meets one of the entries.
 fn any_met<'c>(
-    alloc: Global,
-    cache: &MatcherCache<'c>,
-    columns: &Columns<'_>,
+    search: &Search<'_, 'c>,
     field: Field,
     asked: &[Asked<'c>],
     answers: &mut Answers<'c>,
 ) -> Result<Mask, Memory>
-    requires { AreRight columns.now answers.old }
-    ensures right { AreRight columns.now answers.new }
-    ensures met { IfOk result (λ rows. rows ≡ any_met_in field (entries_of asked.now) columns.now) }
+    requires { AreRight search.now.columns.now answers.old }
+    ensures right { AreRight search.now.columns.now answers.new }
+    ensures met { IfOk result (λ rows. rows ≡ any_met_in field (entries_of asked.now) search.now.columns.now) }
 {
-    let mut met = Mask::none(alloc, columns.rows())?;
+    let mut met = Mask::none(search.alloc, search.columns.rows())?;
     for one in asked {
-        answers.join(alloc, cache, columns, field, one, Joining::Either, &mut met)?;
+        let question = Question { field, asked: one };
+        answers.join(search, &question, Joining::Either, &mut met)?;
     }
     Ok(met)
 }
 
 // Leaves of the rows those that have each of these categories, with its vote.
 fn narrow_approved(
-    alloc: Global,
-    columns: &Columns<'_>,
+    search: &Search<'_, '_>,
     asked: &[(Text, i64)],
     answers: &mut Answers<'_>,
     out: &mut Mask,
 ) -> Result<(), Memory>
-    requires right { AreRight columns.now answers.old }
-    requires len { length out.old ≡ length columns.now }
-    ensures right { AreRight columns.now answers.new }
-    ensures len { length out.new ≡ length columns.now }
-    ensures leaves { OnOk result (out.new ≡ both out.old (approved asked.now columns.now)) }
+    requires right { AreRight search.now.columns.now answers.old }
+    requires len { length out.old ≡ length search.now.columns.now }
+    ensures right { AreRight search.now.columns.now answers.new }
+    ensures len { length out.new ≡ length search.now.columns.now }
+    ensures leaves { OnOk result (out.new ≡ both out.old (approved asked.now search.now.columns.now)) }
 {
     for wanted in asked {
-        answers.approvals.leave(alloc, columns, wanted, out)?;
+        answers
+            .approvals
+            .leave(search.alloc, search.columns, wanted, out)?;
     }
     Ok(())
 }

@@ -20,7 +20,7 @@ abbrev pub same_key : ℕ × ℕ → ℕ × ℕ → Bool
 same_key key other = key.0 == other.0 && key.1 == other.1
 
 abbrev pub key_of : Active → ℕ × ℕ
-key_of active = (active.generation, active.conn)
+key_of active = (active.key.generation, active.key.conn)
 
 -- the events of a key whose project the tenant lists under the connection of the key, in its generation
 abbrev pub active_in : Generations → ℕ → ℕ × ℕ → List ((ℕ × ℕ) × Event) → List Bool
@@ -39,7 +39,7 @@ has_all actives keys = list_all (is_key_of actives) keys
 
 -- the rows of a key that pipeline p selects; `chosen` joins them over several keys
 abbrev pub chosen_of : Generations → ℕ → ℕ → List Event → Active → List Bool
-chosen_of gens t p events active = both active.rows (meeting_any (rules_of (config_at gens active.generation) t p active.conn) events)
+chosen_of gens t p events active = both active.rows (meeting_any (rules_of (config_at gens active.key.generation) t p active.key.conn) events)
 
 abbrev pub chosen : Generations → ℕ → ℕ → List Event → List Bool → List Active → List Bool
 chosen gens t p events rows actives = fold (λ so_far active. either so_far (chosen_of gens t p events active)) rows actives

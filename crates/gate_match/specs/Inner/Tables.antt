@@ -20,7 +20,7 @@ AskAlike rules others = (event : Event) → meets_any rules event ≡ meets_any 
 
 -- The entry's rules ask the same as the configuration's rules for its pipeline and connection in its generation.
 abbrev pub IsOfGenerations : Generations → ℕ → RulesOfConn → Type 0
-IsOfGenerations gens t entry = AskAlike (rules_in entry.rules.items) (rules_of (config_at gens entry.generation) t entry.pipeline entry.conn)
+IsOfGenerations gens t entry = AskAlike (rules_in entry.rules.items) (rules_of (config_at gens entry.key.generation) t entry.pipeline entry.key.conn)
 
 abbrev pub AreOfGenerations : Generations → ℕ → List RulesOfConn → Type 0
 AreOfGenerations gens t table = All (IsOfGenerations gens t) table

@@ -16,11 +16,12 @@ passing test texts column = map (is_among (numbers_where test texts)) column
 
 pub returns : goal.returns
 returns c =
-    let field = c.args.field in
-    let events = c.args.columns.now in
-    if_ok c.rows.result _ _ (λ rows h one e.
-    h one e
-    ∙ ap (λ reach. passing (entry_meets reach one) (map now c.texts.result.now) c.column.result.now) c.reach_in.ensures
-    ∙ ap (λ texts. passing (entry_meets (reach_of field) one) texts c.column.result.now) c.texts.ensures
+    let field = c.args.question.now.field in
+    let events = c.args.search.now.columns.now in
+    if_ok c.of_ids.result _ _ (λ rows h one e.
+    h
+    ∙ ap (λ ids. map (is_among ids) c.column.result.now) (c.as_slice.ensures.value ∙ c.in_ok-ids.ensures one e)
+    ∙ ap (λ reach. passing (entry_meets reach one) (map now c.texts-texts.result.now) c.column.result.now) c.reach_in.ensures
+    ∙ ap (λ texts. passing (entry_meets (reach_of field) one) texts c.column.result.now) c.texts-texts.ensures
     ∙ ap (passing (entry_meets (reach_of field) one) (texts_of field events)) c.column.ensures.column
-    ∙ rows_pass c.texts_mark_their_events.ensures field (entry_meets (reach_of field) one) events) c.rows.ensures
+    ∙ rows_pass c.texts_mark_their_events.ensures field (entry_meets (reach_of field) one) events) c.of_ids.ensures

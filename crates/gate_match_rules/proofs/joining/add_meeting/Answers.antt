@@ -18,12 +18,12 @@ loop-rule-init c = record {
   right = c.requires.right;
   met = ap length c.in_ok-met.ensures ∙ length-replicate c.rows.result false ∙ c.rows.ensures.rows;
   len = c.requires.len;
-  adds = join_begins c.args.out.now c.args.rows.now c.args.columns.now c.requires.len c.requires.rows;
+  adds = join_begins c.args.out.now c.args.rows.now c.args.search.now.columns.now c.requires.len c.requires.rows;
 }
 
 pub loop-rule-preserved : goal.loop-rule-preserved
 loop-rule-preserved c =
-    let events = c.args.columns.now in
+    let events = c.args.search.now.columns.now in
     let out = c.args.out.now in
     let rows = c.args.rows.now in
     let i = c.loop-rule.rule-index in
@@ -42,7 +42,7 @@ loop-rule-preserved c =
 
 pub loop-rule-preserved-then-is_ruled_out : goal.loop-rule-preserved-then-is_ruled_out
 loop-rule-preserved-then-is_ruled_out c =
-    let events = c.args.columns.now in
+    let events = c.args.search.now.columns.now in
     let out = c.args.out.now in
     let rows = c.args.rows.now in
     let i = c.loop-rule.rule-index in
@@ -60,7 +60,7 @@ loop-rule-preserved-then-is_ruled_out c =
 
 pub returns-clause-adds : goal.returns-clause-adds
 returns-clause-adds c =
-    let events = c.args.columns.now in
+    let events = c.args.search.now.columns.now in
     let rules = c.args.rules.now in
     c.loop-rule.invariant.adds
     ∙ ap (λ met. either c.args.out.now (both c.args.rows.now met))

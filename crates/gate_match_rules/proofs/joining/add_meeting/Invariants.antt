@@ -9,8 +9,8 @@ use Rattle.gate_match_rules.proofs.joining.add_meeting.Given as goal
 -- the rows that were added are those that meet one of the rules so far
 abbrev pub invariant-loop-rule : goal.invariant-loop-rule
 invariant-loop-rule l = record {
-  right : AreRight l.columns l.answers;
-  met : length l.met ≡ length l.columns;
-  len : length l.out ≡ length l.columns;
-  adds : l.out ≡ either l.fn.out (both l.rows (map (λ event. list_any (λ one. meets (rule_of one) event) (take l.rule-index l.rules)) l.columns));
+  right : AreRight l.search.columns.now l.answers;
+  met : length l.met ≡ length l.search.columns.now;
+  len : length l.out ≡ length l.search.columns.now;
+  adds : l.out ≡ either l.fn.out (both l.rows (map (λ event. list_any (λ one. meets (rule_of one) event) (take l.rule-index l.rules)) l.search.columns.now));
 }

@@ -17,12 +17,12 @@ test field one event = passes (entry_meets (reach_of field) one.entry.now) (fiel
 pub loop-one-init : goal.loop-one-init
 loop-one-init c = record {
   right = c.requires;
-  met = c.in_ok-met.ensures ∙ ap (λ n. replicate n false) c.rows.ensures.rows ∙ any_begins (test c.args.field) c.args.asked.now c.args.columns.now;
+  met = c.in_ok-met.ensures ∙ ap (λ n. replicate n false) c.rows.ensures.rows ∙ any_begins (test c.args.field) c.args.asked.now c.args.search.now.columns.now;
 }
 
 pub loop-one-preserved : goal.loop-one-preserved
 loop-one-preserved c =
-    let events = c.args.columns.now in
+    let events = c.args.search.now.columns.now in
     let field = c.args.field in
     let i = c.loop-one.one-index in
     record {
@@ -36,7 +36,7 @@ loop-one-preserved c =
 
 pub returns-clause-met : goal.returns-clause-met
 returns-clause-met c =
-    let events = c.args.columns.now in
+    let events = c.args.search.now.columns.now in
     let field = c.args.field in
     let asked = c.args.asked.now in
     c.loop-one.invariant.met ∙ any_done (test field) asked c.loop-one.one-index events c.loop-one-test.false

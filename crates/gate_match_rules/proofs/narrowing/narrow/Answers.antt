@@ -25,12 +25,12 @@ whole rule event =
 pub returns-then-is_none-clause-leaves : goal.returns-then-is_none-clause-leaves
 returns-then-is_none-clause-leaves c =
     let rule = rule_of c.args.rule.now in
-    stop c.args.out.now c.args.columns.now (first rule) (rest rule) _ c.in_ok-narrow_front.ensures.leaves (sym c.is_none.ensures ∙ c.if-is_none.true)
-    ∙ both_alike (λ event. first rule event && rest rule event) (meets rule) c.args.out.now c.args.columns.now (whole rule)
+    stop c.args.out.now c.args.search.now.columns.now (first rule) (rest rule) _ c.in_ok-narrow_front.ensures.leaves (sym c.is_none.ensures ∙ c.if-is_none.true)
+    ∙ both_alike (λ event. first rule event && rest rule event) (meets rule) c.args.out.now c.args.search.now.columns.now (whole rule)
 
 pub returns-clause-leaves : goal.returns-clause-leaves
 returns-clause-leaves c =
     let rule = rule_of c.args.rule.now in
     on_ok c.narrow_rest.result _ _
-    (λ more. go c.args.out.now c.args.columns.now (first rule) (rest rule) _ _ c.in_ok-narrow_front.ensures.leaves more
-    ∙ both_alike (λ event. first rule event && rest rule event) (meets rule) c.args.out.now c.args.columns.now (whole rule)) c.narrow_rest.ensures.leaves
+    (λ more. go c.args.out.now c.args.search.now.columns.now (first rule) (rest rule) _ _ c.in_ok-narrow_front.ensures.leaves more
+    ∙ both_alike (λ event. first rule event && rest rule event) (meets rule) c.args.out.now c.args.search.now.columns.now (whole rule)) c.narrow_rest.ensures.leaves

@@ -14,12 +14,12 @@ pub loop-wanted-init : goal.loop-wanted-init
 loop-wanted-init c = record {
   right = c.requires.right;
   len = c.requires.len;
-  leaves = all_begins test c.args.asked.now c.args.out.now c.args.columns.now c.requires.len;
+  leaves = all_begins test c.args.asked.now c.args.out.now c.args.search.now.columns.now c.requires.len;
 }
 
 pub loop-wanted-preserved : goal.loop-wanted-preserved
 loop-wanted-preserved c =
-    let events = c.args.columns.now in
+    let events = c.args.search.now.columns.now in
     let i = c.loop-wanted.wanted-index in
     record {
       right = (c.loop-wanted.invariant.right.0, c.leave.ensures.fits.0);

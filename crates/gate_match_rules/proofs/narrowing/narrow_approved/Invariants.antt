@@ -8,7 +8,7 @@ use Rattle.gate_match_rules.proofs.narrowing.narrow_approved.Given as goal
 -- the rows that are left are those to which the categories so far are given
 abbrev pub invariant-loop-wanted : goal.invariant-loop-wanted
 invariant-loop-wanted l = record {
-  right : AreRight l.columns l.answers;
-  len : length l.out ≡ length l.columns;
-  leaves : l.out ≡ both l.fn.out (map (λ event. list_all (λ wanted. is_given wanted event.approvals) (take l.wanted-index l.asked)) l.columns);
+  right : AreRight l.search.columns.now l.answers;
+  len : length l.out ≡ length l.search.columns.now;
+  leaves : l.out ≡ both l.fn.out (map (λ event. list_all (λ wanted. is_given wanted event.approvals) (take l.wanted-index l.asked)) l.search.columns.now);
 }

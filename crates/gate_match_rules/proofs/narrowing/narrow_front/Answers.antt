@@ -22,7 +22,7 @@ refname rule event = is_met entry_front rule.refname event.refname
 pub returns-then-is_none-clause-leaves : goal.returns-then-is_none-clause-leaves
 returns-then-is_none-clause-leaves c =
     let out = c.args.out.now in
-    let events = c.args.columns.now in
+    let events = c.args.search.now.columns.now in
     let rule = rule_of c.args.rule.now in
     let none = sym c.is_none.ensures ∙ c.if-is_none.true in
     let one = c.in_ok-narrow_in.ensures.leaves ∙ ap (λ asked. both out (meeting_in Kind (entries_of asked) events)) c.as_slice.ensures.value in
@@ -31,7 +31,7 @@ returns-then-is_none-clause-leaves c =
 pub returns-then-is_none-2-clause-leaves : goal.returns-then-is_none-2-clause-leaves
 returns-then-is_none-2-clause-leaves c =
     let out = c.args.out.now in
-    let events = c.args.columns.now in
+    let events = c.args.search.now.columns.now in
     let rule = rule_of c.args.rule.now in
     let none = sym c.is_none-2.ensures ∙ c.if-is_none-2.true in
     let one = c.in_ok-narrow_in.ensures.leaves ∙ ap (λ asked. both out (meeting_in Kind (entries_of asked) events)) c.as_slice.ensures.value in
@@ -41,7 +41,7 @@ returns-then-is_none-2-clause-leaves c =
 pub returns-clause-leaves : goal.returns-clause-leaves
 returns-clause-leaves c =
     let out = c.args.out.now in
-    let events = c.args.columns.now in
+    let events = c.args.search.now.columns.now in
     let rule = rule_of c.args.rule.now in
     let one = c.in_ok-narrow_in.ensures.leaves ∙ ap (λ asked. both out (meeting_in Kind (entries_of asked) events)) c.as_slice.ensures.value in
     let two = c.in_ok-narrow_in-2.ensures.leaves ∙ ap (λ asked. both c.narrow_in.new.out (meeting_in Branch (entries_of asked) events)) c.as_slice-2.ensures.value in

@@ -28,7 +28,7 @@ stays rule event = not (rule.ignore_deletes && is_delete event)
 
 pub returns-clause-leaves : goal.returns-clause-leaves
 returns-clause-leaves c =
-    let events = c.args.columns.now in
+    let events = c.args.search.now.columns.now in
     let rule = rule_of c.args.rule.now in
     let one = c.in_ok-narrow_in.ensures.leaves ∙ ap (λ asked. both c.args.out.now (meeting_in Username (entries_of asked) events)) c.as_slice.ensures.value in
     let two = c.in_ok-narrow_left_in.ensures.leaves ∙ ap (λ asked. both c.narrow_in.new.out (meeting_in Email (entries_of asked) events)) c.as_slice-2.ensures.value in
