@@ -82,8 +82,14 @@ fn narrow_rest<'c>(
         answers,
         out,
     )?;
-    narrow_left_in(search, Field::Email, rule.email.as_slice(), answers, out)?;
-    narrow_left_in(
+    if out.is_none() {
+        return Ok(());
+    }
+    narrow_in(search, Field::Email, rule.email.as_slice(), answers, out)?;
+    if out.is_none() {
+        return Ok(());
+    }
+    narrow_in(
         search,
         Field::Comment,
         rule.comment.as_slice(),
@@ -119,26 +125,6 @@ fn narrow_in<'c>(
     let met = any_met(search, field, asked, answers)?;
     out.and(&met);
     Ok(())
-}
-
-// Does as `narrow_in`, but tries no entry if no row is left.
-fn narrow_left_in<'c>(
-    search: &Search<'_, 'c>,
-    field: Field,
-    asked: &[Asked<'c>],
-    answers: &mut Answers<'c>,
-    out: &mut Mask,
-) -> Result<(), Memory>
-    requires right { AreRight search.now.columns.now answers.old }
-    requires len { length out.old ≡ length search.now.columns.now }
-    ensures right { AreRight search.now.columns.now answers.new }
-    ensures len { length out.new ≡ length search.now.columns.now }
-    ensures leaves { OnOk result (out.new ≡ both out.old (meeting_in field (entries_of asked.now) search.now.columns.now)) }
-{
-    if out.is_none() {
-        return Ok(());
-    }
-    narrow_in(search, field, asked, answers, out)
 }
 
 // Returns the rows whose field meets one of the entries.
