@@ -8,7 +8,6 @@ use Rattle.gate_config.specs.declared.generations.Generations.{Generations}
 use Rattle.gate_config.specs.Lookups.{connections_of, pipelines_of, tenants_of}
 use Rattle.gate_source.specs.Stops.{IsNoteOf}
 use Rattle.gate_queue.specs.Seats.{Shape, TakerSeat}
-use Rattle.gate_run.specs.declared.gathering.Ends.{Ends}
 use Rattle.gate_run_threads.specs.declared.putting.PassedOn.{PassedOn}
 use Rattle.gate_run.specs.declared.queues.QueueSeats.{QueueSeats}
 use Rattle.gate_run.specs.declared.queues.Queues.{Queues}
@@ -18,12 +17,12 @@ use Rattle.gate_run_threads.specs.Lists.{Each}
 use Rattle.gate_run_reader.specs.Asked.{AreKnown}
 use Rattle.gate_run_posts.specs.Asked.{AskedView}
 use Rattle.gate_run_posts.specs.Ports.{InboxEnds}
+use Rattle.gate_run.specs.Inner.Finishing.{AreAllSeats, AreAllSettled, AreNotesFor}
 use Rattle.gate_run.specs.Inner.Queues.{AreOpen}
 use Rattle.gate_run_reader.specs.Readers.{notes_of}
 use Rattle.gate_run.specs.Inner.Seatings.{IsReaderOf, cells_of}
 use Rattle.gate_run_threads.specs.Seats.{seat_in, seat_of}
-use Rattle.gate_run_threads.specs.QueueGroups.{AreGroupsSettled, AreQueuesSettled}
-use Rattle.gate_run.specs.Inner.Works.{Forwarded, HaveRun}
+use Rattle.gate_run.specs.Inner.Works.{Ends, Forwarded, HaveRun}
 use Rattle.gate_run.proofs.Evidence.{Evidence}
 use Rattle.gate_run_threads.proofs.Paired.{map_length}
 use Rattle.gate_run_threads.proofs.Places.{as_many}
@@ -32,33 +31,37 @@ use Rattle.gate_run_threads.proofs.Seated.{map_map}
 use Rattle.gate_run.proofs.Seatings.{as_many_of, count_here}
 use Rattle.gate_run_threads.proofs.Grouped.{groups_as, range_length}
 
-pub if_ok : {T E : Type 0} {A B C D Z : T → Type 0} (r : Result T E) → ((x : T) → A x → B x → C x → D x → Z x) → IfOk r A → IfOk r B → IfOk r C → IfOk r D → IfOk r Z
-if_ok (Ok x) f a b c d = f x a b c d
-if_ok (Err e) f a b c d = a
+pub if_ok : {T E : Type 0} {A Z : T → Type 0} (r : Result T E) → ((x : T) → A x → Z x) → IfOk r A → IfOk r Z
+if_ok (Ok x) f a = f x a
+if_ok (Err e) f a = a
+
+pub if_ok_all : {T E : Type 0} {A B C D Z : T → Type 0} (r : Result T E) → ((x : T) → A x → B x → C x → D x → Z x) → IfOk r A → IfOk r B → IfOk r C → IfOk r D → IfOk r Z
+if_ok_all (Ok x) f a b c d = f x a b c d
+if_ok_all (Err e) f a b c d = a
 
 module _ {F : Type 0} (G : Type 0) (gens : Generations) (to_come : F → Told) (faults : F → ℕ) (feeds : List F) (inbox : List (List InboxEnds)) (asked : AskedView) (queues : Queues) (seats : QueueSeats) (ends : Ends F) (O : AreOpen gens.first queues seats) (H : HaveRun G gens to_come faults feeds inbox (cells_of gens asked) queues ends) where
   abbrev pub groups : List (List Shape)
   groups = map (λ group. group.items) queues.triggers.items
 
-  pub notes : Each (λ end. IsNoteOf asked.note.cell end.note) ends.readers.items
+  notes : Each (λ end. IsNoteOf asked.note.cell end.note) ends.readers.items
   notes = notes_back to_come faults asked.note.cell (IsReaderOf faults feeds queues.records.items (cells_of gens asked)) (λ c (w : Reader F) (is : IsReaderOf faults feeds queues.records.items (cells_of gens asked) c w). is.can.note_of ∙ is.of_stop) H.readers ends.readers.items H.are_readers H.have_read
 
-  pub known : Each (λ end. AreKnown asked.cells (notes_of end.renewals.items)) ends.readers.items
+  known : Each (λ end. AreKnown asked.cells (notes_of end.renewals.items)) ends.readers.items
   known = known_back to_come faults asked.cells (IsReaderOf faults feeds queues.records.items (cells_of gens asked)) (λ c (w : Reader F) (is : IsReaderOf faults feeds queues.records.items (cells_of gens asked) c w). is.of_later) H.readers ends.readers.items H.are_readers H.have_read
 
-  pub record_heads : map (λ end. end.head.queue) ends.forwarders.items ≡ map (λ queue. queue.name) queues.records.items
+  record_heads : map (λ end. end.head.queue) ends.forwarders.items ≡ map (λ queue. queue.name) queues.records.items
   record_heads = forwarder_heads gens queues.records.items queues.items.items H.forwarders ends.forwarders.items H.are_forwarders H.have_forwarded (H.forwarder_count ∙ sym O.records.many)
 
-  pub record_tails : map (λ end. seat_of end.tail) ends.readers.items ≡ map (seat_in 0) queues.records.items
+  record_tails : map (λ end. seat_of end.tail) ends.readers.items ≡ map (seat_in 0) queues.records.items
   record_tails = tails_back to_come faults feeds queues.records.items (cells_of gens asked) H.readers ends.readers.items H.are_readers H.have_read (H.reader_count ∙ sym O.records.many)
 
-  pub item_senders : map (λ queue. queue.name.senders) queues.items.items ≡ map (λ queue. length ends.forwarders.items) queues.items.items
+  item_senders : map (λ queue. queue.name.senders) queues.items.items ≡ map (λ queue. length ends.forwarders.items) queues.items.items
   item_senders = O.items.of_senders ∙ ap (λ n. map (λ (queue : Shape). n) queues.items.items) (sym H.forwarder_count ∙ as_many Forwarded H.forwarders ends.forwarders.items H.have_forwarded)
 
-  pub item_heads : map (λ end. end.head.queue) ends.tenant_workers.items ≡ map (λ queue. queue.name) queues.items.items
+  item_heads : map (λ end. end.head.queue) ends.tenant_workers.items ≡ map (λ queue. queue.name) queues.items.items
   item_heads = tenant_worker_heads gens queues.items.items groups H.tenant_workers ends.tenant_workers.items H.are_tenant_workers H.have_dispatched (H.tenant_worker_count ∙ sym O.items.many)
 
-  pub item_tails : map (λ end. map seat_of end.tails.items) ends.forwarders.items ≡ map (λ s. map (seat_in s) queues.items.items) (range_with_len 0 (length ends.forwarders.items))
+  item_tails : map (λ end. map seat_of end.tails.items) ends.forwarders.items ≡ map (λ s. map (seat_in s) queues.items.items) (range_with_len 0 (length ends.forwarders.items))
   item_tails = forwarder_tails gens queues.records.items queues.items.items H.forwarders ends.forwarders.items H.are_forwarders H.have_forwarded
 
   group_count : length groups ≡ length (tenants_of gens.first)
@@ -70,23 +73,37 @@ module _ {F : Type 0} (G : Type 0) (gens : Generations) (to_come : F → Told) (
   group_wide : (t : ℕ) (group : List Shape) → slice_get groups t ≡ Some group → length group ≡ length (pipelines_of gens.first t)
   group_wide t group at = count_here length (λ k. length (pipelines_of gens.first k)) groups (length (tenants_of gens.first)) t group (map_map length (λ group. group.items) queues.triggers.items ∙ O.trigger_counts) at
 
-  pub trigger_heads : map (λ list. map (λ end. end.head.queue) list.items) ends.workers.items ≡ map (λ group. map (λ queue. queue.name) group.items) queues.triggers.items
+  trigger_heads : map (λ list. map (λ end. end.head.queue) list.items) ends.workers.items ≡ map (λ group. map (λ queue. queue.name) group.items) queues.triggers.items
   trigger_heads =
       sym (map_map (map (λ end. end.head.queue)) (λ list. list.items) ends.workers.items)
       ∙ worker_heads gens.first groups inbox H.workers (map (λ list. list.items) ends.workers.items) H.are_workers H.have_worked (H.worker_count ∙ sym group_count) group_wide
       ∙ map_map (map (λ (queue : Shape). queue.name)) (λ group. group.items) queues.triggers.items
 
-  pub trigger_tails : map (λ end. map seat_of end.tails.items) ends.tenant_workers.items ≡ map (λ group. map (seat_in 0) group.items) queues.triggers.items
+  trigger_tails : map (λ end. map seat_of end.tails.items) ends.tenant_workers.items ≡ map (λ group. map (seat_in 0) group.items) queues.triggers.items
   trigger_tails =
       tenant_worker_tails gens queues.items.items groups H.tenant_workers ends.tenant_workers.items H.are_tenant_workers H.have_dispatched (H.tenant_worker_count ∙ sym group_count)
       ∙ map_map (map (seat_in 0)) (λ group. group.items) queues.triggers.items
 
+  pub are_notes : AreNotesFor asked ends.readers.items
+  are_notes = record { of_stop = notes; of_renewals = known }
+
+  pub are_seats : AreAllSeats queues ends
+  are_seats = record {
+    record_senders = O.records.of_senders;
+    record_heads = record_heads;
+    record_tails = record_tails;
+    item_senders = item_senders;
+    item_heads = item_heads;
+    item_tails = item_tails;
+    trigger_senders = O.trigger_senders;
+    trigger_heads = trigger_heads;
+    trigger_tails = trigger_tails;
+  }
+
   abbrev pub evidence : length feeds ≡ length (connections_of gens.first)
-      → AreQueuesSettled queues.records.items (map (λ end. end.head) ends.forwarders.items) (map (λ end. end.tail) ends.readers.items ∷ [])
-      → AreQueuesSettled queues.items.items (map (λ end. end.head) ends.tenant_workers.items) (map (λ end. end.tails.items) ends.forwarders.items)
-      → AreGroupsSettled groups (map (λ list. map (λ end. end.head) list.items) ends.workers.items) (map (λ end. end.tails.items) ends.tenant_workers.items)
+      → AreAllSettled queues ends
       → Evidence G gens to_come faults feeds inbox (cells_of gens asked)
-  evidence fed records_settled items_settled triggers_settled = record {
+  evidence fed settled = record {
     records = queues.records.items;
     items = queues.items.items;
     triggers = groups;
@@ -100,7 +117,7 @@ module _ {F : Type 0} (G : Type 0) (gens : Generations) (to_come : F → Told) (
     item_senders = O.items.of_senders;
     trigger_senders = map_map (map (λ (queue : Shape). queue.name.senders)) (λ group. group.items) queues.triggers.items ∙ O.trigger_senders ∙ sym (map_map (map (λ (queue : Shape). 1)) (λ group. group.items) queues.triggers.items);
     generation_count = refl;
-    records_settled = records_settled;
-    items_settled = items_settled;
-    triggers_settled = groups_as groups _ _ (map (λ (end : PassedOn (TakerSeat TenantItem) PipelineItem). end.tails.items) ends.tenant_workers.items) (sym (map_map (map (λ end. end.head)) (λ list. list.items) ends.workers.items)) triggers_settled;
+    records_settled = settled.records;
+    items_settled = settled.items;
+    triggers_settled = groups_as groups _ _ (map (λ (end : PassedOn (TakerSeat TenantItem) PipelineItem). end.tails.items) ends.tenant_workers.items) (sym (map_map (map (λ end. end.head)) (λ list. list.items) ends.workers.items)) settled.triggers;
   }

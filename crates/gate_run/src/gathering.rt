@@ -9,6 +9,7 @@ ghost use Rattle.gate_run_threads.specs.Lists.{Each};
 ghost use Rattle.gate_run_reader.specs.Readers.{counts_of, notes_of};
 ghost use Rattle.gate_run_posts.specs.PipelineEnds.{inbox_of};
 
+use crate::by_thread::ByThread;
 use gate_pipeline::Pipeline;
 use gate_queue::{FreeHead, FreeTail, Head, Tail};
 use gate_record::{ConnEntry, Memory, PipelineItem, Sequence, TenantItem};
@@ -21,16 +22,12 @@ use gate_source::StopNote;
 use std::alloc::Global;
 
 /// What the threads of a run handed back.
-#[derive(Drop)]
-pub(crate) struct Ends<F> {
-    /// What the readers handed back, by connection number.
-    pub(crate) readers: Vec<ReaderEnd<F>>,
-    pub(crate) forwarders: Vec<PassedOn<Head<ConnEntry>, TenantItem>>,
-    /// What the tenants' workers handed back, by tenant number.
-    pub(crate) tenant_workers: Vec<PassedOn<FreeHead<TenantItem>, PipelineItem>>,
-    /// What the pipelines' workers handed back, by tenant number and pipeline number.
-    pub(crate) workers: Vec<Vec<WorkerEnd>>,
-}
+pub(crate) type Ends<F> = ByThread<
+    ReaderEnd<F>,
+    PassedOn<Head<ConnEntry>, TenantItem>,
+    PassedOn<FreeHead<TenantItem>, PipelineItem>,
+    WorkerEnd,
+>;
 
 /// What readers handed back, sorted, by connection number; and what is known of the requests to the run, also from the readers' notes.
 #[derive(Drop)]

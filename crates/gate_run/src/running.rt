@@ -7,8 +7,9 @@ ghost use Rattle.gate_run_posts.specs.PipelineEnds.{inbox_of};
 ghost use Rattle.gate_run_posts.specs.Ports.{pipeline_counts};
 ghost use Rattle.gate_run.specs.Inner.Queues.{AreOpen};
 ghost use Rattle.gate_run.specs.Inner.Seatings.{cells_of};
-ghost use Rattle.gate_run.specs.Inner.Works.{Dispatched, Forwarded, HaveRun, Read, ReadyToDispatch, ReadyToForward, ReadyToRead, ReadyToWork, Worked};
+ghost use Rattle.gate_run.specs.Inner.Works.{AreReady, HaveReturned, HaveRun};
 
+use crate::by_thread::ByThread;
 use crate::gathering::Ends;
 use crate::queues::{QueueSeats, Queues};
 use crate::seating::{seat_forwarders, seat_readers, seat_tenant_workers, seat_workers};
@@ -110,16 +111,22 @@ pub(crate) fn run_between<
         gate,
         &mut signals.workers,
     )?;
-    run_works(
-        rt,
-        alloc,
-        &signals,
+    let works = ByThread {
         readers,
         forwarders,
         tenant_workers,
         workers,
-    )
+    };
+    run_works(rt, alloc, &signals, works)
 }
+
+/// The works of a run's threads.
+type Works<'a, F, G> = ByThread<
+    Reader<'a, F>,
+    Forwarder<'a>,
+    TenantWorker<'a>,
+    PipelineWorker<'a, G>,
+>;
 
 // Starts a thread for each of these works, waits for all of them, and gives what they handed back. No reader reads before all threads are
 // started. `Thread` says that a thread couldn't be started, and `Memory` that there was no room for a thread's handle or for what threads
@@ -128,50 +135,39 @@ fn run_works<'a, F: RecordFeed + Drop + Send, G: Gate + Sync, R: Threads + Wait 
     rt: &R,
     alloc: Global,
     signals: &Signals,
-    readers: Vec<Reader<'a, F>>,
-    forwarders: Vec<Forwarder<'a>>,
-    tenant_workers: Vec<TenantWorker<'a>>,
-    workers: Vec<Vec<PipelineWorker<'a, G>>>,
+    works: Works<'a, F, G>,
 ) -> Result<Ends<F>, RunFault>
-    requires readers { All (ReadyToRead F.fault_count) readers.items }
-    requires forwarders { All ReadyToForward forwarders.items }
-    requires tenant_workers { All ReadyToDispatch tenant_workers.items }
-    requires workers { All (λ list. All ReadyToWork list.items) workers.items }
-    ensures readers { IfOk result (λ ends. Pairwise (Read F.to_come F.fault_count) readers.entry.items ends.readers.items) }
-    ensures forwarders { IfOk result (λ ends. Pairwise Forwarded forwarders.entry.items ends.forwarders.items) }
-    ensures tenant_workers { IfOk result (λ ends. Pairwise Dispatched tenant_workers.entry.items ends.tenant_workers.items) }
-    ensures workers { IfOk result (λ ends. Pairwise (Pairwise Worked) (map (λ list. list.items) workers.entry.items) (map (λ list. list.items) ends.workers.items)) }
+    requires { AreReady F.fault_count works }
+    ensures { IfOk result (λ ends. HaveReturned F.to_come F.fault_count works.entry ends) }
 {
     thread::scope(
         thread::scope_env(),
         rt,
         move |scope| -> Result<Ends<F>, RunFault>
-            requires readers { All (ReadyToRead F.fault_count) readers.items }
-            requires forwarders { All ReadyToForward forwarders.items }
-            requires tenant_workers { All ReadyToDispatch tenant_workers.items }
-            requires workers { All (λ list. All ReadyToWork list.items) workers.items }
-            ensures readers { IfOk result (λ ends. Pairwise (Read F.to_come F.fault_count) readers.entry.items ends.readers.items) }
-            ensures forwarders { IfOk result (λ ends. Pairwise Forwarded forwarders.entry.items ends.forwarders.items) }
-            ensures tenant_workers { IfOk result (λ ends. Pairwise Dispatched tenant_workers.entry.items ends.tenant_workers.items) }
-            ensures workers { IfOk result (λ ends. Pairwise (Pairwise Worked) (map (λ list. list.items) workers.entry.items) (map (λ list. list.items) ends.workers.items)) }
+            requires { AreReady F.fault_count works }
+            ensures { IfOk result (λ ends. HaveReturned F.to_come F.fault_count works.entry ends) }
         {
             config_crosses();
             generations_cross();
             is_shared::<G>();
+            let ByThread {
+                readers,
+                forwarders,
+                tenant_workers,
+                workers,
+            } = works;
             let workers = start_lists(scope, rt, alloc, signals, workers)?;
             let tenant_workers = start_all(scope, rt, alloc, signals, tenant_workers)?;
             let forwarders = start_all(scope, rt, alloc, signals, forwarders)?;
             let readers = start_all(scope, rt, alloc, signals, readers)?;
             signals.begin();
-            join_works(
-                rt,
-                alloc,
-                signals,
+            let threads = ByThread {
                 readers,
                 forwarders,
                 tenant_workers,
                 workers,
-            )
+            };
+            join_works(rt, alloc, signals, threads)
         },
     )
 }
@@ -189,17 +185,25 @@ fn join_works<
     rt: &R,
     alloc: Global,
     signals: &Signals,
-    readers: Vec<Thread<ReaderEnd<F>, Reading>>,
-    forwarders: Vec<Thread<PassedOn<Head<ConnEntry>, TenantItem>, Forwarding>>,
-    tenant_workers: Vec<Thread<PassedOn<FreeHead<TenantItem>, PipelineItem>, Dispatching>>,
-    workers: Vec<Vec<Thread<WorkerEnd, Working>>>,
+    threads: ByThread<
+        Thread<ReaderEnd<F>, Reading>,
+        Thread<PassedOn<Head<ConnEntry>, TenantItem>, Forwarding>,
+        Thread<PassedOn<FreeHead<TenantItem>, PipelineItem>, Dispatching>,
+        Thread<WorkerEnd, Working>,
+    >,
 ) -> Result<Ends<F>, RunFault>
-    ensures readers { IfOk result (λ ends. Pairwise Reading.comes_to (map (λ thread. thread.promise.work.value) readers.items) ends.readers.items) }
-    ensures forwarders { IfOk result (λ ends. Pairwise Forwarding.comes_to (map (λ thread. thread.promise.work.value) forwarders.items) ends.forwarders.items) }
-    ensures tenant_workers { IfOk result (λ ends. Pairwise Dispatching.comes_to (map (λ thread. thread.promise.work.value) tenant_workers.items) ends.tenant_workers.items) }
-    ensures workers { IfOk result (λ ends. Pairwise (Pairwise Working.comes_to) (map (λ list. map (λ thread. thread.promise.work.value) list.items) workers.items) (map (λ list. list.items) ends.workers.items)) }
+    ensures readers { IfOk result (λ ends. Pairwise Reading.comes_to (map (λ thread. thread.promise.work.value) threads.readers.items) ends.readers.items) }
+    ensures forwarders { IfOk result (λ ends. Pairwise Forwarding.comes_to (map (λ thread. thread.promise.work.value) threads.forwarders.items) ends.forwarders.items) }
+    ensures tenant_workers { IfOk result (λ ends. Pairwise Dispatching.comes_to (map (λ thread. thread.promise.work.value) threads.tenant_workers.items) ends.tenant_workers.items) }
+    ensures workers { IfOk result (λ ends. Pairwise (Pairwise Working.comes_to) (map (λ list. map (λ thread. thread.promise.work.value) list.items) threads.workers.items) (map (λ list. list.items) ends.workers.items)) }
 {
-    Ok(Ends {
+    let ByThread {
+        readers,
+        forwarders,
+        tenant_workers,
+        workers,
+    } = threads;
+    Ok(ByThread {
         readers: join_all(rt, signals, readers)?,
         forwarders: join_all(rt, signals, forwarders)?,
         tenant_workers: join_all(rt, signals, tenant_workers)?,

@@ -1,31 +1,18 @@
 //! A whole run: opens its queues, lets its threads work, and puts together what they hand back.
-ghost use Rattle.std.specs.Prelude.{◌≡◌, ◌∷◌, ◌-◌, ◌<◌, ◌^◌, [], All, IfOk, length, map};
-ghost use Rattle.std.specs.List.{range_with_len};
+ghost use Rattle.std.specs.Prelude.{◌≡◌, ◌-◌, ◌<◌, ◌^◌, All, IfOk, length, map};
 ghost use Rattle.gate_config.specs.Lookups.{connections_of};
-ghost use Rattle.gate_source.specs.Stops.{IsNoteOf};
-ghost use Rattle.gate_pipeline.specs.States.{report_of};
-ghost use Rattle.gate_run_reader.specs.Asked.{AreKnown};
-ghost use Rattle.gate_run_posts.specs.Asked.{KnowsStill};
-ghost use Rattle.gate_run_posts.specs.Asked.{knows_as_much};
-ghost use Rattle.gate_run.specs.Inner.Gatherings.{inbox_back, most_asked, report_of_reader};
-ghost use Rattle.gate_run_threads.specs.Lists.{Each};
-ghost use Rattle.gate_run_reader.specs.Readers.{notes_of};
 ghost use Rattle.gate_run_posts.specs.Ports.{IsInboxFor};
-ghost use Rattle.gate_run_threads.specs.Seats.{seat_in, seat_of};
 ghost use Rattle.gate_run.specs.Serving.{Serves};
-ghost use Rattle.gate_run_threads.specs.QueueGroups.{AreGroupsSettled, AreQueuesSettled};
+ghost use Rattle.gate_run.specs.Inner.Finishing.{AreAllSeats, AreAllSettled, AreNotesFor, IsServed};
 
+use crate::by_thread::ByThread;
 use crate::gathering::{Ends, Readings, Workings, gather_readers, gather_seats, gather_workers};
 use crate::queues::{Queues, open_queues};
 use crate::running::run_between;
 use gate_config::Generations;
 use gate_delivery::each_way_delivers;
 use gate_pipeline::{Pipeline, what_was_taken_is_processed};
-use gate_queue::{EventQueue, FreeQueue};
-use gate_record::{
-    ConnEntry, Memory, PLACES, PipelineItem, TenantItem, entries_have_generations,
-    records_have_generations,
-};
+use gate_record::{Memory, PLACES, entries_have_generations, records_have_generations};
 use gate_report::RunReport;
 use gate_run_posts::{Asked, Inbox};
 use gate_run_threads::{RunFault, settle_bounded_queues, settle_free_queues, settle_groups};
@@ -116,12 +103,7 @@ pub fn serve_over<
     let ends = run_between(
         rt, alloc, gens, &queues, seats, feeds, tenants, &asked, gate,
     )?;
-    let Queues {
-        records,
-        items,
-        triggers,
-    } = queues;
-    let served = finish(rt, alloc, records, items, triggers, ends, asked)?;
+    let served = finish(rt, alloc, queues, ends, asked)?;
     Ok(served)
 }
 
@@ -129,39 +111,21 @@ pub fn serve_over<
 pub(crate) fn finish<F: Drop, R: Wait>(
     rt: &R,
     alloc: Global,
-    records: Vec<EventQueue<ConnEntry>>,
-    items: Vec<FreeQueue<TenantItem>>,
-    triggers: Vec<Vec<FreeQueue<PipelineItem>>>,
+    queues: Queues,
     ends: Ends<F>,
     asked: Asked,
 ) -> Result<Served<F>, Memory>
-    requires notes { Each (λ end. IsNoteOf asked.note.cell end.note) ends.readers.items }
-    requires known { Each (λ end. AreKnown asked.cells (notes_of end.renewals.items)) ends.readers.items }
-    requires record_senders { map (λ queue. queue.name.senders) records.items ≡ map (λ queue. 1) records.items }
-    requires record_heads { map (λ end. end.head.queue) ends.forwarders.items ≡ map (λ queue. queue.name) records.items }
-    requires record_tails { map (λ end. seat_of end.tail) ends.readers.items ≡ map (seat_in 0) records.items }
-    requires item_senders { map (λ queue. queue.name.senders) items.items ≡ map (λ queue. length ends.forwarders.items) items.items }
-    requires item_heads { map (λ end. end.head.queue) ends.tenant_workers.items ≡ map (λ queue. queue.name) items.items }
-    requires item_tails { map (λ end. map seat_of end.tails.items) ends.forwarders.items ≡ map (λ s. map (seat_in s) items.items) (range_with_len 0 (length ends.forwarders.items)) }
-    requires trigger_senders { map (λ queues. map (λ queue. queue.name.senders) queues.items) triggers.items ≡ map (λ queues. map (λ queue. 1) queues.items) triggers.items }
-    requires trigger_heads { map (λ list. map (λ end. end.head.queue) list.items) ends.workers.items ≡ map (λ queues. map (λ queue. queue.name) queues.items) triggers.items }
-    requires trigger_tails { map (λ end. map seat_of end.tails.items) ends.tenant_workers.items ≡ map (λ queues. map (seat_in 0) queues.items) triggers.items }
-    ensures feeds { IfOk result (λ served. served.feeds.items ≡ map (λ end. end.feed) ends.readers.items) }
-    ensures connections { IfOk result (λ served. served.report.connections ≡ map report_of_reader ends.readers.items) }
-    ensures reports { IfOk result (λ served. served.report.pipelines ≡ map (λ list. map (λ end. report_of end.state) list.items) ends.workers.items) }
-    ensures pipelines { IfOk result (λ served. map (λ row. row.items) served.pipelines.items ≡ map (λ list. map (λ end. end.state) list.items) ends.workers.items) }
-    ensures inbox { IfOk result (λ served. served.inbox.pipelines ≡ map (λ list. map inbox_back list.items) ends.workers.items) }
-    ensures cell { IfOk result (λ served. IsNoteOf asked.note.cell served.inbox.note) }
-    ensures knows { IfOk result (λ served. Each (λ end. knows_as_much end.note served.inbox.note) ends.readers.items) }
-    ensures still { IfOk result (λ served. KnowsStill asked.note served.inbox.note) }
-    ensures cells { IfOk result (λ served. served.inbox.cells ≡ asked.cells) }
-    ensures asked { IfOk result (λ served. served.inbox.asked ≡ most_asked asked.asked ends.readers.items) }
-    ensures known { IfOk result (λ served. AreKnown served.inbox.cells served.inbox.asked) }
-    ensures records { IfOk result (λ served. AreQueuesSettled records.items (map (λ end. end.head) ends.forwarders.items) (map (λ end. end.tail) ends.readers.items ∷ [])) }
-    ensures items { IfOk result (λ served. AreQueuesSettled items.items (map (λ end. end.head) ends.tenant_workers.items) (map (λ end. end.tails.items) ends.forwarders.items)) }
-    ensures triggers { IfOk result (λ served. AreGroupsSettled (map (λ queues. queues.items) triggers.items) (map (λ list. map (λ end. end.head) list.items) ends.workers.items) (map (λ end. end.tails.items) ends.tenant_workers.items)) }
+    requires seats { AreAllSeats queues ends }
+    requires notes { AreNotesFor asked ends.readers.items }
+    ensures served { IfOk result (λ served. IsServed ends asked served) }
+    ensures settled { IfOk result (λ served. AreAllSettled queues ends) }
 {
-    let Ends {
+    let Queues {
+        records,
+        items,
+        triggers,
+    } = queues;
+    let ByThread {
         readers,
         forwarders,
         tenant_workers,

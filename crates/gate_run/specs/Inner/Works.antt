@@ -1,5 +1,5 @@
 -- The works of a run's threads: what each needs before it begins, and what is true of what it hands back.
-use Rattle.std.specs.Prelude.{◌≡◌, ℕ, List, length, map}
+use Rattle.std.specs.Prelude.{◌≡◌, ℕ, List, All, length, map}
 use Rattle.gate_record.specs.declared.transit.ConnEntry.{ConnEntry}
 use Rattle.gate_record.specs.declared.transit.PipelineItem.{PipelineItem}
 use Rattle.gate_record.specs.declared.transit.TenantItem.{TenantItem}
@@ -8,7 +8,7 @@ use Rattle.gate_config.specs.Lookups.{connections_of, tenants_of}
 use Rattle.gate_queue.specs.Seats.{Shape, TakerSeat}
 use Rattle.gate_run_stages.specs.declared.tenant_worker.TenantWorker.{TenantWorker}
 use Rattle.gate_run_stages.specs.declared.forwarder.Forwarder.{Forwarder}
-use Rattle.gate_run.specs.declared.gathering.Ends.{Ends}
+use Rattle.gate_run.specs.declared.by_thread.ByThread.{ByThread}
 use Rattle.gate_run_threads.specs.declared.putting.PassedOn.{PassedOn}
 use Rattle.gate_run.specs.declared.queues.Queues.{Queues}
 use Rattle.gate_run_reader.specs.declared.reader.Reader.{Reader}
@@ -47,6 +47,28 @@ Dispatched w end = HasDispatched w.gens.now w.tenant.0 w.source.now w.targets.no
 
 abbrev pub Worked : {G : Type 0} → PipelineWorker G → WorkerEnd → Type 0
 Worked w end = HasWorked w.config.now w.tenant.0 w.pipeline.0 w.head end.head w.management end.management w.results end.results end.state
+
+-- a work for each thread of a run
+abbrev pub Works : Type 0 → Type 0 → Type 0
+Works F G = ByThread (Reader F) Forwarder TenantWorker (PipelineWorker G)
+
+-- what each thread of a run handed back
+abbrev pub Ends : Type 0 → Type 0
+Ends F = ByThread (ReaderEnd F) (PassedOn (TakerSeat ConnEntry) TenantItem) (PassedOn (TakerSeat TenantItem) PipelineItem) WorkerEnd
+
+-- each of these works may begin
+pub record AreReady {F G : Type 0} (faults : F → ℕ) (works : Works F G) : Type 0 where
+  pub readers : All (ReadyToRead faults) works.readers.items
+  pub forwarders : All ReadyToForward works.forwarders.items
+  pub tenant_workers : All ReadyToDispatch works.tenant_workers.items
+  pub workers : All (λ list. All ReadyToWork list.items) works.workers.items
+
+-- each of these works is done, and its thread handed back what stands at its place
+pub record HaveReturned {F G : Type 0} (to_come : F → Told) (faults : F → ℕ) (works : Works F G) (ends : Ends F) : Type 0 where
+  pub readers : Pairwise (Read to_come faults) works.readers.items ends.readers.items
+  pub forwarders : Pairwise Forwarded works.forwarders.items ends.forwarders.items
+  pub tenant_workers : Pairwise Dispatched works.tenant_workers.items ends.tenant_workers.items
+  pub workers : Pairwise (Pairwise Worked) (map (λ list. list.items) works.workers.items) (map (λ list. list.items) ends.workers.items)
 
 -- What the threads of a run handed back, where each had its seats in these queues.
 pub record ThreadsHaveRun {F : Type 0} (G : Type 0) (gens : Generations) (to_come : F → Told) (faults : F → ℕ) (feeds : List F) (inbox : List (List InboxEnds)) (cells : Cells)

@@ -16,29 +16,23 @@ pub seat_workers-requires-clause-sources : goal.seat_workers-requires-clause-sou
 seat_workers-requires-clause-sources g c =
     ap (λ groups. map (λ queues. length queues.items) groups) c.deref-6.ensures.value ∙ c.requires.seats.trigger_counts ∙ ap pipeline_counts (sym c.first-config.ensures)
 
-pub run_works-requires-clause-readers : goal.run_works-requires-clause-readers
-run_works-requires-clause-readers g c κs within =
+pub run_works-requires : goal.run_works-requires
+run_works-requires g c κs within =
+    let gens = c.args.gens.now in
     let faults = g.F.RecordFeed.fault_count in
     let cells : Cells = record { stop = c.stop_cell.result.now; generations = c.count.result; later = c.cells.result.now } in
-    all_of_at (IsReaderOf faults c.args.feeds.items c.deref.result.now cells) (ReadyToRead faults) (λ k w (is : IsReaderOf faults c.args.feeds.items c.deref.result.now cells k w). is.can) c.in_ok-readers.readers.items c.in_ok-readers.ensures.readers
-
-pub run_works-requires-clause-forwarders : goal.run_works-requires-clause-forwarders
-run_works-requires-clause-forwarders g c κs within =
-    all_of_at (IsForwarderOf c.args.gens.now c.deref-2.result.now c.deref-3.result.now) ReadyToForward (λ k w (is : IsForwarderOf c.args.gens.now c.deref-2.result.now c.deref-3.result.now k w). is.can) c.in_ok-forwarders.forwarders.items c.in_ok-forwarders.ensures.forwarders
-
-pub run_works-requires-clause-tenant_workers : goal.run_works-requires-clause-tenant_workers
-run_works-requires-clause-tenant_workers g c κs within =
     let groups = map (λ group. group.items) c.deref-5.result.now in
-    all_of_at (IsTenantWorkerOf c.args.gens.now c.deref-4.result.now groups) ReadyToDispatch (λ k w (is : IsTenantWorkerOf c.args.gens.now c.deref-4.result.now groups k w). is.can) c.in_ok-tenant_workers.tenant_workers.items c.in_ok-tenant_workers.ensures.tenant_workers
-
-pub run_works-requires-clause-workers : goal.run_works-requires-clause-workers
-run_works-requires-clause-workers g c κs within =
     let config = c.first-config.result.now in
-    let groups = map (λ group. group.items) c.deref-6.result.now in
+    let own_groups = map (λ group. group.items) c.deref-6.result.now in
     let inbox = map (λ row. map inbox_of row.items) c.args.inbox.items in
-    all_ready (λ row. row.items) (AreWorkersOf config groups inbox) ReadyToWork
-    (λ k ws (are : AreWorkersOf config groups inbox k ws). all_of_at (IsWorkerOf config k are.own_sources are.own_inbox) ReadyToWork (λ p w (is : IsWorkerOf config k are.own_sources are.own_inbox p w). is.can) ws are.each)
-    c.in_ok-workers.workers.items c.in_ok-workers.ensures.workers
+    record {
+      readers = all_of_at (IsReaderOf faults c.args.feeds.items c.deref.result.now cells) (ReadyToRead faults) (λ k w (is : IsReaderOf faults c.args.feeds.items c.deref.result.now cells k w). is.can) c.in_ok-readers.readers.items c.in_ok-readers.ensures.readers;
+      forwarders = all_of_at (IsForwarderOf gens c.deref-2.result.now c.deref-3.result.now) ReadyToForward (λ k w (is : IsForwarderOf gens c.deref-2.result.now c.deref-3.result.now k w). is.can) c.in_ok-forwarders.forwarders.items c.in_ok-forwarders.ensures.forwarders;
+      tenant_workers = all_of_at (IsTenantWorkerOf gens c.deref-4.result.now groups) ReadyToDispatch (λ k w (is : IsTenantWorkerOf gens c.deref-4.result.now groups k w). is.can) c.in_ok-tenant_workers.tenant_workers.items c.in_ok-tenant_workers.ensures.tenant_workers;
+      workers = all_ready (λ row. row.items) (AreWorkersOf config own_groups inbox) ReadyToWork
+          (λ k ws (are : AreWorkersOf config own_groups inbox k ws). all_of_at (IsWorkerOf config k are.own_sources are.own_inbox) ReadyToWork (λ p w (is : IsWorkerOf config k are.own_sources are.own_inbox p w). is.can) ws are.each)
+          c.in_ok-workers.workers.items c.in_ok-workers.ensures.workers;
+    }
 
 pub returns : goal.returns
 returns g c =
@@ -50,7 +44,7 @@ returns g c =
     let rows = c.in_ok-workers.workers.items in
     let inbox = map (λ row. map inbox_of row.items) c.args.inbox.items in
     if_ok c.run_works.result
-    (λ ends read forwarded dispatched worked. record {
+    (λ ends back. record {
       readers = readers;
       forwarders = forwarders;
       tenant_workers = tenant_workers;
@@ -63,9 +57,9 @@ returns g c =
       are_forwarders = subst (λ targets. EachAt (IsForwarderOf gens c.args.queues.now.records.items targets) forwarders) c.deref-3.ensures.value (subst (λ sources. EachAt (IsForwarderOf gens sources c.deref-3.result.now) forwarders) c.deref-2.ensures.value c.in_ok-forwarders.ensures.forwarders);
       are_tenant_workers = subst (λ groups. EachAt (IsTenantWorkerOf gens c.args.queues.now.items.items (map (λ group. group.items) groups)) tenant_workers) c.deref-5.ensures.value (subst (λ sources. EachAt (IsTenantWorkerOf gens sources (map (λ group. group.items) c.deref-5.result.now)) tenant_workers) c.deref-4.ensures.value c.in_ok-tenant_workers.ensures.tenant_workers);
       are_workers = subst (λ groups. EachAt (AreWorkersOf gens.first (map (λ group. group.items) groups) inbox) (map (λ row. row.items) rows)) c.deref-6.ensures.value (subst (λ config. EachAt (AreWorkersOf config (map (λ group. group.items) c.deref-6.result.now) inbox) (map (λ row. row.items) rows)) c.first-config.ensures c.in_ok-workers.ensures.workers);
-      have_read = read;
-      have_forwarded = forwarded;
-      have_dispatched = dispatched;
-      have_worked = worked;
+      have_read = back.readers;
+      have_forwarded = back.forwarders;
+      have_dispatched = back.tenant_workers;
+      have_worked = back.workers;
     })
-    c.run_works.ensures.readers c.run_works.ensures.forwarders c.run_works.ensures.tenant_workers c.run_works.ensures.workers
+    c.run_works.ensures

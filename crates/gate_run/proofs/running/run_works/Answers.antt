@@ -4,16 +4,7 @@ use Rattle.gate_run.proofs.running.run_works.Goals as goal
 pub scoped-requires : goal.scoped-requires
 scoped-requires g c = record {
   at = λ a. (
-    c.requires.readers,
-    (
-      c.requires.forwarders,
-      (
-        c.requires.tenant_workers,
-        (
-          c.requires.workers,
-          (search rules, record { shared = c.type_bounds.sync-G.shared }, record { shared = c.type_bounds.sync-R.shared }),
-        ),
-      ),
-    ),
+    c.requires,
+    (search rules, record { shared = c.type_bounds.sync-G.shared }, record { shared = c.type_bounds.sync-R.shared }),
   );
 }

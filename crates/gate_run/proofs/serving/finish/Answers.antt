@@ -1,4 +1,4 @@
-use Rattle.std.proofs.Common.{◌≡◌, ◌∙◌, sym, ap, length, map}
+use Rattle.std.proofs.Common.{rules, ◌≡◌, ◌∙◌, sym, ap, length, map}
 use Rattle.std.specs.List.{range_with_len}
 use Rattle.gate_run_threads.specs.Seats.{seat_in, seat_of}
 use Rattle.gate_run_threads.proofs.Seated.{map_map}
@@ -8,22 +8,22 @@ use Rattle.gate_run.proofs.serving.finish.Goals as goal
 
 pub settle_bounded_queues-requires-clause-heads : goal.settle_bounded_queues-requires-clause-heads
 settle_bounded_queues-requires-clause-heads g c =
-    ap (map (λ head. head.queue)) c.in_ok-record_heads.ensures.heads ∙ map_map (λ head. head.queue) (λ end. end.head) c.args.ends.forwarders.items ∙ c.requires.record_heads
+    ap (map (λ head. head.queue)) c.in_ok-record_heads.ensures.heads ∙ map_map (λ head. head.queue) (λ end. end.head) c.args.ends.forwarders.items ∙ c.requires.seats.record_heads
 
 pub settle_bounded_queues-requires-clause-tails : goal.settle_bounded_queues-requires-clause-tails
 settle_bounded_queues-requires-clause-tails g c =
-    ap (map seat_of) c.in_ok-feeds.ensures.tails ∙ map_map seat_of (λ end. end.tail) c.args.ends.readers.items ∙ c.requires.record_tails
+    ap (map seat_of) c.in_ok-feeds.ensures.tails ∙ map_map seat_of (λ end. end.tail) c.args.ends.readers.items ∙ c.requires.seats.record_tails
 
 pub settle_free_queues-requires-clause-senders : goal.settle_free_queues-requires-clause-senders
 settle_free_queues-requires-clause-senders g c =
     let forwarders = c.args.ends.forwarders.items in
     let tails = c.in_ok-record_heads.item_tails.items in
     let many : length forwarders ≡ length tails = sym (as_many_of (λ row. row.items) (λ end. end.tails.items) tails forwarders c.in_ok-record_heads.ensures.tails) in
-    c.requires.item_senders ∙ ap (λ n. map (λ queue. n) c.args.items.items) many
+    c.requires.seats.item_senders ∙ ap (λ n. map (λ queue. n) c.args.queues.items.items) many
 
 pub settle_free_queues-requires-clause-heads : goal.settle_free_queues-requires-clause-heads
 settle_free_queues-requires-clause-heads g c =
-    ap (map (λ head. head.queue)) c.in_ok-item_heads.ensures.heads ∙ map_map (λ head. head.queue) (λ end. end.head) c.args.ends.tenant_workers.items ∙ c.requires.item_heads
+    ap (map (λ head. head.queue)) c.in_ok-item_heads.ensures.heads ∙ map_map (λ head. head.queue) (λ end. end.head) c.args.ends.tenant_workers.items ∙ c.requires.seats.item_heads
 
 pub settle_free_queues-requires-clause-tails : goal.settle_free_queues-requires-clause-tails
 settle_free_queues-requires-clause-tails g c =
@@ -33,8 +33,8 @@ settle_free_queues-requires-clause-tails g c =
     sym (map_map (map seat_of) (λ row. row.items) tails)
     ∙ ap (map (map seat_of)) c.in_ok-record_heads.ensures.tails
     ∙ map_map (map seat_of) (λ end. end.tails.items) forwarders
-    ∙ c.requires.item_tails
-    ∙ ap (λ n. map (λ s. map (seat_in s) c.args.items.items) (range_with_len 0 n)) many
+    ∙ c.requires.seats.item_tails
+    ∙ ap (λ n. map (λ s. map (seat_in s) c.args.queues.items.items) (range_with_len 0 n)) many
 
 pub settle_groups-requires-clause-heads : goal.settle_groups-requires-clause-heads
 settle_groups-requires-clause-heads g c =
@@ -43,11 +43,33 @@ settle_groups-requires-clause-heads g c =
     ∙ ap (map (map (λ head. head.queue))) c.in_ok-trigger_heads.ensures.heads
     ∙ map_map (map (λ head. head.queue)) (λ list. map (λ end. end.head) list.items) lists
     ∙ map_same (λ list. map (λ head. head.queue) (map (λ end. end.head) list.items)) (λ list. map (λ end. end.head.queue) list.items) (λ list. map_map (λ head. head.queue) (λ end. end.head) list.items) lists
-    ∙ c.requires.trigger_heads
+    ∙ c.requires.seats.trigger_heads
 
 pub settle_groups-requires-clause-tails : goal.settle_groups-requires-clause-tails
 settle_groups-requires-clause-tails g c =
     sym (map_map (map seat_of) (λ row. row.items) c.in_ok-item_heads.trigger_tails.items)
     ∙ ap (map (map seat_of)) c.in_ok-item_heads.ensures.tails
     ∙ map_map (map seat_of) (λ end. end.tails.items) c.args.ends.tenant_workers.items
-    ∙ c.requires.trigger_tails
+    ∙ c.requires.seats.trigger_tails
+
+pub returns-clause-served : goal.returns-clause-served
+returns-clause-served g c = record {
+  feeds = search rules;
+  connections = search rules;
+  reports = search rules;
+  pipelines = search rules;
+  inbox = search rules;
+  cell = search rules;
+  knows = search rules;
+  still = search rules;
+  cells = search rules;
+  asked = search rules;
+  known = search rules;
+}
+
+pub returns-clause-settled : goal.returns-clause-settled
+returns-clause-settled g c = record {
+  records = search rules;
+  items = search rules;
+  triggers = search rules;
+}

@@ -8,7 +8,7 @@ use Rattle.gate_run_threads.proofs.Paired.{map_length}
 use Rattle.gate_run.proofs.Promised.{serves}
 use Rattle.gate_run_threads.proofs.Seated.{map_map}
 use Rattle.gate_run_threads.proofs.Turned.{map_same}
-use Rattle.gate_run.proofs.Whole.{evidence, item_heads, item_senders, item_tails, known, notes, record_heads, record_tails, trigger_heads, trigger_tails}
+use Rattle.gate_run.proofs.Whole.{are_notes, are_seats, evidence}
 use Rattle.gate_run.proofs.serving.serve_over.Goals as goal
 
 pub run_between-requires-clause-inbox : goal.run_between-requires-clause-inbox
@@ -20,38 +20,17 @@ run_between-requires-clause-inbox g c κs within =
     ∙ c.requires.inbox
 
 pub finish-requires-clause-notes : goal.finish-requires-clause-notes
-finish-requires-clause-notes g c = notes g.row.G.Denot c.args.gens.now g.F.RecordFeed.to_come g.F.RecordFeed.fault_count c.args.feeds.items (map (λ row. map inbox_of row.items) c.into_parts-tenants.result.0.items) c.into_parts-tenants.result.1 c.in_ok-queues.queues c.in_ok-queues.seats c.in_ok-ends.ends (subst (λ config. AreOpen config c.in_ok-queues.queues c.in_ok-queues.seats) c.first.ensures c.in_ok-queues.ensures.open) c.in_ok-ends.ensures
+finish-requires-clause-notes g c = are_notes g.row.G.Denot c.args.gens.now g.F.RecordFeed.to_come g.F.RecordFeed.fault_count c.args.feeds.items (map (λ row. map inbox_of row.items) c.into_parts-tenants.result.0.items) c.into_parts-tenants.result.1 c.in_ok-queues.queues c.in_ok-queues.seats c.in_ok-ends.ends (subst (λ config. AreOpen config c.in_ok-queues.queues c.in_ok-queues.seats) c.first.ensures c.in_ok-queues.ensures.open) c.in_ok-ends.ensures
 
-pub finish-requires-clause-known : goal.finish-requires-clause-known
-finish-requires-clause-known g c = known g.row.G.Denot c.args.gens.now g.F.RecordFeed.to_come g.F.RecordFeed.fault_count c.args.feeds.items (map (λ row. map inbox_of row.items) c.into_parts-tenants.result.0.items) c.into_parts-tenants.result.1 c.in_ok-queues.queues c.in_ok-queues.seats c.in_ok-ends.ends (subst (λ config. AreOpen config c.in_ok-queues.queues c.in_ok-queues.seats) c.first.ensures c.in_ok-queues.ensures.open) c.in_ok-ends.ensures
-
-pub finish-requires-clause-record_heads : goal.finish-requires-clause-record_heads
-finish-requires-clause-record_heads g c = record_heads g.row.G.Denot c.args.gens.now g.F.RecordFeed.to_come g.F.RecordFeed.fault_count c.args.feeds.items (map (λ row. map inbox_of row.items) c.into_parts-tenants.result.0.items) c.into_parts-tenants.result.1 c.in_ok-queues.queues c.in_ok-queues.seats c.in_ok-ends.ends (subst (λ config. AreOpen config c.in_ok-queues.queues c.in_ok-queues.seats) c.first.ensures c.in_ok-queues.ensures.open) c.in_ok-ends.ensures
-
-pub finish-requires-clause-record_tails : goal.finish-requires-clause-record_tails
-finish-requires-clause-record_tails g c = record_tails g.row.G.Denot c.args.gens.now g.F.RecordFeed.to_come g.F.RecordFeed.fault_count c.args.feeds.items (map (λ row. map inbox_of row.items) c.into_parts-tenants.result.0.items) c.into_parts-tenants.result.1 c.in_ok-queues.queues c.in_ok-queues.seats c.in_ok-ends.ends (subst (λ config. AreOpen config c.in_ok-queues.queues c.in_ok-queues.seats) c.first.ensures c.in_ok-queues.ensures.open) c.in_ok-ends.ensures
-
-pub finish-requires-clause-item_senders : goal.finish-requires-clause-item_senders
-finish-requires-clause-item_senders g c = item_senders g.row.G.Denot c.args.gens.now g.F.RecordFeed.to_come g.F.RecordFeed.fault_count c.args.feeds.items (map (λ row. map inbox_of row.items) c.into_parts-tenants.result.0.items) c.into_parts-tenants.result.1 c.in_ok-queues.queues c.in_ok-queues.seats c.in_ok-ends.ends (subst (λ config. AreOpen config c.in_ok-queues.queues c.in_ok-queues.seats) c.first.ensures c.in_ok-queues.ensures.open) c.in_ok-ends.ensures
-
-pub finish-requires-clause-item_heads : goal.finish-requires-clause-item_heads
-finish-requires-clause-item_heads g c = item_heads g.row.G.Denot c.args.gens.now g.F.RecordFeed.to_come g.F.RecordFeed.fault_count c.args.feeds.items (map (λ row. map inbox_of row.items) c.into_parts-tenants.result.0.items) c.into_parts-tenants.result.1 c.in_ok-queues.queues c.in_ok-queues.seats c.in_ok-ends.ends (subst (λ config. AreOpen config c.in_ok-queues.queues c.in_ok-queues.seats) c.first.ensures c.in_ok-queues.ensures.open) c.in_ok-ends.ensures
-
-pub finish-requires-clause-item_tails : goal.finish-requires-clause-item_tails
-finish-requires-clause-item_tails g c = item_tails g.row.G.Denot c.args.gens.now g.F.RecordFeed.to_come g.F.RecordFeed.fault_count c.args.feeds.items (map (λ row. map inbox_of row.items) c.into_parts-tenants.result.0.items) c.into_parts-tenants.result.1 c.in_ok-queues.queues c.in_ok-queues.seats c.in_ok-ends.ends (subst (λ config. AreOpen config c.in_ok-queues.queues c.in_ok-queues.seats) c.first.ensures c.in_ok-queues.ensures.open) c.in_ok-ends.ensures
-
-pub finish-requires-clause-trigger_heads : goal.finish-requires-clause-trigger_heads
-finish-requires-clause-trigger_heads g c = trigger_heads g.row.G.Denot c.args.gens.now g.F.RecordFeed.to_come g.F.RecordFeed.fault_count c.args.feeds.items (map (λ row. map inbox_of row.items) c.into_parts-tenants.result.0.items) c.into_parts-tenants.result.1 c.in_ok-queues.queues c.in_ok-queues.seats c.in_ok-ends.ends (subst (λ config. AreOpen config c.in_ok-queues.queues c.in_ok-queues.seats) c.first.ensures c.in_ok-queues.ensures.open) c.in_ok-ends.ensures
-
-pub finish-requires-clause-trigger_tails : goal.finish-requires-clause-trigger_tails
-finish-requires-clause-trigger_tails g c = trigger_tails g.row.G.Denot c.args.gens.now g.F.RecordFeed.to_come g.F.RecordFeed.fault_count c.args.feeds.items (map (λ row. map inbox_of row.items) c.into_parts-tenants.result.0.items) c.into_parts-tenants.result.1 c.in_ok-queues.queues c.in_ok-queues.seats c.in_ok-ends.ends (subst (λ config. AreOpen config c.in_ok-queues.queues c.in_ok-queues.seats) c.first.ensures c.in_ok-queues.ensures.open) c.in_ok-ends.ensures
+pub finish-requires-clause-seats : goal.finish-requires-clause-seats
+finish-requires-clause-seats g c = are_seats g.row.G.Denot c.args.gens.now g.F.RecordFeed.to_come g.F.RecordFeed.fault_count c.args.feeds.items (map (λ row. map inbox_of row.items) c.into_parts-tenants.result.0.items) c.into_parts-tenants.result.1 c.in_ok-queues.queues c.in_ok-queues.seats c.in_ok-ends.ends (subst (λ config. AreOpen config c.in_ok-queues.queues c.in_ok-queues.seats) c.first.ensures c.in_ok-queues.ensures.open) c.in_ok-ends.ensures
 
 pub returns : goal.returns
 returns g c =
     let served = c.in_ok-served.served in
-    let known_now = c.in_ok-served.ensures in
+    let known_now = c.in_ok-served.ensures.served in
     let lists = c.in_ok-ends.ends.workers.items in
-    serves (evidence g.row.G.Denot c.args.gens.now g.F.RecordFeed.to_come g.F.RecordFeed.fault_count c.args.feeds.items (map (λ row. map inbox_of row.items) c.into_parts-tenants.result.0.items) c.into_parts-tenants.result.1 c.in_ok-queues.queues c.in_ok-queues.seats c.in_ok-ends.ends (subst (λ config. AreOpen config c.in_ok-queues.queues c.in_ok-queues.seats) c.first.ensures c.in_ok-queues.ensures.open) c.in_ok-ends.ensures c.requires.feeds known_now.records known_now.items known_now.triggers)
+    serves (evidence g.row.G.Denot c.args.gens.now g.F.RecordFeed.to_come g.F.RecordFeed.fault_count c.args.feeds.items (map (λ row. map inbox_of row.items) c.into_parts-tenants.result.0.items) c.into_parts-tenants.result.1 c.in_ok-queues.queues c.in_ok-queues.seats c.in_ok-ends.ends (subst (λ config. AreOpen config c.in_ok-queues.queues c.in_ok-queues.seats) c.first.ensures c.in_ok-queues.ensures.open) c.in_ok-ends.ensures c.requires.feeds c.in_ok-served.ensures.settled)
     c.entries_have_generations.ensures c.records_have_generations.ensures c.what_was_taken_is_processed.ensures c.each_way_delivers.ensures served.feeds.items c.args.inbox served.inbox served.report (map (λ row. row.items) served.pipelines.items)
     (sym c.into_parts-tenants.ensures.pipelines)
     known_now.feeds known_now.connections
