@@ -3,6 +3,7 @@
 
 mod by_thread;
 mod gathering;
+mod lent;
 mod queues;
 mod running;
 mod seating;

@@ -11,13 +11,13 @@ ghost use Rattle.gate_run.specs.Inner.Works.{AreReady, HaveReturned, HaveRun};
 
 use crate::by_thread::ByThread;
 use crate::gathering::Ends;
-use crate::queues::{QueueSeats, Queues};
+use crate::lent::Lent;
+use crate::queues::QueueSeats;
 use crate::seating::{seat_forwarders, seat_readers, seat_tenant_workers, seat_workers};
-use gate_config::Generations;
 use gate_queue::{FreeHead, Head};
 use gate_record::{ConnEntry, PipelineItem, TenantItem};
 use gate_run_crossing::{config_crosses, generations_cross};
-use gate_run_posts::{Asked, PipelineInbox};
+use gate_run_posts::PipelineInbox;
 use gate_run_reader::{Reader, ReaderEnd};
 use gate_run_stages::{Forwarder, TenantWorker};
 use gate_run_threads::{
@@ -41,20 +41,16 @@ pub(crate) fn run_between<
     R: Threads + Wait + Clock + Sync,
 >(
     rt: &R,
-    alloc: Global,
-    gens: &'a Generations,
-    queues: &'a Queues,
+    lent: Lent<'a, G>,
     seats: QueueSeats,
     feeds: Vec<F>,
     inbox: Vec<Vec<PipelineInbox>>,
-    asked: &'a Asked,
-    gate: &'a G,
 ) -> Result<Ends<F>, RunFault>
-    requires seats { AreOpen gens.now.first queues.now seats }
-    requires feeds { length feeds.items ≡ length (connections_of gens.now.first) }
+    requires seats { AreOpen lent.gens.now.first lent.queues.now seats }
+    requires feeds { length feeds.items ≡ length (connections_of lent.gens.now.first) }
     requires few { All (λ feed. F.fault_count feed < 2 ^ 64 - 1) feeds.items }
-    requires inbox { map (λ row. length row.items) inbox.items ≡ pipeline_counts gens.now.first }
-    ensures { IfOk result (λ ends. HaveRun G gens.entry.now F.to_come F.fault_count feeds.items (map (λ row. map inbox_of row.items) inbox.items) (cells_of gens.entry.now asked.entry.now) queues.entry.now ends) }
+    requires inbox { map (λ row. length row.items) inbox.items ≡ pipeline_counts lent.gens.now.first }
+    ensures { IfOk result (λ ends. HaveRun G lent.entry.gens.now F.to_come F.fault_count feeds.items (map (λ row. map inbox_of row.items) inbox.items) (cells_of lent.entry.gens.now lent.entry.asked.now) lent.entry.queues.now ends) }
 {
     let QueueSeats {
         record_heads,
@@ -64,60 +60,30 @@ pub(crate) fn run_between<
         trigger_heads,
         trigger_tails,
     } = seats;
-    let config = gens.first();
     let mut signals = Signals {
         begun: AtomicBool::new(false),
         halted: AtomicBool::new(false),
-        readers: Vec::new(alloc),
-        forwarders: Vec::new(alloc),
-        tenant_workers: Vec::new(alloc),
-        workers: Vec::new(alloc),
+        readers: Vec::new(lent.alloc),
+        forwarders: Vec::new(lent.alloc),
+        tenant_workers: Vec::new(lent.alloc),
+        workers: Vec::new(lent.alloc),
     };
-    let readers = seat_readers(
-        alloc,
-        config,
-        feeds,
-        &queues.records,
-        record_tails,
-        asked.stop_cell(),
-        gens.count(),
-        asked.cells(),
-        &mut signals.readers,
-    )?;
-    let forwarders = seat_forwarders(
-        alloc,
-        gens,
-        &queues.records,
-        record_heads,
-        &queues.items,
-        item_tails,
-        &mut signals.forwarders,
-    )?;
+    let readers = seat_readers(&lent, feeds, record_tails, &mut signals.readers)?;
+    let forwarders = seat_forwarders(&lent, record_heads, item_tails, &mut signals.forwarders)?;
     let tenant_workers = seat_tenant_workers(
-        alloc,
-        gens,
-        &queues.items,
+        &lent,
         item_heads,
-        &queues.triggers,
         trigger_tails,
         &mut signals.tenant_workers,
     )?;
-    let workers = seat_workers(
-        alloc,
-        config,
-        &queues.triggers,
-        trigger_heads,
-        inbox,
-        gate,
-        &mut signals.workers,
-    )?;
+    let workers = seat_workers(&lent, trigger_heads, inbox, &mut signals.workers)?;
     let works = ByThread {
         readers,
         forwarders,
         tenant_workers,
         workers,
     };
-    run_works(rt, alloc, &signals, works)
+    run_works(rt, lent.alloc, &signals, works)
 }
 
 /// The works of a run's threads.

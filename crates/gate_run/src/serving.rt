@@ -7,6 +7,7 @@ ghost use Rattle.gate_run.specs.Inner.Finishing.{AreAllSeats, AreAllSettled, Are
 
 use crate::by_thread::ByThread;
 use crate::gathering::{Ends, Readings, Workings, gather_readers, gather_seats, gather_workers};
+use crate::lent::Lent;
 use crate::queues::{Queues, open_queues};
 use crate::running::run_between;
 use gate_config::Generations;
@@ -100,9 +101,14 @@ pub fn serve_over<
     what_was_taken_is_processed();
     let (tenants, asked) = inbox.into_parts();
     let (queues, seats) = open_queues(alloc, places, gens.first())?;
-    let ends = run_between(
-        rt, alloc, gens, &queues, seats, feeds, tenants, &asked, gate,
-    )?;
+    let lent = Lent {
+        alloc,
+        gens,
+        queues: &queues,
+        asked: &asked,
+        gate,
+    };
+    let ends = run_between(rt, lent, seats, feeds, tenants)?;
     let served = finish(rt, alloc, queues, ends, asked)?;
     Ok(served)
 }

@@ -5,8 +5,8 @@ use Rattle.gate_run.specs.Inner.Seatings.{IsForwarderOf}
 use Rattle.gate_run.proofs.seating.seat_forwarders.Given as goal
 
 abbrev pub invariant-loop-number : goal.invariant-loop-number
-invariant-loop-number l =
+invariant-loop-number g l =
     (length (vec_items l.forwarders) ≡ l.number)
     × (into_iter_items l.heads ≡ drop l.number l.fn.heads.items)
     × (into_iter_items l.tails ≡ drop l.number l.fn.tails.items)
-    × EachAt (IsForwarderOf l.gens l.sources l.targets) (vec_items l.forwarders)
+    × EachAt (IsForwarderOf l.lent.gens.now l.lent.queues.now.records.items l.lent.queues.now.items.items) (vec_items l.forwarders)

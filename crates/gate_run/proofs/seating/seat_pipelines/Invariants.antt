@@ -10,4 +10,4 @@ invariant-loop-number g l =
     (length (vec_items l.workers) ≡ l.number)
     × (into_iter_items l.heads ≡ drop l.number l.fn.heads.items)
     × (into_iter_items l.inbox ≡ drop l.number l.fn.inbox.items)
-    × EachAt (IsWorkerOf l.config l.tenant.0 l.sources (map inbox_of l.fn.inbox.items)) (vec_items l.workers)
+    × EachAt (IsWorkerOf l.lent.gens.now.first l.tenant.0 l.sources (map inbox_of l.fn.inbox.items)) (vec_items l.workers)

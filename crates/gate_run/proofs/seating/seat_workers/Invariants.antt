@@ -10,4 +10,4 @@ invariant-loop-number g l =
     (length (vec_items l.workers) ≡ l.number)
     × (into_iter_items l.heads ≡ drop l.number l.fn.heads.items)
     × (into_iter_items l.inbox ≡ drop l.number l.fn.inbox.items)
-    × EachAt (AreWorkersOf l.config (map (λ queues. queues.items) l.sources) (map (λ row. map inbox_of row.items) l.fn.inbox.items)) (map (λ row. row.items) (vec_items l.workers))
+    × EachAt (AreWorkersOf l.lent.gens.now.first (map (λ queues. queues.items) l.lent.queues.now.triggers.items) (map (λ row. map inbox_of row.items) l.fn.inbox.items)) (map (λ row. row.items) (vec_items l.workers))
