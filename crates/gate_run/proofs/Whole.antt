@@ -9,8 +9,6 @@ use Rattle.gate_config.specs.Lookups.{connections_of, pipelines_of, tenants_of}
 use Rattle.gate_source.specs.Stops.{IsNoteOf}
 use Rattle.gate_queue.specs.Seats.{Shape, TakerSeat}
 use Rattle.gate_run_threads.specs.declared.putting.PassedOn.{PassedOn}
-use Rattle.gate_run.specs.declared.queues.QueueSeats.{QueueSeats}
-use Rattle.gate_run.specs.declared.queues.Queues.{Queues}
 use Rattle.gate_run_reader.specs.declared.reader.Reader.{Reader}
 use Rattle.gate_source.specs.Feeds.{Told}
 use Rattle.gate_run_threads.specs.Lists.{Each}
@@ -18,7 +16,7 @@ use Rattle.gate_run_reader.specs.Asked.{AreKnown}
 use Rattle.gate_run_posts.specs.Asked.{AskedView}
 use Rattle.gate_run_posts.specs.Ports.{InboxEnds}
 use Rattle.gate_run.specs.Inner.Finishing.{AreAllSeats, AreAllSettled, AreNotesFor}
-use Rattle.gate_run.specs.Inner.Queues.{AreOpen}
+use Rattle.gate_run.specs.Inner.Queues.{AreOpen, Heads, Queues, Tails}
 use Rattle.gate_run_reader.specs.Readers.{notes_of}
 use Rattle.gate_run.specs.Inner.Seatings.{IsReaderOf, cells_of}
 use Rattle.gate_run_threads.specs.Seats.{seat_in, seat_of}
@@ -39,7 +37,7 @@ pub if_ok_all : {T E : Type 0} {A B C D Z : T → Type 0} (r : Result T E) → (
 if_ok_all (Ok x) f a b c d = f x a b c d
 if_ok_all (Err e) f a b c d = a
 
-module _ {F : Type 0} (G : Type 0) (gens : Generations) (to_come : F → Told) (faults : F → ℕ) (feeds : List F) (inbox : List (List InboxEnds)) (asked : AskedView) (queues : Queues) (seats : QueueSeats) (ends : Ends F) (O : AreOpen gens.first queues seats) (H : HaveRun G gens to_come faults feeds inbox (cells_of gens asked) queues ends) where
+module _ {F : Type 0} (G : Type 0) (gens : Generations) (to_come : F → Told) (faults : F → ℕ) (feeds : List F) (inbox : List (List InboxEnds)) (asked : AskedView) (queues : Queues) (heads : Heads) (tails : Tails) (ends : Ends F) (O : AreOpen gens.first queues heads tails) (H : HaveRun G gens to_come faults feeds inbox (cells_of gens asked) queues ends) where
   abbrev pub groups : List (List Shape)
   groups = map (λ group. group.items) queues.triggers.items
 

@@ -1,6 +1,6 @@
 //! What the threads of a run are lent.
 
-use crate::queues::Queues;
+use crate::by_queue::Queues;
 use gate_config::Generations;
 use gate_run_posts::Asked;
 use std::alloc::Global;

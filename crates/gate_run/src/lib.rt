@@ -1,6 +1,7 @@
 //! A whole run of `serve`: its queues are opened, all of its threads run and are waited for, and their results are put together.
 #![tactic(auto)]
 
+mod by_queue;
 mod by_thread;
 mod gathering;
 mod lent;

@@ -9,10 +9,10 @@ ghost use Rattle.gate_run.specs.Inner.Queues.{AreOpen};
 ghost use Rattle.gate_run.specs.Inner.Seatings.{cells_of};
 ghost use Rattle.gate_run.specs.Inner.Works.{AreReady, HaveReturned, HaveRun};
 
+use crate::by_queue::{ByQueue, Heads, Tails};
 use crate::by_thread::ByThread;
 use crate::gathering::Ends;
 use crate::lent::Lent;
-use crate::queues::QueueSeats;
 use crate::seating::{seat_forwarders, seat_readers, seat_tenant_workers, seat_workers};
 use gate_queue::{FreeHead, Head};
 use gate_record::{ConnEntry, PipelineItem, TenantItem};
@@ -42,24 +42,27 @@ pub(crate) fn run_between<
 >(
     rt: &R,
     lent: Lent<'a, G>,
-    seats: QueueSeats,
+    seats: (Heads, Tails),
     feeds: Vec<F>,
     inbox: Vec<Vec<PipelineInbox>>,
 ) -> Result<Ends<F>, RunFault>
-    requires seats { AreOpen lent.gens.now.first lent.queues.now seats }
+    requires seats { AreOpen lent.gens.now.first lent.queues.now seats.0 seats.1 }
     requires feeds { length feeds.items ≡ length (connections_of lent.gens.now.first) }
     requires few { All (λ feed. F.fault_count feed < 2 ^ 64 - 1) feeds.items }
     requires inbox { map (λ row. length row.items) inbox.items ≡ pipeline_counts lent.gens.now.first }
     ensures { IfOk result (λ ends. HaveRun G lent.entry.gens.now F.to_come F.fault_count feeds.items (map (λ row. map inbox_of row.items) inbox.items) (cells_of lent.entry.gens.now lent.entry.asked.now) lent.entry.queues.now ends) }
 {
-    let QueueSeats {
-        record_heads,
-        record_tails,
-        item_heads,
-        item_tails,
-        trigger_heads,
-        trigger_tails,
-    } = seats;
+    let (heads, tails) = seats;
+    let ByQueue {
+        records: record_heads,
+        items: item_heads,
+        triggers: trigger_heads,
+    } = heads;
+    let ByQueue {
+        records: record_tails,
+        items: item_tails,
+        triggers: trigger_tails,
+    } = tails;
     let mut signals = Signals {
         begun: AtomicBool::new(false),
         halted: AtomicBool::new(false),

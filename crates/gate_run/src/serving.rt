@@ -5,10 +5,11 @@ ghost use Rattle.gate_run_posts.specs.Ports.{IsInboxFor};
 ghost use Rattle.gate_run.specs.Serving.{Serves};
 ghost use Rattle.gate_run.specs.Inner.Finishing.{AreAllSeats, AreAllSettled, AreNotesFor, IsServed};
 
+use crate::by_queue::{ByQueue, Queues};
 use crate::by_thread::ByThread;
 use crate::gathering::{Ends, Readings, Workings, gather_readers, gather_seats, gather_workers};
 use crate::lent::Lent;
-use crate::queues::{Queues, open_queues};
+use crate::queues::open_queues;
 use crate::running::run_between;
 use gate_config::Generations;
 use gate_delivery::each_way_delivers;
@@ -126,7 +127,7 @@ pub(crate) fn finish<F: Drop, R: Wait>(
     ensures served { IfOk result (λ served. IsServed ends asked served) }
     ensures settled { IfOk result (λ served. AreAllSettled queues ends) }
 {
-    let Queues {
+    let ByQueue {
         records,
         items,
         triggers,

@@ -10,7 +10,7 @@ use Rattle.gate_run_reader.specs.declared.reader.ReaderEnd.{ReaderEnd}
 use Rattle.gate_run_reader.specs.Asked.{AreKnown}
 use Rattle.gate_run_reader.specs.Readers.{notes_of}
 use Rattle.gate_run_posts.specs.Asked.{AskedView, KnowsStill, knows_as_much}
-use Rattle.gate_run.specs.declared.queues.Queues.{Queues}
+use Rattle.gate_run.specs.Inner.Queues.{Queues}
 use Rattle.gate_run.specs.declared.serving.Served.{Served}
 use Rattle.gate_run.specs.Inner.Gatherings.{inbox_back, most_asked, report_of_reader}
 use Rattle.gate_run.specs.Inner.Works.{Ends}

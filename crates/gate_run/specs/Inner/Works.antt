@@ -10,7 +10,7 @@ use Rattle.gate_run_stages.specs.declared.tenant_worker.TenantWorker.{TenantWork
 use Rattle.gate_run_stages.specs.declared.forwarder.Forwarder.{Forwarder}
 use Rattle.gate_run.specs.declared.by_thread.ByThread.{ByThread}
 use Rattle.gate_run_threads.specs.declared.putting.PassedOn.{PassedOn}
-use Rattle.gate_run.specs.declared.queues.Queues.{Queues}
+use Rattle.gate_run.specs.Inner.Queues.{Queues}
 use Rattle.gate_run_reader.specs.declared.reader.Reader.{Reader}
 use Rattle.gate_run_reader.specs.declared.reader.ReaderEnd.{ReaderEnd}
 use Rattle.gate_run_worker.specs.declared.worker.PipelineWorker.{PipelineWorker}

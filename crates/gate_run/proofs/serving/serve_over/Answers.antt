@@ -20,17 +20,17 @@ run_between-requires-clause-inbox g c κs within =
     ∙ c.requires.inbox
 
 pub finish-requires-clause-notes : goal.finish-requires-clause-notes
-finish-requires-clause-notes g c = are_notes g.row.G.Denot c.args.gens.now g.F.RecordFeed.to_come g.F.RecordFeed.fault_count c.args.feeds.items (map (λ row. map inbox_of row.items) c.into_parts-tenants.result.0.items) c.into_parts-tenants.result.1 c.in_ok-queues.queues c.in_ok-queues.seats c.in_ok-ends.ends (subst (λ config. AreOpen config c.in_ok-queues.queues c.in_ok-queues.seats) c.first.ensures c.in_ok-queues.ensures.open) c.in_ok-ends.ensures
+finish-requires-clause-notes g c = are_notes g.row.G.Denot c.args.gens.now g.F.RecordFeed.to_come g.F.RecordFeed.fault_count c.args.feeds.items (map (λ row. map inbox_of row.items) c.into_parts-tenants.result.0.items) c.into_parts-tenants.result.1 c.in_ok-queues.queues c.in_ok-queues.seats.0 c.in_ok-queues.seats.1 c.in_ok-ends.ends (subst (λ config. AreOpen config c.in_ok-queues.queues c.in_ok-queues.seats.0 c.in_ok-queues.seats.1) c.first.ensures c.in_ok-queues.ensures.open) c.in_ok-ends.ensures
 
 pub finish-requires-clause-seats : goal.finish-requires-clause-seats
-finish-requires-clause-seats g c = are_seats g.row.G.Denot c.args.gens.now g.F.RecordFeed.to_come g.F.RecordFeed.fault_count c.args.feeds.items (map (λ row. map inbox_of row.items) c.into_parts-tenants.result.0.items) c.into_parts-tenants.result.1 c.in_ok-queues.queues c.in_ok-queues.seats c.in_ok-ends.ends (subst (λ config. AreOpen config c.in_ok-queues.queues c.in_ok-queues.seats) c.first.ensures c.in_ok-queues.ensures.open) c.in_ok-ends.ensures
+finish-requires-clause-seats g c = are_seats g.row.G.Denot c.args.gens.now g.F.RecordFeed.to_come g.F.RecordFeed.fault_count c.args.feeds.items (map (λ row. map inbox_of row.items) c.into_parts-tenants.result.0.items) c.into_parts-tenants.result.1 c.in_ok-queues.queues c.in_ok-queues.seats.0 c.in_ok-queues.seats.1 c.in_ok-ends.ends (subst (λ config. AreOpen config c.in_ok-queues.queues c.in_ok-queues.seats.0 c.in_ok-queues.seats.1) c.first.ensures c.in_ok-queues.ensures.open) c.in_ok-ends.ensures
 
 pub returns : goal.returns
 returns g c =
     let served = c.in_ok-served.served in
     let known_now = c.in_ok-served.ensures.served in
     let lists = c.in_ok-ends.ends.workers.items in
-    serves (evidence g.row.G.Denot c.args.gens.now g.F.RecordFeed.to_come g.F.RecordFeed.fault_count c.args.feeds.items (map (λ row. map inbox_of row.items) c.into_parts-tenants.result.0.items) c.into_parts-tenants.result.1 c.in_ok-queues.queues c.in_ok-queues.seats c.in_ok-ends.ends (subst (λ config. AreOpen config c.in_ok-queues.queues c.in_ok-queues.seats) c.first.ensures c.in_ok-queues.ensures.open) c.in_ok-ends.ensures c.requires.feeds c.in_ok-served.ensures.settled)
+    serves (evidence g.row.G.Denot c.args.gens.now g.F.RecordFeed.to_come g.F.RecordFeed.fault_count c.args.feeds.items (map (λ row. map inbox_of row.items) c.into_parts-tenants.result.0.items) c.into_parts-tenants.result.1 c.in_ok-queues.queues c.in_ok-queues.seats.0 c.in_ok-queues.seats.1 c.in_ok-ends.ends (subst (λ config. AreOpen config c.in_ok-queues.queues c.in_ok-queues.seats.0 c.in_ok-queues.seats.1) c.first.ensures c.in_ok-queues.ensures.open) c.in_ok-ends.ensures c.requires.feeds c.in_ok-served.ensures.settled)
     c.entries_have_generations.ensures c.records_have_generations.ensures c.what_was_taken_is_processed.ensures c.each_way_delivers.ensures served.feeds.items c.args.inbox served.inbox served.report (map (λ row. row.items) served.pipelines.items)
     (sym c.into_parts-tenants.ensures.pipelines)
     known_now.feeds known_now.connections
@@ -45,4 +45,4 @@ returns g c =
     (subst (λ note. KnowsStill note served.inbox.note) c.into_parts-tenants.ensures.note known_now.still)
 
 pub run_between-requires-clause-seats : goal.run_between-requires-clause-seats
-run_between-requires-clause-seats g c κs within = subst (λ config. AreOpen config c.in_ok-queues.queues c.in_ok-queues.seats) c.first.ensures c.in_ok-queues.ensures.open
+run_between-requires-clause-seats g c κs within = subst (λ config. AreOpen config c.in_ok-queues.queues c.in_ok-queues.seats.0 c.in_ok-queues.seats.1) c.first.ensures c.in_ok-queues.ensures.open
