@@ -106,16 +106,18 @@ fn run_works<'a, F: RecordFeed + Drop + Send, G: Gate + Sync, R: Threads + Wait 
     signals: &Signals,
     works: Works<'a, F, G>,
 ) -> Result<Ends<F>, RunFault>
-    requires { AreReady F.fault_count works }
-    ensures { IfOk result (λ ends. HaveReturned F.to_come F.fault_count works.entry ends) }
+    requires { AreReady G F.fault_count works }
+    ensures { IfOk result (λ ends. HaveReturned G F.to_come F.fault_count works.entry ends) }
 {
     thread::scope(
         thread::scope_env(),
         rt,
         move |scope| -> Result<Ends<F>, RunFault>
-            requires { AreReady F.fault_count works }
-            ensures { IfOk result (λ ends. HaveReturned F.to_come F.fault_count works.entry ends) }
+            requires { AreReady G F.fault_count works }
+            ensures { IfOk result (λ ends. HaveReturned G F.to_come F.fault_count works.entry ends) }
         {
+            // The closure takes the struct as a whole, so that its clauses see a `ByThread` and not four lists.
+            let works = works;
             config_crosses();
             generations_cross();
             is_shared::<G>();

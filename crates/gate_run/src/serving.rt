@@ -7,7 +7,7 @@ ghost use Rattle.gate_run.specs.Inner.Finishing.{AreAllSeats, AreAllSettled, Are
 
 use crate::by_queue::{ByQueue, Queues};
 use crate::by_thread::ByThread;
-use crate::gathering::{Ends, Readings, Workings, gather_readers, gather_seats, gather_workers};
+use crate::gathering::{Ends, Gathered, gather_readers, gather_seats, gather_workers};
 use crate::lent::Lent;
 use crate::queues::open_queues;
 use crate::running::run_between;
@@ -138,19 +138,19 @@ pub(crate) fn finish<F: Drop, R: Wait>(
         tenant_workers,
         workers,
     } = ends;
-    let Readings {
-        feeds,
-        tails: record_tails,
-        connections,
-        asked,
+    let Gathered {
+        served: feeds,
+        seats: record_tails,
+        reports: connections,
+        inbox: asked,
     } = gather_readers(alloc, readers, asked)?;
     let (record_heads, item_tails) = gather_seats(alloc, forwarders)?;
     let (item_heads, trigger_tails) = gather_seats(alloc, tenant_workers)?;
-    let Workings {
-        heads: trigger_heads,
-        pipelines,
-        inbox,
+    let Gathered {
+        served: pipelines,
+        seats: trigger_heads,
         reports,
+        inbox,
     } = gather_workers(alloc, workers)?;
     settle_bounded_queues(rt, alloc, records, record_heads, record_tails)?;
     settle_free_queues(rt, alloc, items, item_heads, item_tails)?;

@@ -57,14 +57,14 @@ abbrev pub Ends : Type 0 → Type 0
 Ends F = ByThread (ReaderEnd F) (PassedOn (TakerSeat ConnEntry) TenantItem) (PassedOn (TakerSeat TenantItem) PipelineItem) WorkerEnd
 
 -- each of these works may begin
-pub record AreReady {F G : Type 0} (faults : F → ℕ) (works : Works F G) : Type 0 where
+pub record AreReady {F : Type 0} (G : Type 0) (faults : F → ℕ) (works : Works F G) : Type 0 where
   pub readers : All (ReadyToRead faults) works.readers.items
   pub forwarders : All ReadyToForward works.forwarders.items
   pub tenant_workers : All ReadyToDispatch works.tenant_workers.items
   pub workers : All (λ list. All ReadyToWork list.items) works.workers.items
 
 -- each of these works is done, and its thread handed back what stands at its place
-pub record HaveReturned {F G : Type 0} (to_come : F → Told) (faults : F → ℕ) (works : Works F G) (ends : Ends F) : Type 0 where
+pub record HaveReturned {F : Type 0} (G : Type 0) (to_come : F → Told) (faults : F → ℕ) (works : Works F G) (ends : Ends F) : Type 0 where
   pub readers : Pairwise (Read to_come faults) works.readers.items ends.readers.items
   pub forwarders : Pairwise Forwarded works.forwarders.items ends.forwarders.items
   pub tenant_workers : Pairwise Dispatched works.tenant_workers.items ends.tenant_workers.items

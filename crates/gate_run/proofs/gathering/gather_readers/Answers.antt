@@ -9,14 +9,14 @@ pub loop-end-preserved : goal.loop-end-preserved
 loop-end-preserved g c =
     let before = c.loop-end.invariant in
     let next = c.in-Some.ensures.steps.0 in (
-      moved_on (λ end. end.feed) _ _ c.in-Some.end _ _ _ before.0 next c.in_ok-add.ensures.feeds,
-      moved_on (λ end. end.tail) _ _ c.in-Some.end _ _ _ before.1 next c.in_ok-add.ensures.tails,
-      moved_on report_of_reader _ _ c.in-Some.end _ _ _ before.2 next c.in_ok-add.ensures.connections,
+      moved_on (λ end. end.feed) _ _ c.in-Some.end _ _ _ before.0 next c.in_ok-add_reader.ensures.feeds,
+      moved_on (λ end. end.tail) _ _ c.in-Some.end _ _ _ before.1 next c.in_ok-add_reader.ensures.tails,
+      moved_on report_of_reader _ _ c.in-Some.end _ _ _ before.2 next c.in_ok-add_reader.ensures.connections,
       search rules,
       search rules,
-      (λ note more rest. before.5 note (λ known. more (c.in_ok-add.ensures.knew known)) (subst (Each (λ end. knows_as_much end.note note)) (sym next) ((λ known. more (c.in_ok-add.ensures.knows known)), rest))),
+      (λ note more rest. before.5 note (λ known. more (c.in_ok-add_reader.ensures.knew known)) (subst (Each (λ end. knows_as_much end.note note)) (sym next) ((λ known. more (c.in_ok-add_reader.ensures.knows known)), rest))),
       search rules,
       search rules,
       search rules,
-      (λ known. c.in_ok-add.ensures.still (ap is_some (before.9 known) ∙ known) ∙ before.9 known),
+      (λ known. c.in_ok-add_reader.ensures.still (ap is_some (before.9 known) ∙ known) ∙ before.9 known),
     )

@@ -15,13 +15,13 @@ abbrev pub invariant-loop-end : goal.invariant-loop-end
 invariant-loop-end g l =
     let rest = into_iter_items l.end-iterator in
     let all = l.fn.ends.items in
-    (vec_items l.back.feeds ++ map (λ end. end.feed) rest ≡ map (λ end. end.feed) all)
-    × (vec_items l.back.tails ++ map (λ end. end.tail) rest ≡ map (λ end. end.tail) all)
-    × (l.back.connections ++ map report_of_reader rest ≡ map report_of_reader all)
-    × IsNoteOf l.fn.asked.note.cell l.back.asked.note
+    (vec_items l.back.served ++ map (λ end. end.feed) rest ≡ map (λ end. end.feed) all)
+    × (vec_items l.back.seats ++ map (λ end. end.tail) rest ≡ map (λ end. end.tail) all)
+    × (l.back.reports ++ map report_of_reader rest ≡ map report_of_reader all)
+    × IsNoteOf l.fn.asked.note.cell l.back.inbox.note
     × Each (λ end. IsNoteOf l.fn.asked.note.cell end.note) rest
-    × ((note : Note) → knows_as_much l.back.asked.note note → Each (λ end. knows_as_much end.note note) rest → Each (λ end. knows_as_much end.note note) all)
-    × (l.back.asked.cells ≡ l.fn.asked.cells)
+    × ((note : Note) → knows_as_much l.back.inbox.note note → Each (λ end. knows_as_much end.note note) rest → Each (λ end. knows_as_much end.note note) all)
+    × (l.back.inbox.cells ≡ l.fn.asked.cells)
     × Each (λ end. AreKnown l.fn.asked.cells (notes_of end.renewals.items)) rest
-    × (most_asked l.back.asked.asked rest ≡ most_asked l.fn.asked.asked all)
-    × KnowsStill l.fn.asked.note l.back.asked.note
+    × (most_asked l.back.inbox.asked rest ≡ most_asked l.fn.asked.asked all)
+    × KnowsStill l.fn.asked.note l.back.inbox.note

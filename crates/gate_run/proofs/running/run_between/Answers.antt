@@ -9,8 +9,8 @@ use Rattle.gate_run.proofs.Returning.{all_ready}
 use Rattle.gate_run.proofs.Whole.{if_ok}
 use Rattle.gate_run.proofs.running.run_between.Goals as goal
 
-pub run_works-requires : goal.run_works-requires
-run_works-requires g c κs within =
+pub run_works-requires-after_bounds : goal.run_works-requires-after_bounds
+run_works-requires-after_bounds g c κs within =
     let gens = c.args.lent.gens.now in
     let queues = c.args.lent.queues.now in
     let faults = g.F.RecordFeed.fault_count in

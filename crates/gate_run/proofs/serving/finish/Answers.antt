@@ -1,5 +1,8 @@
-use Rattle.std.proofs.Common.{rules, ◌≡◌, ◌∙◌, sym, ap, length, map}
+use Rattle.std.proofs.Common.{rules, ◌≡◌, ◌∙◌, sym, ap, subst, length, map}
 use Rattle.std.specs.List.{range_with_len}
+use Rattle.gate_source.specs.Stops.{Note}
+use Rattle.gate_run_posts.specs.Asked.{knows_as_much}
+use Rattle.gate_run_threads.specs.Lists.{Each}
 use Rattle.gate_run_threads.specs.Seats.{seat_in, seat_of}
 use Rattle.gate_run_threads.proofs.Seated.{map_map}
 use Rattle.gate_run.proofs.Seatings.{as_many_of}
@@ -39,8 +42,8 @@ settle_free_queues-requires-clause-tails g c =
 pub settle_groups-requires-clause-heads : goal.settle_groups-requires-clause-heads
 settle_groups-requires-clause-heads g c =
     let lists = c.args.ends.workers.items in
-    sym (map_map (map (λ head. head.queue)) (λ row. row.items) c.in_ok-trigger_heads.field-0.heads.items)
-    ∙ ap (map (map (λ head. head.queue))) c.in_ok-trigger_heads.ensures.heads
+    sym (map_map (map (λ head. head.queue)) (λ row. row.items) c.in_ok-pipelines.field-0.seats.items)
+    ∙ ap (map (map (λ head. head.queue))) c.in_ok-pipelines.ensures.heads
     ∙ map_map (map (λ head. head.queue)) (λ list. map (λ end. end.head) list.items) lists
     ∙ map_same (λ list. map (λ head. head.queue) (map (λ end. end.head) list.items)) (λ list. map (λ end. end.head.queue) list.items) (λ list. map_map (λ head. head.queue) (λ end. end.head) list.items) lists
     ∙ c.requires.seats.trigger_heads
@@ -60,7 +63,7 @@ returns-clause-served g c = record {
   pipelines = search rules;
   inbox = search rules;
   cell = search rules;
-  knows = search rules;
+  knows = subst (λ (note : Note). Each (λ end. knows_as_much end.note note) c.args.ends.readers.items) (sym c.from_parts.ensures.note) c.in_ok-feeds.ensures.knows;
   still = search rules;
   cells = search rules;
   asked = search rules;
