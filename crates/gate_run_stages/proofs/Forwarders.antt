@@ -4,7 +4,6 @@ use Rattle.std.specs.List.{cons_option, filter_map}
 use Rattle.std.specs.Option.{option_to_list}
 use Rattle.std.proofs.lemmas.List.Elements.{filter_map-append}
 use Rattle.gate_record.specs.declared.ids.TenantId.{TenantId}
-use Rattle.gate_record.specs.declared.record.Record.{Record}
 use Rattle.gate_record.specs.declared.transit.ConnEntry.{ConnEntry}
 use Rattle.gate_record.specs.declared.transit.ConnEntry.TheVariants as entry
 use Rattle.gate_record.specs.declared.transit.TenantItem.{TenantItem}
@@ -16,13 +15,13 @@ use Rattle.gate_config.specs.declared.generations.Generations.{Generations}
 use Rattle.gate_config.specs.Generations.{count_of}
 use Rattle.gate_config.specs.Lookups.{tenants_of}
 use Rattle.gate_forward.specs.declared.forward.Forward.{Forward}
-use Rattle.gate_forward.specs.Forwarding.{forwarded, forwarded_at, sends, tenant_id}
-use Rattle.gate_forward.specs.Histories.{EachTenantGetsItsOwn, beginning, begins, comes_back, ends, is_sent, item_to, items_to, loads, moves, renews}
-use Rattle.gate_forward.specs.States.{State, conn_of, first_state, gens_of, state_of, with_items}
+use Rattle.gate_forward.specs.Forwarding.{forwarded, forwarded_at, tenant_id}
+use Rattle.gate_forward.specs.Histories.{EachTenantGetsItsOwn, Happens, beginning, begins, comes_back, ends, is_sent, item_to, items_to, loads, moves, renews}
+use Rattle.gate_forward.specs.States.{State, conn_of, first_state, gens_of, state_of}
 use Rattle.gate_queue.specs.declared.tagged.Tagged.{Tagged}
 use Rattle.gate_queue.specs.Seats.{IsHeadOf, SenderSeat, Shape, TakerSeat}
 use Rattle.gate_run_stages.specs.Forwarders.{HasForwarded, PutInOrder}
-use Rattle.gate_run_stages.specs.Inner.Forwarders.{HasOut, HasSent}
+use Rattle.gate_run_stages.specs.Inner.Forwarders.{HasGeneration, HasOut, HasSent, after}
 use Rattle.gate_run_stages.specs.Inner.Stages.{ArePut, with_sent}
 use Rattle.gate_run_threads.specs.Seats.{fresh_head, fresh_tail, values, seat_in, seat_of}
 use Rattle.gate_run_threads.proofs.Seated.{fresh_put, fresh_seats, taken_more}
@@ -82,50 +81,26 @@ module _ {gens : Generations} {c : ℕ} {forward : Forward} {kept : Option ConnE
       none_left : was.past.state.outbox.items ≡ []
       none_left = ap (λ (s : State). s.outbox.items) was.now ∙ empty
 
-      all_loaded : (e : ConnEntry) → x.value ≡ e → (was.past.loaded ++ e ∷ []) ++ option_to_list kept ≡ values head'.taken
-      all_loaded e is = ap (λ (o : Option ConnEntry). (was.past.loaded ++ e ∷ []) ++ option_to_list o) free ∙ append-nil (was.past.loaded ++ e ∷ []) ∙ taken_more was.past.loaded kept head.taken head'.taken x e was.loaded free is more
-
-      -- a record was taken and loaded
-      pub loaded_one : (n : ℕ) (line : Record) → state_of forward' ≡ with_items (sends (gens_of forward) (conn_of forward) (state_of forward).generation (entry.Numbered n line)) (state_of forward) → x.value ≡ entry.Numbered n line →
-          HasSent gens c forward' kept head' sent
-      loaded_one n line state is = record {
+      -- the history after an entry was taken and loaded
+      with_loaded : (e : ConnEntry) → x.value ≡ e → state_of forward' ≡ after (gens_of forward) (conn_of forward) e (state_of forward) →
+          Happens gens c (record was.past { state = after gens c e was.past.state; loaded = was.past.loaded ++ e ∷ [] }) → HasSent gens c forward' kept head' sent
+      with_loaded e is state happens = record {
         by_gens = conf ∙ was.by_gens;
         of_conn = conn ∙ was.of_conn;
-        past = record was.past { state = with_items (sends gens c was.past.state.generation (entry.Numbered n line)) was.past.state; loaded = was.past.loaded ++ entry.Numbered n line ∷ [] };
-        happens = loads n line was.happens none_left was.none_out;
-        now = (λ i. with_items (sends (sym was.by_gens i) (sym was.of_conn i) (was.now i).generation (entry.Numbered n line)) (was.now i)) ∙ sym state;
+        past = record was.past { state = after gens c e was.past.state; loaded = was.past.loaded ++ e ∷ [] };
+        happens = happens;
+        now = (λ i. after (sym was.by_gens i) (sym was.of_conn i) e (was.now i)) ∙ sym state;
         none_out = was.none_out;
-        loaded = all_loaded (entry.Numbered n line) is;
+        loaded = ap (λ (o : Option ConnEntry). (was.past.loaded ++ e ∷ []) ++ option_to_list o) free ∙ append-nil (was.past.loaded ++ e ∷ []) ∙ taken_more was.past.loaded kept head.taken head'.taken x e was.loaded free is more;
         to_each = was.to_each;
       }
 
-      -- the end mark was taken and loaded
-      pub loaded_end : x.value ≡ entry.End → state_of forward' ≡ record (with_items (sends (gens_of forward) (conn_of forward) (state_of forward).generation entry.End) (state_of forward)) { marked = true } →
-          HasSent gens c forward' kept head' sent
-      loaded_end is state = record {
-        by_gens = conf ∙ was.by_gens;
-        of_conn = conn ∙ was.of_conn;
-        past = record was.past { state = record (with_items (sends gens c was.past.state.generation entry.End) was.past.state) { marked = true }; loaded = was.past.loaded ++ entry.End ∷ [] };
-        happens = ends was.happens none_left was.none_out;
-        now = (λ i. record (with_items (sends (sym was.by_gens i) (sym was.of_conn i) (was.now i).generation entry.End) (was.now i)) { marked = true }) ∙ sym state;
-        none_out = was.none_out;
-        loaded = all_loaded entry.End is;
-        to_each = was.to_each;
-      }
-
-      -- the mark of a renewal was taken and loaded
-      pub loaded_renew : x.value ≡ entry.Renew → state_of forward' ≡ record (state_of forward) { generation = suc (state_of forward).generation } → suc (state_of forward).generation < count_of (gens_of forward) →
-          HasSent gens c forward' kept head' sent
-      loaded_renew is state later = record {
-        by_gens = conf ∙ was.by_gens;
-        of_conn = conn ∙ was.of_conn;
-        past = record was.past { state = record was.past.state { generation = suc was.past.state.generation }; loaded = was.past.loaded ++ entry.Renew ∷ [] };
-        happens = renews was.happens none_left was.none_out (subst (λ (s : State). suc s.generation < count_of gens) (sym was.now) (subst (λ of. suc (state_of forward).generation < count_of of) was.by_gens later));
-        now = ap (λ (s : State). record s { generation = suc s.generation }) was.now ∙ sym state;
-        none_out = was.none_out;
-        loaded = all_loaded entry.Renew is;
-        to_each = was.to_each;
-      }
+      -- an entry was taken and loaded
+      pub loaded_one : (e : ConnEntry) → x.value ≡ e → state_of forward' ≡ after (gens_of forward) (conn_of forward) e (state_of forward) → HasGeneration (gens_of forward) e (state_of forward) → HasSent gens c forward' kept head' sent
+      loaded_one (entry.Numbered n line) is state later = with_loaded (entry.Numbered n line) is state (loads n line was.happens none_left was.none_out)
+      loaded_one entry.End is state later = with_loaded entry.End is state (ends was.happens none_left was.none_out)
+      loaded_one entry.Renew is state later =
+          with_loaded entry.Renew is state (renews was.happens none_left was.none_out (subst (λ (s : State). suc s.generation < count_of gens) (sym was.now) (subst (λ of. suc (state_of forward).generation < count_of of) was.by_gens later)))
 
 to_one : (t u : ℕ) (item : TenantItem) → items_to t ((tenant_id u, item) ∷ []) ≡ (if u == t then item ∷ [] else [])
 to_one t u item = by (u == t) refl

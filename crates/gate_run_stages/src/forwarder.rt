@@ -1,10 +1,10 @@
 //! A connection's forwarder: the stage that takes the entries of its connection's queue one by one, and sends each event to the tenants that
 //! list its project.
-ghost use Rattle.std.specs.Prelude.{◌≡◌, ℕ, [], List, None, is_some, map, true};
+ghost use Rattle.std.specs.Prelude.{◌≡◌, ℕ, [], IfErr, List, None, OnErr, OnOk, is_some, map, true};
 ghost use Rattle.gate_forward.specs.States.{conn_of, gens_of, state_of};
 ghost use Rattle.gate_queue.specs.Seats.{IsHeadOf};
 ghost use Rattle.gate_run_stages.specs.Forwarders.{HasForwarded};
-ghost use Rattle.gate_run_stages.specs.Inner.Forwarders.{IsForwarding, IsForwardingOut};
+ghost use Rattle.gate_run_stages.specs.Inner.Forwarders.{HasGeneration, IsForwarding, IsForwardingOut, after};
 ghost use Rattle.gate_run_threads.specs.Steps.{GoesOn};
 
 use crate::stage::{Running, Stage, run};
@@ -132,32 +132,46 @@ impl<'c> Stage<TenantItem> for Forwarding<'c> {
             return StepOutcome::Pending;
         };
         self.wake_ups.took(signals);
-        match taken.value {
-            ConnEntry::Numbered(number, line) => match self.forward.load(alloc, number, line) {
-                Ok(()) => StepOutcome::Ready,
-                Err(refused) => {
-                    self.kept = Some(ConnEntry::Numbered(number, refused.value));
-                    signals.halt();
-                    StepOutcome::Done
-                }
-            },
-            ConnEntry::Renew => match self.forward.load_renew() {
-                Ok(()) => StepOutcome::Ready,
-                Err(Last) => {
-                    self.kept = Some(ConnEntry::Renew);
-                    signals.halt();
-                    StepOutcome::Done
-                }
-            },
-            ConnEntry::End => {
-                self.forward.load_end();
-                StepOutcome::Ready
+        match load(&mut self.forward, alloc, taken.value) {
+            Ok(()) => StepOutcome::Ready,
+            Err(entry) => {
+                self.kept = Some(entry);
+                signals.halt();
+                StepOutcome::Done
             }
         }
     }
 
     fn wake(&mut self, signals: &Signals) {
         self.wake_ups.give(signals);
+    }
+}
+
+// Loads an entry into an empty outbox. The entry comes back where memory is refused for it, or where it is a renewal and there is no later
+// generation.
+fn load(forward: &mut Forward, alloc: Global, entry: ConnEntry) -> Result<(), ConnEntry>
+    requires empty { (state_of forward.old).outbox.items ≡ [] }
+    requires none_out { (state_of forward.old).outbox.out ≡ None }
+    ensures gens { gens_of forward.new ≡ gens_of forward.old }
+    ensures conn { conn_of forward.new ≡ conn_of forward.old }
+    ensures loads { OnOk result (state_of forward.new ≡ after (gens_of forward.old) (conn_of forward.old) entry (state_of forward.old)) }
+    ensures later { OnOk result (HasGeneration (gens_of forward.old) entry (state_of forward.old)) }
+    ensures back { IfErr result (λ back. back ≡ entry) }
+    ensures unchanged { OnErr result (state_of forward.new ≡ state_of forward.old) }
+{
+    match entry {
+        ConnEntry::Numbered(number, line) => match forward.load(alloc, number, line) {
+            Ok(()) => Ok(()),
+            Err(refused) => Err(ConnEntry::Numbered(number, refused.value)),
+        },
+        ConnEntry::Renew => match forward.load_renew() {
+            Ok(()) => Ok(()),
+            Err(Last) => Err(ConnEntry::Renew),
+        },
+        ConnEntry::End => {
+            forward.load_end();
+            Ok(())
+        }
     }
 }
 
