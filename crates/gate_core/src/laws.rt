@@ -2,6 +2,11 @@
 ghost use Rattle.gate_core.specs.Chains.{EveryChainDelivers};
 ghost use Rattle.gate_core.specs.History.{EachHasItsGeneration};
 ghost use Rattle.gate_core.specs.Promises.{EveryRunDelivers};
+ghost use Rattle.gate_forward.specs.Histories.{EachTenantGetsItsOwn};
+ghost use Rattle.gate_items.specs.History.{CancelledChangesNothing};
+ghost use Rattle.gate_items.specs.Outcomes.{OutcomesAreSaid};
+ghost use Rattle.gate_record.specs.Generations.{EntriesHaveGenerations, RecordsHaveGenerations};
+ghost use Rattle.gate_tenant.specs.Histories.{EachGetsItsOwn, NothingIsLost};
 
 use gate_forward::each_tenant_gets_its_own;
 use gate_items::{cancelled_build_sets_change_nothing, each_outcome_is_that_of_one_result};
@@ -23,13 +28,7 @@ pub fn each_record_has_its_generation()
 pub fn every_run_delivers()
     ensures { EveryRunDelivers }
 {
-    each_tenant_gets_its_own();
-    entries_have_generations();
-    records_have_generations();
-    each_pipeline_gets_its_own();
-    nothing_that_was_gathered_is_lost();
-    each_outcome_is_that_of_one_result();
-    cancelled_build_sets_change_nothing();
+    parts_deliver();
 }
 
 /// All that `every_run_delivers` promises holds where memory is refused to some of the steps. Let a chain of worlds begin with the first
@@ -38,6 +37,19 @@ pub fn every_run_delivers()
 /// it processes next, or it is held still, whatever comes between.
 pub fn every_chain_delivers()
     ensures { EveryChainDelivers }
+{
+    parts_deliver();
+}
+
+// What the parts promise from which the core is made.
+fn parts_deliver()
+    ensures gets { EachTenantGetsItsOwn }
+    ensures entries { EntriesHaveGenerations }
+    ensures records { RecordsHaveGenerations }
+    ensures own { EachGetsItsOwn }
+    ensures lossless { NothingIsLost }
+    ensures says { OutcomesAreSaid }
+    ensures late { CancelledChangesNothing }
 {
     each_tenant_gets_its_own();
     entries_have_generations();

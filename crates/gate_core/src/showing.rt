@@ -45,7 +45,7 @@ fn push_items(out: &mut String, alloc: Global, items: &Items) -> Result<(), Memo
 {
     push_counts(out, items)?;
     push_queue(out, alloc, items)?;
-    push_reports(out, alloc, items.reported())
+    push_reports(out, items.reported())
 }
 
 fn push_counts(out: &mut String, items: &Items) -> Result<(), Memory>
@@ -74,11 +74,11 @@ fn push_queue(out: &mut String, alloc: Global, items: &Items) -> Result<(), Memo
     Ok(())
 }
 
-fn push_reports(out: &mut String, alloc: Global, reports: &[Report]) -> Result<(), Memory>
+fn push_reports(out: &mut String, reports: &[Report]) -> Result<(), Memory>
     ensures { OnOk result (string_bytes out.new ≡ string_bytes out.old ++ flat_map report_line reports.now) }
 {
     for report in reports {
-        push_report(out, alloc, report)?;
+        push_report(out, report)?;
     }
     Ok(())
 }
@@ -86,23 +86,16 @@ fn push_reports(out: &mut String, alloc: Global, reports: &[Report]) -> Result<(
 fn push_item(out: &mut String, alloc: Global, item: &QueueItem) -> Result<(), Memory>
     ensures { OnOk result (string_bytes out.new ≡ string_bytes out.old ++ item_line item.now) }
 {
-    push_start(out, alloc, "item ", &item.key, item.patchset, item.set)?;
+    push_start(out, "item ", &item.key, item.patchset, item.set)?;
     push_jobs(out, alloc, item.jobs.as_slice())?;
     out.push_str("\n")?;
     Ok(())
 }
 
-fn push_report(out: &mut String, alloc: Global, report: &Report) -> Result<(), Memory>
+fn push_report(out: &mut String, report: &Report) -> Result<(), Memory>
     ensures { OnOk result (string_bytes out.new ≡ string_bytes out.old ++ report_line report.now) }
 {
-    push_start(
-        out,
-        alloc,
-        "report ",
-        &report.key,
-        report.patchset,
-        report.set,
-    )?;
+    push_start(out, "report ", &report.key, report.patchset, report.set)?;
     out.push_str(success_word(report.success))?;
     Ok(())
 }
@@ -116,7 +109,6 @@ fn success_word(success: bool) -> &'static str
 // Adds a word, and then the key, patch set and build set of an item or report.
 fn push_start(
     out: &mut String,
-    alloc: Global,
     word: &str,
     key: &Key,
     patchset: i64,
@@ -125,7 +117,7 @@ fn push_start(
     ensures { OnOk result (string_bytes out.new ≡ string_bytes out.old ++ (word.now ++ (key_text key.now ++ sets_text patchset set))) }
 {
     out.push_str(word)?;
-    push_key(out, alloc, key)?;
+    push_key(out, key)?;
     push_sets(out, patchset, set)
 }
 
@@ -165,7 +157,7 @@ fn outcome_word(outcome: Option<bool>) -> &'static str
     }
 }
 
-fn push_key(out: &mut String, alloc: Global, key: &Key) -> Result<(), Memory>
+fn push_key(out: &mut String, key: &Key) -> Result<(), Memory>
     ensures { OnOk result (string_bytes out.new ≡ string_bytes out.old ++ key_text key.now) }
 {
     match key {
@@ -177,7 +169,6 @@ fn push_key(out: &mut String, alloc: Global, key: &Key) -> Result<(), Memory>
             newrev,
         } => push_ref(
             out,
-            alloc,
             conn.0,
             project.as_str(),
             refname.as_str(),
@@ -197,7 +188,6 @@ fn push_change(out: &mut String, conn: u32, number: i64) -> Result<(), Memory>
 
 fn push_ref(
     out: &mut String,
-    alloc: Global,
     conn: u32,
     project: &str,
     refname: &str,
@@ -205,6 +195,7 @@ fn push_ref(
 ) -> Result<(), Memory>
     ensures { OnOk result (string_bytes out.new ≡ string_bytes out.old ++ ref_text conn project.now refname.now newrev.now) }
 {
+    let alloc = *out.allocator();
     out.push_str("ref")?;
     push_spaced(out, u64::from(conn))?;
     push_quoted(out, alloc, newrev)?;

@@ -107,7 +107,7 @@ impl<'c> World<'c> {
     }
 
     /// The queue items and reports of a pipeline, if there is such a pipeline.
-    pub(crate) fn items(&self, tenant: TenantId, pipeline: PipelineId) -> Option<&Items>
+    pub fn items(&self, tenant: TenantId, pipeline: PipelineId) -> Option<&Items>
         ensures { option_map (λ items. items.now) result ≡ items_at tenant.0 pipeline.0 (state_of self.now) }
     {
         let tenant = self.tenants.get(tenant.0 as usize)?;

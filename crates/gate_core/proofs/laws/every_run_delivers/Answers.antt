@@ -2,4 +2,6 @@ use Rattle.gate_core.proofs.EveryRun.{every_run}
 use Rattle.gate_core.proofs.laws.every_run_delivers.Goals as goal
 
 pub returns : goal.returns
-returns c = every_run (record { gets = c.each_tenant_gets_its_own.ensures; entries = c.entries_have_generations.ensures; records = c.records_have_generations.ensures }) c.each_pipeline_gets_its_own.ensures c.nothing_that_was_gathered_is_lost.ensures c.each_outcome_is_that_of_one_result.ensures c.cancelled_build_sets_change_nothing.ensures
+returns c =
+    let parts = c.parts_deliver.ensures in
+    every_run (record { gets = parts.gets; entries = parts.entries; records = parts.records }) parts.own parts.lossless parts.says parts.late
