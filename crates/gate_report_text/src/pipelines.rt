@@ -3,7 +3,7 @@ ghost use Rattle.std.specs.Prelude.{◌≡◌, ◌++◌, string_bytes, IfOk, OnO
 ghost use Rattle.gate_config.specs.Lookups.{connections_of, tenants_of};
 ghost use Rattle.gate_report_text.specs.ReportText.{done_lines, done_start, numbers_text, pipeline_line, pipeline_lines, tenant_lines};
 
-use gate_config::{Config, PipelineSpec, TenantSpec};
+use gate_config::{Config, TenantSpec};
 use gate_line::{push_name, push_spaced, state_word};
 use gate_record::{ConnId, Memory, Sequence, Stamp, TenantId, name_text};
 use gate_report::PipelineReport;
@@ -12,7 +12,6 @@ use std::alloc::Global;
 /// Adds the lines of the pipelines of all tenants to a text, by number.
 pub(crate) fn push_tenants(
     out: &mut String,
-    alloc: Global,
     config: &Config,
     reports: &[Sequence<PipelineReport>],
 ) -> Result<(), Memory>
@@ -25,14 +24,7 @@ pub(crate) fn push_tenants(
         tenants.split_first(),
         reports.split_first(),
     ) {
-        push_pipelines(
-            out,
-            alloc,
-            config,
-            TenantId(number),
-            tenant,
-            report.as_slice(),
-        )?;
+        push_pipelines(out, config, TenantId(number), tenant, report.as_slice())?;
         tenants = more_tenants;
         reports = more_reports;
         number += 1;
@@ -40,9 +32,15 @@ pub(crate) fn push_tenants(
     Ok(())
 }
 
+// The names of a pipeline and of its tenant.
+#[derive(Clone, Copy)]
+struct PipelineNames<'a> {
+    tenant: &'a str,
+    pipeline: &'a str,
+}
+
 fn push_pipelines(
     out: &mut String,
-    alloc: Global,
     config: &Config,
     number: TenantId,
     tenant: &TenantSpec,
@@ -56,46 +54,31 @@ fn push_pipelines(
         pipelines.split_first(),
         reports.split_first(),
     ) {
-        push_pipeline(out, alloc, tenant.name.as_str(), pipeline, report)?;
-        push_done(
-            out,
-            alloc,
-            config,
-            number,
-            tenant.name.as_str(),
-            pipeline,
-            report,
-        )?;
+        let names = PipelineNames {
+            tenant: tenant.name.as_str(),
+            pipeline: pipeline.name.as_str(),
+        };
+        push_pipeline(out, names, report.finished)?;
+        push_done(out, config, number, names, report.done.as_slice())?;
         pipelines = more_pipelines;
         reports = more_reports;
     }
     Ok(())
 }
 
-fn push_pipeline(
-    out: &mut String,
-    alloc: Global,
-    tenant: &str,
-    pipeline: &PipelineSpec,
-    report: &PipelineReport,
-) -> Result<(), Memory>
-    ensures { OnOk result (string_bytes out.new ≡ string_bytes out.old ++ pipeline_line tenant.now pipeline.now.name report.now.finished) }
+fn push_pipeline(out: &mut String, names: PipelineNames<'_>, finished: bool) -> Result<(), Memory>
+    ensures { OnOk result (string_bytes out.new ≡ string_bytes out.old ++ pipeline_line names.entry.tenant.now names.entry.pipeline.now finished) }
 {
-    let line = pipeline_line(alloc, tenant, pipeline.name.as_str(), report.finished)?;
+    let line = pipeline_line(*out.allocator(), names, finished)?;
     out.push_str(line.as_str())?;
     Ok(())
 }
 
-fn pipeline_line(
-    alloc: Global,
-    tenant: &str,
-    pipeline: &str,
-    finished: bool,
-) -> Result<String, Memory>
-    ensures { IfOk result (λ line. string_bytes line ≡ pipeline_line tenant.now pipeline.now finished) }
+fn pipeline_line(alloc: Global, names: PipelineNames<'_>, finished: bool) -> Result<String, Memory>
+    ensures { IfOk result (λ line. string_bytes line ≡ pipeline_line names.entry.tenant.now names.entry.pipeline.now finished) }
 {
-    let tenant = name_text(alloc, tenant)?;
-    let pipeline = name_text(alloc, pipeline)?;
+    let tenant = name_text(alloc, names.tenant)?;
+    let pipeline = name_text(alloc, names.pipeline)?;
     let state = state_word(finished);
     Ok(format!(in alloc; "pipeline {tenant} {pipeline} {state}\n")?)
 }
@@ -103,45 +86,38 @@ fn pipeline_line(
 // Adds a line of processed events for each connection that the tenant lists.
 fn push_done(
     out: &mut String,
-    alloc: Global,
     config: &Config,
     number: TenantId,
-    tenant: &str,
-    pipeline: &PipelineSpec,
-    report: &PipelineReport,
+    names: PipelineNames<'_>,
+    done: &[Stamp],
 ) -> Result<(), Memory>
-    ensures { OnOk result (string_bytes out.new ≡ string_bytes out.old ++ done_lines config.now number.0 0 (connections_of config.now) tenant.now pipeline.now.name report.now.done) }
+    ensures { OnOk result (string_bytes out.new ≡ string_bytes out.old ++ done_lines config.now number.0 0 (connections_of config.now) names.entry.tenant.now names.entry.pipeline.now done.now) }
 {
-    let mut names = config.connections();
+    let mut connections = config.connections();
     let mut conn = 0;
-    while let Some((name, more)) = names.split_first() {
+    while let Some((connection, more)) = connections.split_first() {
         if config.listed(number, ConnId(conn)) {
-            push_start(out, alloc, tenant, pipeline.name.as_str(), name.as_str())?;
-            push_numbers(out, ConnId(conn), report.done.as_slice())?;
+            push_start(out, names, connection.as_str())?;
+            push_numbers(out, ConnId(conn), done)?;
             out.push_str("\n")?;
         }
-        names = more;
+        connections = more;
         conn += 1;
     }
     Ok(())
 }
 
 // Adds the start of a line of processed events: the names of tenant, pipeline and connection.
-fn push_start(
-    out: &mut String,
-    alloc: Global,
-    tenant: &str,
-    pipeline: &str,
-    conn: &str,
-) -> Result<(), Memory>
-    ensures { OnOk result (string_bytes out.new ≡ string_bytes out.old ++ done_start tenant.now pipeline.now conn.now) }
+fn push_start(out: &mut String, names: PipelineNames<'_>, connection: &str) -> Result<(), Memory>
+    ensures { OnOk result (string_bytes out.new ≡ string_bytes out.old ++ done_start names.entry.tenant.now names.entry.pipeline.now connection.now) }
 {
+    let alloc = *out.allocator();
     out.push_str("done ")?;
-    push_name(out, alloc, tenant)?;
+    push_name(out, alloc, names.tenant)?;
     out.push_str(" ")?;
-    push_name(out, alloc, pipeline)?;
+    push_name(out, alloc, names.pipeline)?;
     out.push_str(" ")?;
-    push_name(out, alloc, conn)
+    push_name(out, alloc, connection)
 }
 
 // Adds the record numbers of those stamps that are of this connection.

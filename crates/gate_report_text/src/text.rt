@@ -34,5 +34,5 @@ pub fn push_report(
         config.connections(),
         report.connections.as_slice(),
     )?;
-    push_tenants(out, alloc, config, report.pipelines.as_slice())
+    push_tenants(out, config, report.pipelines.as_slice())
 }
