@@ -25,7 +25,7 @@ pub(crate) fn push_begun(
     let next = items.next_set();
     let mut set = from;
     while set < next {
-        push_item(out, place, stamp, next, items, set)?;
+        push_item(out, place, stamp, items, set)?;
         set += 1;
     }
     Ok(())
@@ -33,19 +33,18 @@ pub(crate) fn push_begun(
 
 ghost use Rattle.std.specs.Option.{option_to_list};
 
-// Adds the line of the item with this build set, if there is one. `next` is the number that the next build set gets.
+// Adds the line of the item with this build set, if there is one.
 fn push_item(
     out: &mut String,
     place: &Place<'_>,
     stamp: Option<Stamp>,
-    next: u64,
     items: &Items,
     set: u64,
 ) -> Result<(), Memory>
-    ensures { OnOk result (string_bytes out.new ≡ string_bytes out.old ++ begin_lines place.now.config.now place.now.tenant.0 place.now.pipeline.0 stamp next (option_to_list (find (has_set set) items.now.items))) }
+    ensures { OnOk result (string_bytes out.new ≡ string_bytes out.old ++ begin_lines place.now.config.now place.now.tenant.0 place.now.pipeline.0 stamp items.now.next (option_to_list (find (has_set set) items.now.items))) }
 {
     match items.item(set) {
-        Some(item) => push_begin(out, place, own_stamp(stamp, next, item), item),
+        Some(item) => push_begin(out, place, own_stamp(stamp, items.next_set(), item), item),
         None => Ok(()),
     }
 }

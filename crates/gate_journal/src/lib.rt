@@ -10,6 +10,7 @@ mod live;
 mod members;
 mod pipeline_journal;
 mod place;
+mod processed_action;
 mod queue;
 mod writing;
 
@@ -17,4 +18,5 @@ pub use cause::CancelCause;
 pub use lines::{push_end, push_start};
 pub use pipeline_journal::PipelineJournal;
 pub use place::Place;
+pub use processed_action::ProcessedAction;
 pub use writing::write_lines;

@@ -155,7 +155,6 @@ fn success_member(success: bool) -> &'static str
 /// Adds the line of an action that is discarded.
 pub(crate) fn push_discard(
     out: &mut String,
-    alloc: Global,
     place: &Place<'_>,
     stamp: Option<Stamp>,
     action: &Action,
@@ -163,15 +162,16 @@ pub(crate) fn push_discard(
 ) -> Result<(), Memory>
     ensures { OnOk result (string_bytes out.new ≡ string_bytes out.old ++ discard_line place.now.config.now place.now.tenant.0 place.now.pipeline.0 stamp action.now why) }
 {
+    let alloc = *out.allocator();
     let why = why.word();
     match action {
         Action::Trigger(..) => push_lost_trigger(out, alloc, place, stamp, why),
         Action::Result(ended) => push_lost_result(out, alloc, place, ended, why),
         Action::Manage(Manage::Dequeue(key)) => {
-            push_lost_manage(out, alloc, place, "\"discard\":\"dequeue\",", key, why)
+            push_lost_manage(out, place, "\"discard\":\"dequeue\",", key, why)
         }
         Action::Manage(Manage::Reset(key)) => {
-            push_lost_manage(out, alloc, place, "\"discard\":\"reset\",", key, why)
+            push_lost_manage(out, place, "\"discard\":\"reset\",", key, why)
         }
     }
 }
@@ -217,7 +217,6 @@ fn push_job(out: &mut String, alloc: Global, job: &str) -> Result<(), Memory>
 
 fn push_lost_manage(
     out: &mut String,
-    alloc: Global,
     place: &Place<'_>,
     member: &str,
     key: &Key,
@@ -225,6 +224,7 @@ fn push_lost_manage(
 ) -> Result<(), Memory>
     ensures { OnOk result (string_bytes out.new ≡ string_bytes out.old ++ lost_manage place.now.config.now place.now.tenant.0 place.now.pipeline.0 member.now key.now why.now) }
 {
+    let alloc = *out.allocator();
     push_lost_key(out, place, member, key)?;
     push_pipeline(out, place)?;
     push_ref(out, place.config, key)?;

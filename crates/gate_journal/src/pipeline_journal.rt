@@ -13,12 +13,13 @@ use crate::keys::{follow, push_older};
 use crate::lines::push_discard;
 use crate::live::Live;
 use crate::place::Place;
+use crate::processed_action::ProcessedAction;
 use crate::queue::{push_lost, put_new, take_lost};
 use gate_items::{
-    Action, Items, ManagerKind, Outcome, Report, discarded_actions_change_nothing,
+    Items, ManagerKind, Outcome, Report, discarded_actions_change_nothing,
     each_action_goes_through_its_queue, each_action_is_for_one_key,
 };
-use gate_record::{Memory, Stamp};
+use gate_record::Memory;
 use std::alloc::Global;
 use std::collections::{BTreeMap, VecDeque};
 
@@ -50,28 +51,26 @@ impl PipelineJournal {
         }
     }
 
-    /// Adds the lines of the pipeline's next action to a text. `items` are the items after that action, and `stamp` is that of
-    /// the trigger event, if there is one. The journal must be told of each action, in order.
+    /// Adds the lines of the pipeline's next action to a text. The journal must be told of each action, in
+    /// order.
     ///
     /// After `Memory` the journal no longer knows the items, and must not be told of more actions. A part of the lines may stand
     /// in the text.
     pub fn push_action(
         &mut self,
         out: &mut String,
-        alloc: Global,
         place: &Place<'_>,
-        items: &Items,
-        stamp: Option<Stamp>,
-        action: &Action,
-        outcome: Outcome,
+        processed: &ProcessedAction<'_>,
     ) -> Result<(), Memory>
-        ensures lines { (manager : Kind) (actions : List AnAction) → Knows self.old manager (items_after manager actions) → (items.now, outcome) ≡ apply (items_after manager actions) action.now → OnOk result (string_bytes out.new ≡ string_bytes out.old ++ action_lines place.now.config.now place.now.tenant.0 place.now.pipeline.0 (items_after manager actions) stamp action.now outcome items.now) }
-        ensures knows { (manager : Kind) (actions : List AnAction) → Knows self.old manager (items_after manager actions) → (items.now, outcome) ≡ apply (items_after manager actions) action.now → OnOk result (Knows self.new manager (items_after manager (actions ++ action.now ∷ []))) }
+        ensures lines { (manager : Kind) (actions : List AnAction) → Knows self.old manager (items_after manager actions) → (processed.now.items.now, processed.now.outcome) ≡ apply (items_after manager actions) processed.now.action.now → OnOk result (string_bytes out.new ≡ string_bytes out.old ++ action_lines place.now.config.now place.now.tenant.0 place.now.pipeline.0 (items_after manager actions) processed.now.stamp processed.now.action.now processed.now.outcome processed.now.items.now) }
+        ensures knows { (manager : Kind) (actions : List AnAction) → Knows self.old manager (items_after manager actions) → (processed.now.items.now, processed.now.outcome) ≡ apply (items_after manager actions) processed.now.action.now → OnOk result (Knows self.new manager (items_after manager (actions ++ processed.now.action.now ∷ []))) }
     {
         discarded_actions_change_nothing();
-        match outcome {
-            Outcome::Discarded(why) => push_discard(out, alloc, place, stamp, action, why),
-            Outcome::Applied => self.push_applied(out, place, items, stamp, action),
+        match processed.outcome {
+            Outcome::Discarded(why) => {
+                push_discard(out, place, processed.stamp, processed.action, why)
+            }
+            Outcome::Applied => self.push_applied(out, place, processed),
         }
     }
 
@@ -80,17 +79,16 @@ impl PipelineJournal {
         &mut self,
         out: &mut String,
         place: &Place<'_>,
-        items: &Items,
-        stamp: Option<Stamp>,
-        action: &Action,
+        processed: &ProcessedAction<'_>,
     ) -> Result<(), Memory>
-        ensures lines { (manager : Kind) (actions : List AnAction) → Knows self.old manager (items_after manager actions) → (items.now, Applied) ≡ apply (items_after manager actions) action.now → OnOk result (string_bytes out.new ≡ string_bytes out.old ++ action_lines place.now.config.now place.now.tenant.0 place.now.pipeline.0 (items_after manager actions) stamp action.now Applied items.now) }
-        ensures knows { (manager : Kind) (actions : List AnAction) → Knows self.old manager (items_after manager actions) → (items.now, Applied) ≡ apply (items_after manager actions) action.now → OnOk result (Knows self.new manager items.now) }
+        ensures lines { (manager : Kind) (actions : List AnAction) → Knows self.old manager (items_after manager actions) → (processed.now.items.now, Applied) ≡ apply (items_after manager actions) processed.now.action.now → OnOk result (string_bytes out.new ≡ string_bytes out.old ++ action_lines place.now.config.now place.now.tenant.0 place.now.pipeline.0 (items_after manager actions) processed.now.stamp processed.now.action.now Applied processed.now.items.now) }
+        ensures knows { (manager : Kind) (actions : List AnAction) → Knows self.old manager (items_after manager actions) → (processed.now.items.now, Applied) ≡ apply (items_after manager actions) processed.now.action.now → OnOk result (Knows self.new manager processed.now.items.now) }
     {
         let alloc = *out.allocator();
+        let items = processed.items;
         let reports = reports_from(items, self.reports);
-        self.push_cancelled(out, alloc, place, items, action, reports)?;
-        push_begun(out, place, stamp, items, self.next)?;
+        self.push_cancelled(out, place, processed, reports)?;
+        push_begun(out, place, processed.stamp, items, self.next)?;
         push_reports(out, alloc, place, reports)?;
         self.next = items.next_set();
         self.reports = items.reported().len();
@@ -106,19 +104,19 @@ impl PipelineJournal {
     fn push_cancelled(
         &mut self,
         out: &mut String,
-        alloc: Global,
         place: &Place<'_>,
-        items: &Items,
-        action: &Action,
+        processed: &ProcessedAction<'_>,
         reports: &[Report],
     ) -> Result<(), Memory>
-        ensures lines { (manager : Kind) (actions : List AnAction) → Knows self.old manager (items_after manager actions) → (items.now, Applied) ≡ apply (items_after manager actions) action.now → reports.now ≡ drop self.old.reports items.now.reported → OnOk result (string_bytes out.new ≡ string_bytes out.old ++ cancel_lines place.now.config.now place.now.tenant.0 place.now.pipeline.0 action.now (sets_of (cancelled (items_after manager actions) items.now))) }
-        ensures live { (manager : Kind) (actions : List AnAction) → Knows self.old manager (items_after manager actions) → (items.now, Applied) ≡ apply (items_after manager actions) action.now → reports.now ≡ drop self.old.reports items.now.reported → OnOk result (AreLive self.new.live manager items.now) }
+        ensures lines { (manager : Kind) (actions : List AnAction) → Knows self.old manager (items_after manager actions) → (processed.now.items.now, Applied) ≡ apply (items_after manager actions) processed.now.action.now → reports.now ≡ drop self.old.reports processed.now.items.now.reported → OnOk result (string_bytes out.new ≡ string_bytes out.old ++ cancel_lines place.now.config.now place.now.tenant.0 place.now.pipeline.0 processed.now.action.now (sets_of (cancelled (items_after manager actions) processed.now.items.now))) }
+        ensures live { (manager : Kind) (actions : List AnAction) → Knows self.old manager (items_after manager actions) → (processed.now.items.now, Applied) ≡ apply (items_after manager actions) processed.now.action.now → reports.now ≡ drop self.old.reports processed.now.items.now.reported → OnOk result (AreLive self.new.live manager processed.now.items.now) }
         ensures next { self.new.next ≡ self.old.next }
         ensures reports { self.new.reports ≡ self.old.reports }
     {
         each_action_goes_through_its_queue();
         each_action_is_for_one_key();
+        let alloc = *out.allocator();
+        let ProcessedAction { action, items, .. } = *processed;
         let next = items.next_set();
         match &mut self.live {
             Live::Queue(sets) => {

@@ -7,7 +7,8 @@ use gate_core::ReplayFault;
 use gate_record::Memory;
 use gate_run_threads::RunFault;
 use std::alloc::{AllocError, AllocFailed};
-use std::fmt;
+use std::io::ErrorKind;
+use std::{fmt, io};
 
 /// Why the program did not do what its words ask for. The text is printed on standard error after `fault: `.
 #[derive(Debug, Drop)]
@@ -68,6 +69,11 @@ impl fmt::Display for Fault {
             Fault::Script(line) => write!(f, "script {line}"),
         }
     }
+}
+
+/// Whether a call of the system failed because memory was refused.
+pub(crate) fn is_out_of_memory(error: &io::Error) -> bool {
+    error.kind() == ErrorKind::OutOfMemory
 }
 
 impl From<AllocError> for Fault {

@@ -1,6 +1,5 @@
 //! Reads whole files.
-use crate::fault::Fault;
-use std::io::ErrorKind;
+use crate::fault::{Fault, is_out_of_memory};
 use std::rt::Files;
 use std::{fs, io};
 
@@ -25,8 +24,8 @@ pub(crate) fn read_file<X: Files + AllocGlobal>(rt: &X, path: String) -> Result<
 
 // The fault for a file, or for standard input, that can't be read.
 pub(crate) fn reading_fault(path: String, error: &io::Error) -> Fault {
-    match error.kind() {
-        ErrorKind::OutOfMemory => Fault::Memory,
-        _ => Fault::File(path),
+    if is_out_of_memory(error) {
+        return Fault::Memory;
     }
+    Fault::File(path)
 }

@@ -1,12 +1,11 @@
 //! The journal of a run: one file with the lines of all pipelines.
+use crate::fault::is_out_of_memory;
 use gate_config::{Config, Generations};
-use gate_items::{Action, Items, Outcome};
-use gate_journal::{PipelineJournal, Place, push_end, push_start, write_lines};
-use gate_record::{Memory, PipelineId, Shared, Stamp, TenantId};
+use gate_journal::{PipelineJournal, Place, ProcessedAction, push_end, push_start, write_lines};
+use gate_record::{Memory, PipelineId, Shared, TenantId};
 use std::alloc::Global;
 use std::fs::{File, OpenOptions};
 use std::io;
-use std::io::ErrorKind;
 use std::rt::Files;
 
 /// Why a journal has ended before its run.
@@ -47,7 +46,7 @@ pub(crate) fn open_journal<X: Files<File = File> + AllocGlobal>(
 fn opened<T>(answer: io::Result<T>) -> Result<T, JournalFault> {
     match answer {
         Ok(value) => Ok(value),
-        Err(error) if error.kind() == ErrorKind::OutOfMemory => Err(JournalFault::Memory),
+        Err(error) if is_out_of_memory(&error) => Err(JournalFault::Memory),
         Err(_) => Err(JournalFault::File),
     }
 }
@@ -76,15 +75,12 @@ impl Journal {
         })
     }
 
-    /// Writes the lines of a pipeline's next action. The items are those after the action, and the stamp is that of a trigger event.
+    /// Writes the lines of a pipeline's next action.
     pub(crate) fn tell(
         &mut self,
         tenant: TenantId,
         pipeline: PipelineId,
-        items: &Items,
-        stamp: Option<Stamp>,
-        action: &Action,
-        outcome: Outcome,
+        processed: &ProcessedAction<'_>,
     ) {
         if self.fault.is_some() {
             return;
@@ -95,21 +91,9 @@ impl Journal {
         let Some(journal) = pipelines.get_mut(pipeline.0 as usize) else {
             return;
         };
-        let place = Place {
-            config: self.gens.get().first(),
-            tenant,
-            pipeline,
-        };
+        let place = place_of(&self.gens, tenant, pipeline);
         self.lines.clear();
-        let made = journal.push_action(
-            &mut self.lines,
-            self.alloc,
-            &place,
-            items,
-            stamp,
-            action,
-            outcome,
-        );
+        let made = journal.push_action(&mut self.lines, &place, processed);
         self.write(made);
     }
 
@@ -118,11 +102,7 @@ impl Journal {
         if self.fault.is_some() {
             return;
         }
-        let place = Place {
-            config: self.gens.get().first(),
-            tenant,
-            pipeline,
-        };
+        let place = place_of(&self.gens, tenant, pipeline);
         self.lines.clear();
         let made = push_end(&mut self.lines, self.alloc, &place, finished);
         self.write(made);
@@ -142,6 +122,14 @@ impl Journal {
         {
             self.fault = Some(JournalFault::File);
         }
+    }
+}
+
+fn place_of(gens: &Shared<Generations>, tenant: TenantId, pipeline: PipelineId) -> Place<'_> {
+    Place {
+        config: gens.get().first(),
+        tenant,
+        pipeline,
     }
 }
 

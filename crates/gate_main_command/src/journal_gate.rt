@@ -2,6 +2,7 @@
 use crate::fault::Fault;
 use crate::journal::{Journal, JournalFault};
 use gate_config::Generations;
+use gate_journal::ProcessedAction;
 use gate_pipeline::{Pipeline, Processed};
 use gate_record::{PipelineId, Shared, TenantId};
 use gate_run_posts::{Inbox, Stopper};
@@ -89,9 +90,14 @@ impl<'a> Gate for JournalGate<'a> {
             return;
         };
         let (stamp, action, outcome) = processed;
+        let processed = ProcessedAction {
+            stamp: *stamp,
+            action,
+            outcome: *outcome,
+            items: state.state(),
+        };
         let mut own = journal.lock(rt);
-        own.journal
-            .tell(tenant, pipeline, state.state(), *stamp, action, *outcome);
+        own.journal.tell(tenant, pipeline, &processed);
         own.stop_at_fault();
     }
 

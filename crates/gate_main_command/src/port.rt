@@ -1,5 +1,5 @@
 //! Opens the status port.
-use crate::fault::Fault;
+use crate::fault::{Fault, is_out_of_memory};
 use gate_main_streams::{Address, SocketFile};
 use std::fs::File;
 use std::io;
@@ -71,7 +71,7 @@ where
     };
     match Listening::at(rt, address) {
         Ok(Listening { port, file }) => Ok((Some(port), file)),
-        Err(error) if error.kind() == ErrorKind::OutOfMemory => Err(Fault::Memory),
+        Err(error) if is_out_of_memory(&error) => Err(Fault::Memory),
         Err(_) => Err(Fault::Listen(String::from_str(rt.alloc(), word)?)),
     }
 }

@@ -1,9 +1,9 @@
 //! Writes the journal of a script: the lines that a run would write if it took the script's steps.
 use crate::journal::{Journal, JournalFault};
-use gate_config::{Config, Generations, read_generations};
-use gate_core::{Answer, PipelineReport, RunReport, Scripted, Step, Transcript, play, read_script};
-use gate_items::Items;
-use gate_record::{Memory, PipelineId, Queue, Sequence, Shared, TenantId};
+use gate_config::{Generations, read_generations};
+use gate_core::{Answer, PipelineReport, RunReport, Scripted, Step, World, read_script};
+use gate_journal::ProcessedAction;
+use gate_record::{Memory, PipelineId, Queue, Shared, TenantId};
 use std::alloc::Global;
 use std::fs::File;
 
@@ -40,42 +40,48 @@ pub(crate) fn write_replayed(
     }
 }
 
+// Takes the steps of a script once more, and writes what was done in the turns, and the last lines of the pipelines.
 fn tell_script(
     alloc: Global,
     gens: &Generations,
     script: Queue<Scripted>,
     journal: &mut Journal,
 ) -> Result<(), Memory> {
-    let (steps, turns) = parted(alloc, script)?;
-    let transcript = play(alloc, gens, steps)?;
-    tell_transcript(alloc, gens.first(), turns.as_slice(), &transcript, journal)
-}
-
-// Writes what was done in the turns, and the last lines of the pipelines.
-fn tell_transcript(
-    alloc: Global,
-    config: &Config,
-    turns: &[Turn],
-    transcript: &Transcript,
-    journal: &mut Journal,
-) -> Result<(), Memory> {
-    tell_answers(alloc, config, turns, &transcript.answers, journal)?;
-    tell_ends(&transcript.world.report()?, journal);
+    let mut script = script;
+    // The proof needs this count: no more records are accepted than the script has lines, so their numbers don't overflow.
+    let _total = script.len();
+    let mut world = World::new(alloc, gens)?;
+    while let Some(line) = script.pop() {
+        if let Scripted::Step(step) = line {
+            tell_step(&mut world, step, journal)?;
+        }
+    }
+    tell_ends(&world.report()?, journal);
     Ok(())
 }
 
-// Splits a script into its steps, and the pipelines whose turns they are.
-fn parted(alloc: Global, script: Queue<Scripted>) -> Result<(Queue<Step>, Vec<Turn>), Memory> {
-    let mut script = script;
-    let mut steps = Queue::new(alloc);
-    let mut turns = Vec::new(alloc);
-    while let Some(line) = script.pop() {
-        if let Scripted::Step(step) = line {
-            turns.push(turn_of(&step))?;
-            steps.push(step)?;
+ghost use Rattle.std.specs.Prelude.{◌+◌, ℕ};
+ghost use Rattle.gate_core.specs.Worlds.{AcceptedAtMost, HasNumber, state_of};
+
+// Takes a step. Where it is a turn that processes an action, the action's lines are written.
+fn tell_step(world: &mut World<'_>, step: Step, journal: &mut Journal) -> Result<(), Memory>
+    requires numbers { HasNumber (state_of world.old) step }
+    ensures counts { (most : ℕ) → AcceptedAtMost most (state_of world.old) → AcceptedAtMost (most + 1) (state_of world.new) }
+{
+    let turn = turn_of(&step);
+    let answer = world.step(step)?;
+    if let (Some((tenant, pipeline)), Answer::Turned(stamp, action, outcome)) = (turn, &answer) {
+        if let Some(items) = world.items(tenant, pipeline) {
+            let processed = ProcessedAction {
+                stamp: *stamp,
+                action,
+                outcome: *outcome,
+                items,
+            };
+            journal.tell(tenant, pipeline, &processed);
         }
     }
-    Ok((steps, turns))
+    Ok(())
 }
 
 fn turn_of(step: &Step) -> Turn {
@@ -83,49 +89,6 @@ fn turn_of(step: &Step) -> Turn {
         Step::Turn(tenant, pipeline) => Some((*tenant, *pipeline)),
         _ => None,
     }
-}
-
-// Applies the processed actions once more, to items of the journal's own.
-fn tell_answers(
-    alloc: Global,
-    config: &Config,
-    turns: &[Turn],
-    answers: &Sequence<Answer>,
-    journal: &mut Journal,
-) -> Result<(), Memory> {
-    let mut items = first_items(alloc, config)?;
-    for (turn, answer) in turns.iter().zip(answers.as_slice()) {
-        if let (Some((tenant, pipeline)), Answer::Turned(stamp, action, outcome)) = (turn, answer) {
-            let Some(own) = items_of(&mut items, *tenant, *pipeline) else {
-                continue;
-            };
-            let _outcome = own.apply(action)?;
-            journal.tell(*tenant, *pipeline, own, *stamp, action, *outcome);
-        }
-    }
-    Ok(())
-}
-
-fn first_items(alloc: Global, config: &Config) -> Result<Vec<Vec<Items>>, Memory> {
-    let mut all = Vec::new(alloc);
-    for tenant in config.tenants() {
-        let mut own = Vec::new(alloc);
-        for pipeline in tenant.pipelines.as_slice() {
-            own.push(Items::new(alloc, pipeline.manager, 0))?;
-        }
-        all.push(own)?;
-    }
-    Ok(all)
-}
-
-fn items_of(
-    items: &mut [Vec<Items>],
-    tenant: TenantId,
-    pipeline: PipelineId,
-) -> Option<&mut Items> {
-    items
-        .get_mut(tenant.0 as usize)?
-        .get_mut(pipeline.0 as usize)
 }
 
 fn tell_ends(report: &RunReport, journal: &mut Journal) {

@@ -2,13 +2,12 @@
 ghost use Rattle.std.specs.Prelude.{◌≡◌, ◌-◌, ◌<◌, ◌^◌, All, IfOk, length};
 ghost use Rattle.gate_config.specs.Lookups.{connections_of};
 
-use crate::fault::Fault;
+use crate::fault::{Fault, is_out_of_memory};
 use gate_config::Config;
 use gate_main_streams::{Address, Stream};
 use gate_source::{ReaderFeed, RecordFeed};
 use std::alloc::Global;
 use std::fs::File;
-use std::io::ErrorKind;
 use std::net::{Net, TcpStream};
 use std::rt::Files;
 
@@ -95,7 +94,7 @@ fn open<X: Files<File = File> + Net<Stream = TcpStream> + AllocGlobal>(
     let alloc = rt.alloc();
     match Stream::open(rt, source.address) {
         Ok(stream) => Ok(stream),
-        Err(error) if error.kind() == ErrorKind::OutOfMemory => Err(Fault::Memory),
+        Err(error) if is_out_of_memory(&error) => Err(Fault::Memory),
         Err(_) => match source.address {
             Address::File(path) => Err(Fault::File(String::from_str(alloc, path)?)),
             _ => Err(Fault::Connect(String::from_str(alloc, source.word)?)),

@@ -7,7 +7,7 @@ use gate_config::{Config, Generations};
 use gate_core::{Answer, ReplayFault, ScriptFault, Scripted, Step, Transcript, World};
 use gate_forward::Forward;
 use gate_items::{Items, JobResult, Manage};
-use gate_journal::{PipelineJournal, Place, push_end};
+use gate_journal::{PipelineJournal, Place, ProcessedAction, push_end};
 use gate_pipeline::{Pipeline, Processed, Taken, Which};
 use gate_record::{
     ConnId, Memory, PipelineId, PipelineItem, Queue, Record, Stamp, TenantId, TenantItem,
@@ -336,7 +336,13 @@ fn lines_of(log: &mut Log, place: &Place<'_>, processed: &[Processed]) -> Result
         for item in items.items() {
             let _copy = made!(log; gate_items::Key::copy(&item.key, alloc))?;
         }
-        journal.push_action(&mut lines, alloc, place, &items, *stamp, action, *outcome)?;
+        let processed = ProcessedAction {
+            stamp: *stamp,
+            action,
+            outcome: *outcome,
+            items: &items,
+        };
+        journal.push_action(&mut lines, place, &processed)?;
     }
     Ok(lines)
 }

@@ -13,7 +13,6 @@ loop-set-preserved c =
     let one = begin_lines c.args.place.now.config.now c.args.place.now.tenant.0 c.args.place.now.pipeline.0 c.args.stamp items.next (option_to_list (find (has_set c.loop-set.set) items.items)) in
     let left = lines_from c.args.place.now.config.now c.args.place.now.tenant.0 c.args.place.now.pipeline.0 c.args.stamp items.next items.items (c.loop-set.set + 1) in
     let below : c.loop-set.set < items.next = omega (arith, c.loop-set-test.true, c.next_set-next.ensures) in
-    let told = c.in_ok-push_item.ensures ∙ ap (λ n. written ++ begin_lines c.args.place.now.config.now c.args.place.now.tenant.0 c.args.place.now.pipeline.0 c.args.stamp n (option_to_list (find (has_set c.loop-set.set) items.items))) c.next_set-next.ensures in
-    ap (λ xs. xs ++ left) told ∙ append_assoc written one left
+    ap (λ xs. xs ++ left) c.in_ok-push_item.ensures ∙ append_assoc written one left
     ∙ ap (λ xs. written ++ xs) (one_number c.args.place.now.config.now c.args.place.now.tenant.0 c.args.place.now.pipeline.0 c.args.stamp items.next items.items c.loop-set.set below)
     ∙ c.loop-set.invariant

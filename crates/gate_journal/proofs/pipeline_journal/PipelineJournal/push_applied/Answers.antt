@@ -11,17 +11,17 @@ use Rattle.gate_journal.proofs.pipeline_journal.PipelineJournal.push_applied.Goa
 pub returns-clause-lines : goal.returns-clause-lines
 returns-clause-lines c manager actions knows e =
     let s = items_after manager actions in
-    let items = c.args.items.now in
+    let items = c.args.processed.now.items.now in
     let config = c.args.place.now.config.now in
     let t = c.args.place.now.tenant.0 in
     let p = c.args.place.now.pipeline.0 in
-    let cancels = cancel_lines config t p c.args.action.now (sets_of (cancelled s items)) in
-    let begins = begin_lines config t p c.args.stamp items.next (begun s items) in
+    let cancels = cancel_lines config t p c.args.processed.now.action.now (sets_of (cancelled s items)) in
+    let begins = begin_lines config t p c.args.processed.now.stamp items.next (begun s items) in
     let reports = flat_map (report_line config t p) (reported s items) in
     behind (string_bytes c.args.out.now) cancels (begins ++ reports) (c.in_ok-push_cancelled.ensures.lines manager actions knows e c.reports_from-reports.ensures)
     (behind (string_bytes c.push_cancelled.new.out) begins reports
     (c.in_ok-push_begun.ensures
-    ∙ ap (λ from. string_bytes c.push_cancelled.new.out ++ begin_lines config t p c.args.stamp items.next (filter_map (λ set. find (has_set set) items.items) (range_with_len from (items.next - from))))
+    ∙ ap (λ from. string_bytes c.push_cancelled.new.out ++ begin_lines config t p c.args.processed.now.stamp items.next (filter_map (λ set. find (has_set set) items.items) (range_with_len from (items.next - from))))
     (c.in_ok-push_cancelled.ensures.next ∙ knows.next))
     (c.in_ok-push_reports.ensures
     ∙ ap (λ (rs : List Report). string_bytes c.push_begun.new.out ++ flat_map (report_line config t p) rs) (c.reports_from-reports.ensures ∙ ap (λ n. drop n items.reported) knows.reports)))

@@ -18,25 +18,25 @@ module _ (c : goal.After-push_lost) (manager : ManagerKind) (actions : List Acti
   is_live : AreLive (Queue c.in-Queue.sets) manager (items_after manager actions)
   is_live = subst (λ (l : Live). AreLive l manager (items_after manager actions)) c.in-Queue.is knows.live
 
-  follows : (c.args.items.now, Applied) ≡ apply (items_after manager actions) c.args.action.now → c.args.reports.now ≡ drop c.args.self.now.reports c.args.items.now.reported
-      → QueueFollows c.in-Queue.sets.items (length c.args.reports.now) (length c.args.items.now.items - (c.args.items.now.next - c.args.self.now.next)) c.args.self.now.next (items_after manager actions) c.args.items.now
+  follows : (c.args.processed.now.items.now, Applied) ≡ apply (items_after manager actions) c.args.processed.now.action.now → c.args.reports.now ≡ drop c.args.self.now.reports c.args.processed.now.items.now.reported
+      → QueueFollows c.in-Queue.sets.items (length c.args.reports.now) (length c.args.processed.now.items.now.items - (c.args.processed.now.items.now.next - c.args.self.now.next)) c.args.self.now.next (items_after manager actions) c.args.processed.now.items.now
   follows e r =
-      let items = c.args.items.now in
+      let items = c.args.processed.now.items.now in
       let told = length c.args.reports.now in
       let count : told ≡ length (reported (items_after manager actions) items) = ap length (r ∙ ap (λ n. drop n items.reported) knows.reports) in
-      queue_follows c.each_action_goes_through_its_queue.ensures manager is_live.0 actions c.args.action.now items e c.in-Queue.sets.items is_live.1 c.args.self.now.next told knows.next count
+      queue_follows c.each_action_goes_through_its_queue.ensures manager is_live.0 actions c.args.processed.now.action.now items e c.in-Queue.sets.items is_live.1 c.args.self.now.next told knows.next count
 
 pub returns-in_ok-put_new-in-Queue-clause-lines : goal.returns-in_ok-put_new-in-Queue-clause-lines
 returns-in_ok-put_new-in-Queue-clause-lines c manager actions knows e r =
     let sets = c.in-Queue.sets.items in
     let told = length c.args.reports.now in
     on_ok c.push_lost.result
-    (λ p. p ∙ ap (λ xs. string_bytes c.args.out.now ++ cancel_lines c.args.place.now.config.now c.args.place.now.tenant.0 c.args.place.now.pipeline.0 c.args.action.now xs) (c.in_ok-lost-in-Queue.ensures.lost ∙ ap (λ n. drop n (drop told sets)) c.staying-staying.ensures ∙ (follows c manager actions knows e r).lost))
+    (λ p. p ∙ ap (λ xs. string_bytes c.args.out.now ++ cancel_lines c.args.place.now.config.now c.args.place.now.tenant.0 c.args.place.now.pipeline.0 c.args.processed.now.action.now xs) (c.in_ok-lost-in-Queue.ensures.lost ∙ ap (λ n. drop n (drop told sets)) c.staying-staying.ensures ∙ (follows c manager actions knows e r).lost))
     c.push_lost.ensures
 
 pub returns-in_ok-put_new-in-Queue-clause-live : goal.returns-in_ok-put_new-in-Queue-clause-live
 returns-in_ok-put_new-in-Queue-clause-live c manager actions knows e r =
-    let items = c.args.items.now in
+    let items = c.args.processed.now.items.now in
     let next = c.args.self.now.next in
     let told = length c.args.reports.now in
     on_ok c.push_lost.result
