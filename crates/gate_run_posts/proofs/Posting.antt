@@ -1,7 +1,10 @@
 -- What is changed at one place of lists of lists.
-use Rattle.std.proofs.Common.{◌≡◌, refl, ap, ℕ, zero, suc, ◌<◌, ◌≤◌, List, [], ◌∷◌, length, map, slice_index_or, slice_set, Some, None, arith}
-use Rattle.std.specs.Prelude.{slice_get}
-use Rattle.gate_run_posts.specs.Ports.{slice_change}
+use Rattle.std.proofs.Common.{◌≡◌, ◌∙◌, refl, sym, ap, subst, ℕ, zero, suc, ◌<◌, ◌≤◌, List, [], ◌∷◌, length, map, slice_index_or, slice_set, Some, None, arith}
+use Rattle.std.specs.Global.{Vec}
+use Rattle.std.specs.Prelude.{option_and_then, slice_get}
+use Rattle.gate_run_posts.specs.PipelineEnds.{ends_of}
+use Rattle.gate_run_posts.specs.Ports.{at_pipeline, slice_change}
+use Rattle.gate_run_posts.specs.declared.posts.PipelinePosts.{PipelinePosts}
 
 module _ {A B : Type 0} (f : A → B) where
   pub changed : (xs : List A) (i : ℕ) (y d : A) (change : B → B) → i < length xs → f y ≡ change (f (slice_index_or xs i d)) → map f (slice_set xs i y) ≡ slice_change i change (map f xs)
@@ -24,3 +27,16 @@ pub any_default : {A : Type 0} (xs : List A) (i : ℕ) (d e : A) → i < length 
 any_default [] i d e low = absurd (omega (arith, low))
 any_default (x ∷ xs) zero d e low = refl
 any_default (x ∷ xs) (suc i) d e low = any_default xs i d e (omega (arith, low))
+
+-- a place of a list that was looked up twice is there both times
+pub within : {A : Type 0} (rows : List (Vec A)) (i j : ℕ) (seen row : Vec A) → i < length rows → seen ≡ slice_index_or rows i seen → row ≡ slice_index_or rows i row → j < length seen.items → j < length row.items
+within rows i j seen row low is_seen is_row there = subst (λ (v : Vec _). j < length v.items) (is_seen ∙ any_default rows i seen row low ∙ sym is_row) there
+
+-- the ends of a pipeline that was looked up
+pub found : (tenants : List (Vec PipelinePosts)) (t p : ℕ) (tenant : Vec PipelinePosts) (pipeline : PipelinePosts) → t < length tenants → tenant ≡ slice_index_or tenants t tenant → p < length tenant.items → pipeline ≡ slice_index_or tenant.items p pipeline →
+    at_pipeline t p (map (λ v. map ends_of v.items) tenants) ≡ Some (ends_of pipeline)
+found tenants t p tenant pipeline low is_tenant low' is_pipeline =
+    ap (option_and_then (λ pipelines. slice_get pipelines p)) (got (λ (v : Vec PipelinePosts). map ends_of v.items) tenants t tenant low)
+    ∙ ap (λ (v : Vec PipelinePosts). slice_get (map ends_of v.items) p) (sym is_tenant)
+    ∙ got ends_of tenant.items p pipeline low'
+    ∙ ap (λ x. Some (ends_of x)) (sym is_pipeline)

@@ -60,12 +60,16 @@ posted value end = record { queue = end.queue; tail = with_put end.tail value }
 abbrev pub changed_at : {A : Type 0} → ℕ → ℕ → (A → A) → List (List A) → List (List A)
 changed_at t p change tenants = slice_change t (slice_change p change) tenants
 
+-- the posts after the ends of pipeline p of tenant t were changed
+abbrev pub with_change : ℕ → ℕ → (PostEnds → PostEnds) → PostsView → PostsView
+with_change t p change posts = record posts { pipelines = changed_at t p change posts.pipelines }
+
 -- the posts after one more management event, and below one more result, was posted to pipeline p of tenant t
 abbrev pub with_manage : ℕ → ℕ → Manage → PostsView → PostsView
-with_manage t p manage posts = record posts { pipelines = changed_at t p (λ (ends : PostEnds). record ends { management = posted manage ends.management }) posts.pipelines }
+with_manage t p manage posts = with_change t p (λ (ends : PostEnds). record ends { management = posted manage ends.management }) posts
 
 abbrev pub with_result : ℕ → ℕ → JobResult → PostsView → PostsView
-with_result t p ended posts = record posts { pipelines = changed_at t p (λ (ends : PostEnds). record ends { results = posted ended ends.results }) posts.pipelines }
+with_result t p ended posts = with_change t p (λ (ends : PostEnds). record ends { results = posted ended ends.results }) posts
 
 -- both ends of a queue that was opened for posts with so many places: nothing was put into it or taken from it
 pub record IsOpened {T : Type 0} (capacity : ℕ) (end : PostEnd T) (head : TakerSeat T) : Type 0 where

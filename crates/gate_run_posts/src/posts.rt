@@ -1,9 +1,10 @@
 //! The queues of management events and results: `Posts` is the end where others put, and `Inbox` the one where the pipelines' workers take.
 ghost use Rattle.std.specs.Prelude.{◌≡◌, ◌<◌, ◌+◌, [], IfErr, IfNone, IfOk, IfSome, OnErr, OnOk, is_some, length, map};
 ghost use Rattle.gate_queue.specs.Seats.{IsTailOf};
+ghost use Rattle.gate_queue.specs.States.{MayBeFull};
 ghost use Rattle.gate_run_threads.specs.Lists.{Pairwise};
 ghost use Rattle.gate_run_posts.specs.PipelineEnds.{ends_of, inbox_of};
-ghost use Rattle.gate_run_posts.specs.Ports.{AreOpened, IsOpened, pipeline_counts};
+ghost use Rattle.gate_run_posts.specs.Ports.{AreOpened, IsOpened, pipeline_counts, posted};
 
 use crate::asked::{Asked, RenewPostFault};
 use crate::stopper::Stopper;
@@ -45,9 +46,6 @@ impl<T> Model for PostSeat<T> {
 }
 
 impl<T> PostSeat<T> {
-    ghost use Rattle.gate_queue.specs.States.{MayBeFull};
-    ghost use Rattle.gate_run_posts.specs.Ports.{posted};
-
     /// Puts a value. The value comes back where the queue was full.
     fn put<R: Wait>(&mut self, rt: &R, value: T) -> Result<(), T>
         ensures puts { OnOk result (self.new ≡ posted value self.old) }
@@ -78,6 +76,43 @@ pub(crate) struct PipelinePosts {
     management: PostSeat<Manage>,
     results: PostSeat<JobResult>,
     worker: Unparker,
+}
+
+/// A value that is posted to a pipeline: each kind of value has a queue of its own there.
+pub(crate) trait Post: Drop + Sized {
+    ghost use Rattle.gate_run_posts.specs.Ports.{PostEnd, PostEnds};
+
+    /// The end of the queue for values of this kind.
+    ghost end: { PostEnds → PostEnd Self };
+
+    /// A pipeline's ends after this value was put.
+    ghost after: { Self → PostEnds → PostEnds };
+
+    /// Puts the value into its queue. The value comes back where the queue was full.
+    fn put<R: Wait>(self, rt: &R, posts: &mut PipelinePosts) -> Result<(), Self>
+        ensures puts { OnOk result (ends_of posts.new ≡ after self (ends_of posts.old)) }
+        ensures refused { IfErr result (λ back. (back ≡ self) × (ends_of posts.new ≡ ends_of posts.old)) }
+        ensures full { OnErr result (MayBeFull (end (ends_of posts.old)).queue (end (ends_of posts.old)).tail) };
+}
+
+impl Post for Manage {
+    ghost end = { λ ends. ends.management };
+
+    ghost after = { λ manage ends. record ends { management = posted manage ends.management } };
+
+    fn put<R: Wait>(self, rt: &R, posts: &mut PipelinePosts) -> Result<(), Manage> {
+        posts.management.put(rt, self)
+    }
+}
+
+impl Post for JobResult {
+    ghost end = { λ ends. ends.results };
+
+    ghost after = { λ ended ends. record ends { results = posted ended ends.results } };
+
+    fn put<R: Wait>(self, rt: &R, posts: &mut PipelinePosts) -> Result<(), JobResult> {
+        posts.results.put(rt, self)
+    }
 }
 
 /// The end of one pipeline's queues where its worker takes, with what the worker waits on.
@@ -199,7 +234,7 @@ impl Posts {
     ghost use Rattle.gate_source.specs.Stops.{Learns};
     ghost use Rattle.gate_run_posts.specs.Asked.{AsksForNext, MayNotAsk};
     ghost use Rattle.gate_run_posts.specs.PipelineEnds.{HandsBack, Judges};
-    ghost use Rattle.gate_run_posts.specs.Ports.{ArePosts, with_manage, with_result};
+    ghost use Rattle.gate_run_posts.specs.Ports.{ArePosts, with_change, with_manage, with_result};
 
     /// Opens a queue of management events and one of results for each pipeline of a configuration, each with 4,096 places; a cell for the
     /// cause to stop; and one for each generation after the first. The answer has the posts, and the other ends for `serve`.
@@ -235,20 +270,7 @@ impl Posts {
         ensures back { IfErr result (HandsBack manage) }
         ensures judges { Judges (λ ends. ends.management) tenant.0 pipeline.0 self.old.pipelines result }
     {
-        let tenant = tenant.0 as usize;
-        let pipeline = pipeline.0 as usize;
-        if tenant >= self.tenants.len() {
-            return Err(PostFault::NoPipeline(manage));
-        }
-        if pipeline >= self.tenants[tenant].len() {
-            return Err(PostFault::NoPipeline(manage));
-        }
-        let posts = &mut self.tenants[tenant][pipeline];
-        if let Err(back) = posts.management.put(rt, manage) {
-            return Err(PostFault::Full(back));
-        }
-        posts.worker.unpark();
-        Ok(())
+        self.post(rt, tenant, pipeline, manage)
     }
 
     /// Posts a result to a pipeline, after those that wait there, and wakes the pipeline's worker. The call takes no memory.
@@ -267,16 +289,32 @@ impl Posts {
         ensures back { IfErr result (HandsBack ended) }
         ensures judges { Judges (λ ends. ends.results) tenant.0 pipeline.0 self.old.pipelines result }
     {
+        self.post(rt, tenant, pipeline, ended)
+    }
+
+    // Posts a value to a pipeline, and wakes the pipeline's worker.
+    fn post<T: Post, R: Wait>(
+        &mut self,
+        rt: &R,
+        tenant: TenantId,
+        pipeline: PipelineId,
+        value: T,
+    ) -> Result<(), PostFault<T>>
+        ensures posts { OnOk result (self.new ≡ with_change tenant.0 pipeline.0 (T.after value) self.old) }
+        ensures unchanged { OnErr result (self.new ≡ self.old) }
+        ensures back { IfErr result (HandsBack value) }
+        ensures judges { Judges T.end tenant.0 pipeline.0 self.old.pipelines result }
+    {
         let tenant = tenant.0 as usize;
         let pipeline = pipeline.0 as usize;
         if tenant >= self.tenants.len() {
-            return Err(PostFault::NoPipeline(ended));
+            return Err(PostFault::NoPipeline(value));
         }
         if pipeline >= self.tenants[tenant].len() {
-            return Err(PostFault::NoPipeline(ended));
+            return Err(PostFault::NoPipeline(value));
         }
         let posts = &mut self.tenants[tenant][pipeline];
-        if let Err(back) = posts.results.put(rt, ended) {
+        if let Err(back) = value.put(rt, posts) {
             return Err(PostFault::Full(back));
         }
         posts.worker.unpark();
