@@ -17,8 +17,8 @@ use Rattle.gate_status.specs.declared.reply.Reply.TheVariants as reply
 use Rattle.gate_run_posts.specs.declared.posts.PostFault.{PostFault}
 use Rattle.gate_run_posts.specs.declared.posts.PostFault.TheVariants.{NoPipeline, Full}
 use Rattle.gate_run_posts.specs.PipelineEnds.{Judges}
-use Rattle.gate_status.specs.Replies.{ArePostsFor, IsMissing, IsThere, MayReply, addressed, end_of, posted_by, with_posted}
-use Rattle.gate_status.specs.Inner.Replies.{refusal_of}
+use Rattle.gate_status.specs.Replies.{ArePostsFor, IsMissing, IsThere, MayReply, addressed, posted_by, with_posted}
+use Rattle.gate_status.specs.Inner.Replies.{reply_to}
 
 the_same : {X : Type 0} (x y : X) → Some x ≡ Some y → x ≡ y
 the_same x y e = cc
@@ -108,21 +108,10 @@ by_many asked (reply.Refused why) posts = refl
 pub still_for : (config : Config) (asked : Result Command CommandFault) (r : Reply) (posts posts' : PostsView) → ArePostsFor config posts → posts'.pipelines ≡ posted_by asked r posts.pipelines → ArePostsFor config posts'
 still_for config asked r posts posts' fit e = ap (map length) e ∙ by_many asked r posts.pipelines ∙ fit
 
--- ---- what wasn't posted
+-- ---- the reply to a post
 
 module _ {T : Type 0} (config : Config) (posts : List (List PostEnds)) (fit : map length posts ≡ pipeline_counts config) (asked : Result Command CommandFault) (t p : ℕ) (to : addressed asked ≡ Some (t, p)) (kind : PostEnds → PostEnd T) where
-  pub may_post : Judges kind t p posts (Ok (tt {0})) → IsThere config (addressed asked)
-  may_post judged = subst (IsThere config) (sym to) (is_there config posts fit t p judged.0 judged.1)
-
-  pub may_refuse : (fault : PostFault T) → Judges kind t p posts (Err fault) → MayReply config asked (refusal_of fault)
-  may_refuse (NoPipeline value) judged = subst (IsMissing config) (sym to) (is_missing config posts fit t p judged)
-  may_refuse (Full value) judged = subst (IsThere config) (sym to) (is_there config posts fit t p judged.0 judged.1)
-
-module _ {T : Type 0} where
-  pub unposted : (asked : Result Command CommandFault) (fault : PostFault T) (posts : List (List PostEnds)) → posted_by asked (refusal_of fault) posts ≡ posts
-  unposted asked (NoPipeline value) posts = refl
-  unposted asked (Full value) posts = refl
-
-  pub refused_on : (fault : PostFault T) → end_of (refusal_of fault) ≡ None
-  refused_on (NoPipeline value) = refl
-  refused_on (Full value) = refl
+  pub may_reply : (answer : Result (Unit {0}) (PostFault T)) → Judges kind t p posts answer → MayReply config asked (reply_to answer)
+  may_reply (Ok done) judged = subst (IsThere config) (sym to) (is_there config posts fit t p judged.0 judged.1)
+  may_reply (Err (NoPipeline value)) judged = subst (IsMissing config) (sym to) (is_missing config posts fit t p judged)
+  may_reply (Err (Full value)) judged = subst (IsThere config) (sym to) (is_there config posts fit t p judged.0 judged.1)

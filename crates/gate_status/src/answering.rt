@@ -8,7 +8,7 @@ ghost use Rattle.gate_status.specs.Replies.{ArePostsFor, IsLeft, MayReply, NoteA
 ghost use Rattle.gate_status.specs.Status.{status_text};
 ghost use Rattle.gate_status.specs.Talks.{made_by_reply};
 ghost use Rattle.gate_status.specs.Inner.Listened.{WriteRises};
-ghost use Rattle.gate_status.specs.Inner.Replies.{refusal_of};
+ghost use Rattle.gate_status.specs.Inner.Replies.{reply_to};
 ghost use Rattle.gate_status.specs.Inner.Talks.{Talks};
 
 use crate::board::Board;
@@ -18,8 +18,7 @@ use crate::fault::{SessionEnd, SessionFault};
 use crate::reply::Reply;
 use crate::status::status_text;
 use gate_config::Config;
-use gate_items::{JobResult, Manage};
-use gate_record::{Memory, PipelineId, Record, TenantId};
+use gate_record::{Memory, Record};
 use gate_run_posts::{PostFault, Posts, RenewPostFault};
 use gate_source::StopCause;
 use std::io::Write;
@@ -148,57 +147,11 @@ impl Session<'_> {
             },
             Command::Quit => Reply::Bye,
             Command::Manage(tenant, pipeline, manage) => {
-                self.post_manage(rt, posts, tenant, pipeline, manage)
+                reply_to(posts.manage(rt, tenant, pipeline, manage))
             }
             Command::Result(tenant, pipeline, ended) => {
-                self.post_result(rt, posts, tenant, pipeline, ended)
+                reply_to(posts.result(rt, tenant, pipeline, ended))
             }
-        }
-    }
-
-    fn post_manage<X: Wait>(
-        &self,
-        rt: &X,
-        posts: &mut Posts,
-        tenant: TenantId,
-        pipeline: PipelineId,
-        manage: Manage,
-    ) -> Reply
-        requires for_config { ArePostsFor self.now.config.now posts.old }
-        ensures may { MayReply self.now.config.now (Ok (Command.Manage tenant pipeline manage)) result }
-        ensures posted { posts.new.pipelines ≡ posted_by (Ok (Command.Manage tenant pipeline manage)) result posts.old.pipelines }
-        ensures note { posts.new.note ≡ posts.old.note }
-        ensures asked { posts.new.asked ≡ posts.old.asked }
-        ensures left { IsLeft (length posts.old.cells) (length posts.old.asked) result }
-        ensures cells { posts.new.cells ≡ posts.old.cells }
-        ensures goes_on { end_of result ≡ None }
-    {
-        match posts.manage(rt, tenant, pipeline, manage) {
-            Ok(()) => Reply::Posted,
-            Err(fault) => refusal(fault),
-        }
-    }
-
-    fn post_result<X: Wait>(
-        &self,
-        rt: &X,
-        posts: &mut Posts,
-        tenant: TenantId,
-        pipeline: PipelineId,
-        ended: JobResult,
-    ) -> Reply
-        requires for_config { ArePostsFor self.now.config.now posts.old }
-        ensures may { MayReply self.now.config.now (Ok (Command.Result tenant pipeline ended)) result }
-        ensures posted { posts.new.pipelines ≡ posted_by (Ok (Command.Result tenant pipeline ended)) result posts.old.pipelines }
-        ensures note { posts.new.note ≡ posts.old.note }
-        ensures asked { posts.new.asked ≡ posts.old.asked }
-        ensures left { IsLeft (length posts.old.cells) (length posts.old.asked) result }
-        ensures cells { posts.new.cells ≡ posts.old.cells }
-        ensures goes_on { end_of result ≡ None }
-    {
-        match posts.result(rt, tenant, pipeline, ended) {
-            Ok(()) => Reply::Posted,
-            Err(fault) => refusal(fault),
         }
     }
 
@@ -212,12 +165,13 @@ impl Session<'_> {
     }
 }
 
-fn refusal<T: Drop>(fault: PostFault<T>) -> Reply
-    ensures { result ≡ refusal_of fault }
+fn reply_to<T: Drop>(posted: Result<(), PostFault<T>>) -> Reply
+    ensures { result ≡ reply_to posted }
 {
-    match fault {
-        PostFault::NoPipeline(_) => Reply::NoPipeline,
-        PostFault::Full(_) => Reply::Full,
+    match posted {
+        Ok(()) => Reply::Posted,
+        Err(PostFault::NoPipeline(_)) => Reply::NoPipeline,
+        Err(PostFault::Full(_)) => Reply::Full,
     }
 }
 
