@@ -40,12 +40,22 @@ fn explain_generations(
     gens: &Generations,
     wanted: Wanted<'_>,
 ) -> Result<String, Fault> {
+    let documents = read_documents(alloc, files, gens)?;
+    explain_documents(documents.as_slice(), gens, wanted, String::new(alloc))
+}
+
+// Reads the documents from which these generations were made.
+fn read_documents<'c>(
+    alloc: Global,
+    files: &[Vec<u8>],
+    gens: &'c Generations,
+) -> Result<Vec<Document<'c>>, Memory> {
     let mut documents = Vec::new(alloc);
     for (place, file) in files.iter().enumerate() {
         let config = gens.generation(number_of(place));
         documents.push(Document::read(alloc, config, file.as_slice())?)?;
     }
-    explain_documents(documents.as_slice(), gens, wanted, String::new(alloc))
+    Ok(documents)
 }
 
 fn explain_documents(

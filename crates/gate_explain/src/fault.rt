@@ -1,7 +1,6 @@
 //! Why `gate_explain` fails, with the exit status of each fault.
 
 use gate_record::Memory;
-use std::alloc::{AllocError, AllocFailed};
 use std::fmt;
 
 /// Why nothing is explained. The text is printed on standard error after `fault: `.
@@ -40,18 +39,6 @@ impl fmt::Display for Fault {
             Fault::Usage => f.write_str("usage"),
             Fault::Faulty(text) => f.write_str(text.as_str()),
         }
-    }
-}
-
-impl From<AllocError> for Fault {
-    fn from(_refused: AllocError) -> Fault {
-        Fault::Memory
-    }
-}
-
-impl<T: Drop> From<AllocFailed<T>> for Fault {
-    fn from(_refused: AllocFailed<T>) -> Fault {
-        Fault::Memory
     }
 }
 

@@ -2,6 +2,7 @@
 use crate::explaining::{Wanted, explain};
 use crate::fault::Fault;
 use crate::table::push_settings;
+use gate_record::Memory;
 use std::fs;
 use std::io::ErrorKind;
 use std::rt::Files;
@@ -59,7 +60,7 @@ fn words_in(words: &[String]) -> Option<Words<'_>> {
 fn files(rt: &(impl Files + AllocGlobal), paths: &str) -> Result<Vec<Vec<u8>>, Fault> {
     let mut files = Vec::new(rt.alloc());
     for path in paths.split(',') {
-        files.push(file(rt, path)?)?;
+        files.push(file(rt, path)?).map_err(Memory::from)?;
     }
     Ok(files)
 }
@@ -69,7 +70,7 @@ fn file(rt: &(impl Files + AllocGlobal), path: &str) -> Result<Vec<u8>, Fault> {
         Ok(bytes) => Ok(bytes),
         Err(error) => match error.kind() {
             ErrorKind::OutOfMemory => Err(Fault::Memory),
-            _ => Err(Fault::File(String::from_str(rt.alloc(), path)?)),
+            _ => Err(Fault::File(String::from_str(rt.alloc(), path).map_err(Memory::from)?)),
         },
     }
 }

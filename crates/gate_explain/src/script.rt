@@ -14,9 +14,13 @@ use gate_line::{first_line, is_skipped};
 
 /// Adds what each line of a script did. `Faulty` says that a line stands for nothing.
 pub fn push_script(out: &mut String, gens: &Generations, script: &[u8]) -> Result<(), Fault> {
-    out.push_str("\nThe script, line by line:\n")?;
+    push_heading(out)?;
     let mut player = Player::new(*out.allocator(), gens)?;
     push_lines(out, &mut player, script)
+}
+
+fn push_heading(out: &mut String) -> Added {
+    Ok(out.push_str("\nThe script, line by line:\n")?)
 }
 
 fn push_lines(out: &mut String, player: &mut Player<'_>, script: &[u8]) -> Result<(), Fault> {
