@@ -33,10 +33,10 @@ pub within : {A : Type 0} (rows : List (Vec A)) (i j : ℕ) (seen row : Vec A) �
 within rows i j seen row low is_seen is_row there = subst (λ (v : Vec _). j < length v.items) (is_seen ∙ any_default rows i seen row low ∙ sym is_row) there
 
 -- the ends of a pipeline that was looked up
-pub found : (tenants : List (Vec PipelinePosts)) (t p : ℕ) (tenant : Vec PipelinePosts) (pipeline : PipelinePosts) → t < length tenants → tenant ≡ slice_index_or tenants t tenant → p < length tenant.items → pipeline ≡ slice_index_or tenant.items p pipeline →
-    at_pipeline t p (map (λ v. map ends_of v.items) tenants) ≡ Some (ends_of pipeline)
-found tenants t p tenant pipeline low is_tenant low' is_pipeline =
+pub found : (tenants : List (Vec PipelinePosts)) (t p : ℕ) (seen tenant : Vec PipelinePosts) (pipeline : PipelinePosts) → t < length tenants → seen ≡ slice_index_or tenants t seen → tenant ≡ slice_index_or tenants t tenant → p < length seen.items →
+    pipeline ≡ slice_index_or tenant.items p pipeline → at_pipeline t p (map (λ v. map ends_of v.items) tenants) ≡ Some (ends_of pipeline)
+found tenants t p seen tenant pipeline low is_seen is_tenant there is_pipeline =
     ap (option_and_then (λ pipelines. slice_get pipelines p)) (got (λ (v : Vec PipelinePosts). map ends_of v.items) tenants t tenant low)
     ∙ ap (λ (v : Vec PipelinePosts). slice_get (map ends_of v.items) p) (sym is_tenant)
-    ∙ got ends_of tenant.items p pipeline low'
+    ∙ got ends_of tenant.items p pipeline (within tenants t p seen tenant low is_seen is_tenant there)
     ∙ ap (λ x. Some (ends_of x)) (sym is_pipeline)

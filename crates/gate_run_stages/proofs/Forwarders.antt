@@ -31,18 +31,22 @@ Outbox = Unsent TenantId TenantItem
 
 module _ {gens : Generations} {c : ℕ} {forward : Forward} {kept : Option ConnEntry} {head : TakerSeat ConnEntry} {sent : ℕ → List TenantItem} (was : HasSent gens c forward kept head sent)
     (forward' : Forward) (conf : gens_of forward' ≡ gens_of forward) (conn : conn_of forward' ≡ conn_of forward) where
-  -- nothing changed
-  pub still : (kept' : Option ConnEntry) (head' : TakerSeat ConnEntry) → state_of forward' ≡ state_of forward → kept' ≡ kept → head'.taken ≡ head.taken → HasSent gens c forward' kept' head' sent
-  still kept' head' state keeps taken = record {
+  -- nothing more was loaded or sent
+  loaded_alike : (kept' : Option ConnEntry) (head' : TakerSeat ConnEntry) → state_of forward' ≡ state_of forward → was.past.loaded ++ option_to_list kept' ≡ values head'.taken → HasSent gens c forward' kept' head' sent
+  loaded_alike kept' head' state all = record {
     by_gens = conf ∙ was.by_gens;
     of_conn = conn ∙ was.of_conn;
     past = was.past;
     happens = was.happens;
     now = was.now ∙ sym state;
     none_out = was.none_out;
-    loaded = ap (λ (o : Option ConnEntry). was.past.loaded ++ option_to_list o) keeps ∙ was.loaded ∙ ap values (sym taken);
+    loaded = all;
     to_each = was.to_each;
   }
+
+  -- nothing changed
+  pub still : (kept' : Option ConnEntry) (head' : TakerSeat ConnEntry) → state_of forward' ≡ state_of forward → kept' ≡ kept → head'.taken ≡ head.taken → HasSent gens c forward' kept' head' sent
+  still kept' head' state keeps taken = loaded_alike kept' head' state (ap (λ (o : Option ConnEntry). was.past.loaded ++ option_to_list o) keeps ∙ was.loaded ∙ ap values (sym taken))
 
   -- the first item was moved out
   pub moved : (tenant : TenantId) (item : TenantItem) → ((state_of forward').outbox, Some (tenant, item)) ≡ moved_out (state_of forward).outbox.items (state_of forward).outbox →
@@ -66,16 +70,7 @@ module _ {gens : Generations} {c : ℕ} {forward : Forward} {kept : Option ConnE
   module _ (head' : TakerSeat ConnEntry) (x : Tagged ConnEntry) (free : kept ≡ None) (more : head'.taken ≡ head.taken ++ x ∷ []) where
     -- an entry was taken and is kept
     pub kept_one : (e : ConnEntry) → x.value ≡ e → state_of forward' ≡ state_of forward → HasSent gens c forward' (Some e) head' sent
-    kept_one e is state = record {
-      by_gens = conf ∙ was.by_gens;
-      of_conn = conn ∙ was.of_conn;
-      past = was.past;
-      happens = was.happens;
-      now = was.now ∙ sym state;
-      none_out = was.none_out;
-      loaded = taken_more was.past.loaded kept head.taken head'.taken x e was.loaded free is more;
-      to_each = was.to_each;
-    }
+    kept_one e is state = loaded_alike (Some e) head' state (taken_more was.past.loaded kept head.taken head'.taken x e was.loaded free is more)
 
     module _ (empty : (state_of forward).outbox.items ≡ []) where
       none_left : was.past.state.outbox.items ≡ []

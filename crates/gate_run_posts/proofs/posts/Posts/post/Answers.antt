@@ -20,11 +20,10 @@ returns-in-Err-clause-unchanged g c =
 pub returns-in-Err-clause-judges : goal.returns-in-Err-clause-judges
 returns-in-Err-clause-judges g c =
     let low : c.args.tenant.0 < length c.self.inside.tenants.items = search rules in
-    let seen : c.args.pipeline.0 < length c.index.result.now.items = search rules in
-    let low' = within c.self.inside.tenants.items c.args.tenant.0 c.args.pipeline.0 c.index.result.now c.index_mut.result.now low c.index.ensures c.index_mut.ensures.value seen in (
+    let seen : c.args.pipeline.0 < length c.index.result.now.items = search rules in (
       ends_of c.index_mut-posts.result.now,
       ap (λ (view : PostsView). at_pipeline c.args.tenant.0 c.args.pipeline.0 view.pipelines) (sym c.self.view_is)
-          ∙ found c.self.inside.tenants.items c.args.tenant.0 c.args.pipeline.0 c.index_mut.result.now c.index_mut-posts.result.now low c.index_mut.ensures.value low' c.index_mut-posts.ensures.value,
+          ∙ found c.self.inside.tenants.items c.args.tenant.0 c.args.pipeline.0 c.index.result.now c.index_mut.result.now c.index_mut-posts.result.now low c.index.ensures c.index_mut.ensures.value seen c.index_mut-posts.ensures.value,
       c.in-Err.ensures.full,
     )
 
@@ -43,9 +42,8 @@ returns-clause-posts g c =
 pub returns-clause-judges : goal.returns-clause-judges
 returns-clause-judges g c =
     let low : c.args.tenant.0 < length c.self.inside.tenants.items = search rules in
-    let seen : c.args.pipeline.0 < length c.index.result.now.items = search rules in
-    let low' = within c.self.inside.tenants.items c.args.tenant.0 c.args.pipeline.0 c.index.result.now c.index_mut.result.now low c.index.ensures c.index_mut.ensures.value seen in (
+    let seen : c.args.pipeline.0 < length c.index.result.now.items = search rules in (
       ends_of c.index_mut-posts.result.now,
       ap (λ (view : PostsView). at_pipeline c.args.tenant.0 c.args.pipeline.0 view.pipelines) (sym c.self.view_is)
-          ∙ found c.self.inside.tenants.items c.args.tenant.0 c.args.pipeline.0 c.index_mut.result.now c.index_mut-posts.result.now low c.index_mut.ensures.value low' c.index_mut-posts.ensures.value,
+          ∙ found c.self.inside.tenants.items c.args.tenant.0 c.args.pipeline.0 c.index.result.now c.index_mut.result.now c.index_mut-posts.result.now low c.index.ensures c.index_mut.ensures.value seen c.index_mut-posts.ensures.value,
     )
