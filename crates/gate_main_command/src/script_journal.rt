@@ -52,9 +52,10 @@ fn tell_script(
     let _total = script.len();
     let mut world = World::new(alloc, gens)?;
     while let Some(line) = script.pop() {
-        if let Scripted::Step(step) = line {
-            tell_step(&mut world, step, journal)?;
-        }
+        let Scripted::Step(step) = line else {
+            continue;
+        };
+        tell_step(&mut world, step, journal)?;
     }
     tell_ends(&world.report()?, journal);
     Ok(())
