@@ -7,6 +7,7 @@ pub mod Filters
 pub mod Found
 pub mod Jobs
 pub mod Keyed
+pub mod Listed
 pub mod Lookups
 pub mod Steps
 pub mod Structures

@@ -1,6 +1,7 @@
 pub mod CheckText
 pub mod Checks
 pub mod Document
+pub mod FaultTexts
 pub mod Faults
 pub mod Generations
 pub mod InForce

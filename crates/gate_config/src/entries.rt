@@ -1,40 +1,85 @@
 //! Reads the entries of attributes that list patterns, such as `branch`.
-ghost use Rattle.std.specs.Prelude.{◌≡◌, ◌∷◌, [], Some, codes, false, map, unwrap_or, option_and_then};
+ghost use Rattle.std.specs.Prelude.{◌≡◌, ◌∷◌, [], Some, codes, false, map, nat_lt, unwrap_or, option_and_then, option_map};
 ghost use Rattle.std.specs.List.{flat_map};
 ghost use Rattle.serde_json.specs.View.{view};
 ghost use Rattle.gate_rule.specs.Pattern.{text_of};
-ghost use Rattle.gate_config.specs.Checks.{entry_checks_at, entry_key_checks, regex_checks};
-ghost use Rattle.gate_config.specs.Document.{entry_in, entry_said, negates};
+ghost use Rattle.gate_config.specs.Checks.{entry_checks_at, entry_key_checks, pattern_checks, regex_checks};
+ghost use Rattle.gate_config.specs.Document.{EntryTexts, entry_in, entry_said, negates, pattern_texts};
 ghost use Rattle.gate_config.specs.Faults.{Asks, Builds};
 ghost use Rattle.gate_config.specs.Inner.Faults.{Reads, Tests};
 ghost use Rattle.gate_config.specs.Inner.Found.{key_view};
 ghost use Rattle.gate_config.specs.Inner.Steps.{steps_of};
+ghost use Rattle.gate_config.specs.Limits.{most_entries};
 ghost use Rattle.gate_config.specs.Parts.{is_fine, is_flag, is_object, keys_of, optional};
 ghost use Rattle.gate_config.specs.Places.{below};
 ghost use Rattle.gate_config.specs.Texts.{texts_of_entry};
-ghost use Rattle.gate_config.specs.declared.fault.ConfigFault.TheVariants.{Shape};
+ghost use Rattle.gate_config.specs.declared.fault.ConfigFault.TheVariants.{Limit, Shape};
 
 use crate::fault::ConfigFault;
+use crate::limits::MAX_ENTRIES;
+use crate::one_or_list::{Listable, read_one_or_list};
 use crate::parts::{check_object, keys, member, optional_flag, required_text};
 use crate::pattern_table::PatternTable;
 use crate::places::Place;
-use gate_record::Text;
+use gate_record::{Sequence, Text};
 use gate_rule::{Entry, Pattern, PatternFault};
 use serde_json::Value;
 use std::alloc::Global;
 
-// Reads an entry of an attribute that lists patterns: a text, or an object with a text `regex` and an optional `negate`.
-pub(crate) fn read_entry(
+// Reads the entries of an attribute that lists patterns, if it is there: one entry, or a list of entries.
+pub(crate) fn read_patterns(
     alloc: Global,
     table: &mut PatternTable,
-    here: &Place<'_>,
-    value: &Value,
-) -> Result<Entry, ConfigFault>
-    ensures { Reads (entry_checks_at (steps_of here.now) (view value.now)) (λ entry. texts_of_entry entry ≡ entry_in (view value.now)) result }
+    place: &Place<'_>,
+    value: Option<&Value>,
+) -> Result<Sequence<Entry>, ConfigFault>
+    ensures { Reads (pattern_checks (steps_of place.now) (option_map (λ v. view v.now) value.entry))
+        (λ entries. map texts_of_entry entries ≡ pattern_texts (option_map (λ v. view v.now) value.entry)) result }
 {
-    match value.as_str() {
-        Some(text) => Ok(Entry::new(table.pattern_at(alloc, here, text)?, false)),
-        None => read_object(alloc, table, here, value),
+    read_one_or_list(alloc, table, place, value)
+}
+
+impl Listable for Entry {
+    ghost Texts = { EntryTexts };
+
+    ghost texts_of = { texts_of_entry };
+
+    ghost texts_in = { entry_in };
+
+    ghost checks = { entry_checks_at };
+
+    ghost count_checks = { λ place count. [] };
+
+    ghost position_checks = { λ place position. Asks (nat_lt position most_entries) (Limit place) ∷ [] };
+
+    // An entry is a text, or an object with a text `regex` and an optional `negate`.
+    fn read(
+        alloc: Global,
+        table: &mut PatternTable,
+        here: &Place<'_>,
+        value: &Value,
+    ) -> Result<Entry, ConfigFault> {
+        match value.as_str() {
+            Some(text) => Ok(Entry::new(table.pattern_at(alloc, here, text)?, false)),
+            None => read_object(alloc, table, here, value),
+        }
+    }
+
+    // The faults of the first `MAX_ENTRIES` entries come before that of their number.
+    fn check_count(_alloc: Global, _place: &Place<'_>, _count: usize) -> Result<(), ConfigFault> {
+        Ok(())
+    }
+
+    // The error is `Limit` at the attribute if it has more than `MAX_ENTRIES` entries.
+    fn check_position(
+        alloc: Global,
+        place: &Place<'_>,
+        position: usize,
+    ) -> Result<(), ConfigFault> {
+        if position >= MAX_ENTRIES {
+            return Err(ConfigFault::Limit(place.path(alloc)?));
+        }
+        Ok(())
     }
 }
 

@@ -1,6 +1,7 @@
 //! `ConfigFault`, why a document is no configuration.
-ghost use Rattle.std.specs.Prelude.{◌≡◌};
+ghost use Rattle.std.specs.Prelude.{◌≡◌, Some};
 ghost use Rattle.gate_config.specs.declared.fault.ConfigFault.TheVariants.{Memory as Refused};
+ghost use Rattle.gate_config.specs.FaultTexts.{fault_text};
 
 use crate::path::Path;
 use gate_record::Memory;
@@ -32,6 +33,8 @@ pub enum ConfigFault {
 
 /// Prints the word of the fault, then a space and the path, which may be empty. `memory` and `not-json` have no path.
 impl fmt::Display for ConfigFault {
+    ghost output = { λ fault. Some (fault_text fault) };
+
     fn fmt<W: fmt::Write>(&self, f: &mut fmt::Formatter<W>) -> fmt::Result {
         match self {
             ConfigFault::Memory => f.write_str("memory"),

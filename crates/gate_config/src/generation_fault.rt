@@ -1,6 +1,7 @@
 //! `GenerationFault`, why several documents aren't the generations of one configuration.
-ghost use Rattle.std.specs.Prelude.{◌≡◌};
+ghost use Rattle.std.specs.Prelude.{◌≡◌, Some};
 ghost use Rattle.gate_config.specs.declared.generation_fault.GenerationFault.TheVariants.{Memory as Refused};
+ghost use Rattle.gate_config.specs.FaultTexts.{generation_text};
 
 use crate::fault::ConfigFault;
 use std::alloc::{AllocError, AllocFailed};
@@ -22,6 +23,8 @@ pub enum GenerationFault {
 /// Prints `generations`, `memory`, or the fault of the document. `generation G ` stands before the fault of a document that isn't
 /// the first.
 impl fmt::Display for GenerationFault {
+    ghost output = { λ fault. Some (generation_text fault) };
+
     fn fmt<W: fmt::Write>(&self, f: &mut fmt::Formatter<W>) -> fmt::Result {
         match self {
             GenerationFault::Count => f.write_str("generations"),

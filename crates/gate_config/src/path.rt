@@ -47,18 +47,59 @@ impl Path {
 /// Prints the keys as they are, with `.` before each but the first step, and positions as `[n]`. The path to the whole document
 /// is printed as the empty text.
 impl fmt::Display for Path {
+    ghost use Rattle.std.specs.Prelude.{Some};
+    ghost use Rattle.gate_config.specs.Places.{place_text};
+
+    ghost output = { λ path. Some (place_text path) };
+
     fn fmt<W: fmt::Write>(&self, f: &mut fmt::Formatter<W>) -> fmt::Result {
-        let mut before = "";
-        for step in self.steps() {
-            match step {
-                Step::Member(key) => {
-                    f.write_str(before)?;
-                    f.write_str(key.as_str())?;
-                }
-                Step::Item(position) => write!(f, "[{position}]")?,
-            }
-            before = ".";
+        let Some((first, others)) = self.steps().split_first() else {
+            return Ok(());
+        };
+        let first = Shown {
+            before: "",
+            step: first,
+        };
+        write!(f, "{first}{}", Others(others))
+    }
+}
+
+// The steps after the first one.
+#[derive(Clone, Copy)]
+struct Others<'a>(&'a [Step]);
+
+impl fmt::Display for Others<'_> {
+    ghost use Rattle.std.specs.Prelude.{Some, codes};
+    ghost use Rattle.std.specs.List.{flat_map};
+    ghost use Rattle.gate_config.specs.Places.{step_text};
+
+    ghost output = { λ others. Some (flat_map (step_text (codes ".")) others.0.now) };
+
+    fn fmt<W: fmt::Write>(&self, f: &mut fmt::Formatter<W>) -> fmt::Result {
+        for step in self.0 {
+            write!(f, "{}", Shown { before: ".", step })?;
         }
         Ok(())
+    }
+}
+
+// A step, and the text before it if it is a key.
+#[derive(Clone, Copy)]
+struct Shown<'a> {
+    before: &'a str,
+    step: &'a Step,
+}
+
+impl fmt::Display for Shown<'_> {
+    ghost use Rattle.std.specs.Prelude.{Some};
+    ghost use Rattle.gate_config.specs.Places.{step_text};
+
+    ghost output = { λ shown. Some (step_text shown.before.now shown.step.now) };
+
+    fn fmt<W: fmt::Write>(&self, f: &mut fmt::Formatter<W>) -> fmt::Result {
+        match self.step {
+            Step::Member(key) => write!(f, "{}{}", self.before, key.as_str()),
+            Step::Item(position) => write!(f, "[{position}]"),
+        }
     }
 }

@@ -1,27 +1,29 @@
 //! Reads the trigger of a pipeline: its rules for each connection, attribute by attribute.
-ghost use Rattle.std.specs.Prelude.{◌≡◌, ◌∷◌, [], Some, map, option_map, codes};
+ghost use Rattle.std.specs.Prelude.{◌≡◌, ◌∷◌, [], Some, map, nat_le, option_map, codes};
 ghost use Rattle.std.specs.List.{flat_map};
 ghost use Rattle.serde_json.specs.View.{view};
-ghost use Rattle.gate_config.specs.Checks.{each, trigger_checks, connection_checks, rule_checks, rule_checks_at, rule_list_checks, rules_checks, attribute_checks, flag_checks, is_asking};
+ghost use Rattle.gate_config.specs.Checks.{trigger_checks, connection_checks, rule_checks_at, rules_checks, attribute_checks, flag_checks, is_asking};
 ghost use Rattle.gate_config.specs.Inner.Attributes.{unlisted, with_attribute};
-ghost use Rattle.gate_config.specs.Document.{flag, rule_texts, rules_at, rules_under};
+ghost use Rattle.gate_config.specs.Document.{RuleTexts, flag, rule_texts, rules_at, rules_under};
 ghost use Rattle.gate_config.specs.Inner.Found.{key_view};
 ghost use Rattle.gate_config.specs.Faults.{Asks};
 ghost use Rattle.gate_config.specs.Inner.Faults.{Reads, Tests};
 ghost use Rattle.gate_config.specs.Inner.Steps.{steps_of};
+ghost use Rattle.gate_config.specs.Limits.{most_rules};
 ghost use Rattle.gate_config.specs.Parts.{is_there, keys_of, optional};
 ghost use Rattle.gate_config.specs.Places.{below};
 ghost use Rattle.gate_config.specs.Texts.{texts_of_rule};
-ghost use Rattle.gate_config.specs.declared.fault.ConfigFault.TheVariants.{Shape};
+ghost use Rattle.gate_config.specs.declared.fault.ConfigFault.TheVariants.{Limit, Shape};
 
 use crate::approvals::read_approvals;
+use crate::entries::read_patterns;
 use crate::fault::ConfigFault;
 use crate::limits::MAX_RULES;
+use crate::one_or_list::{Listable, read_one_or_list};
 use crate::parts::{
     check_object, check_optional_object, keys, list, member, member_of, optional_flag,
 };
 use crate::pattern_table::PatternTable;
-use crate::patterns::read_patterns;
 use crate::places::Place;
 use gate_record::{Sequence, Text};
 use gate_rule::Rule;
@@ -74,11 +76,11 @@ fn read_connection(
         (λ rules. map texts_of_rule rules ≡ rules_under (option_map (λ v. view v.now) trigger.entry) connection.now) result }
 {
     let here = place.member(connection);
-    read_value(alloc, table, &here, member_of(trigger, connection))
+    read_rules(alloc, table, &here, member_of(trigger, connection))
 }
 
 // Reads a list of rules or one rule, if it is there.
-fn read_value(
+fn read_rules(
     alloc: Global,
     table: &mut PatternTable,
     here: &Place<'_>,
@@ -87,91 +89,52 @@ fn read_value(
     ensures { Reads (rules_checks (steps_of here.now) (option_map (λ v. view v.now) value.entry))
         (λ rules. map texts_of_rule rules ≡ rules_at (option_map (λ v. view v.now) value.entry)) result }
 {
-    match value {
-        None => Ok(Sequence::empty(alloc)),
-        Some(value) => match list(value) {
-            Some(items) => read_rules(alloc, table, here, items),
-            None => read_lone(alloc, table, here, value),
-        },
+    read_one_or_list(alloc, table, here, value)
+}
+
+impl Listable for Rule {
+    ghost Texts = { RuleTexts };
+
+    ghost texts_of = { texts_of_rule };
+
+    ghost texts_in = { rule_texts };
+
+    ghost checks = { rule_checks_at };
+
+    ghost count_checks = { λ here count. Asks (nat_le count most_rules) (Limit here) ∷ [] };
+
+    ghost position_checks = { λ here position. [] };
+
+    // A rule is an object of attributes, of which `event` is required.
+    fn read(
+        alloc: Global,
+        table: &mut PatternTable,
+        here: &Place<'_>,
+        rule: &Value,
+    ) -> Result<Rule, ConfigFault> {
+        check_object(alloc, here, rule)?;
+        let keys = keys(alloc, Some(rule))?;
+        let read = read_attributes(alloc, table, here, rule, keys.as_slice())?;
+        check_listed(alloc, here, rule)?;
+        Ok(read)
     }
-}
 
-// Reads the one rule that stands in place of a list.
-fn read_lone(
-    alloc: Global,
-    table: &mut PatternTable,
-    here: &Place<'_>,
-    value: &Value,
-) -> Result<Sequence<Rule>, ConfigFault>
-    ensures { Reads (rule_checks_at (steps_of here.now) (view value.now))
-        (λ rules. map texts_of_rule rules ≡ rule_texts (view value.now) ∷ []) result }
-{
-    let rule = read_rule(alloc, table, here, value)?;
-    let mut rules = Vec::new(alloc);
-    rules.push(rule)?;
-    Ok(Sequence::new(rules))
-}
-
-// Reads a list of rules. The error is `Limit` at the list if it has more than `MAX_RULES` rules.
-fn read_rules(
-    alloc: Global,
-    table: &mut PatternTable,
-    here: &Place<'_>,
-    items: &[Value],
-) -> Result<Sequence<Rule>, ConfigFault>
-    ensures { Reads (rule_list_checks (steps_of here.now) (map view items.now))
-        (λ rules. map texts_of_rule rules ≡ map rule_texts (map view items.now)) result }
-{
-    if items.len() > MAX_RULES {
-        return Err(ConfigFault::Limit(here.path(alloc)?));
+    // The error is `Limit` at the list if it has more than `MAX_RULES` rules.
+    fn check_count(alloc: Global, here: &Place<'_>, count: usize) -> Result<(), ConfigFault> {
+        if count > MAX_RULES {
+            return Err(ConfigFault::Limit(here.path(alloc)?));
+        }
+        Ok(())
     }
-    read_items(alloc, table, here, items)
-}
 
-fn read_items(
-    alloc: Global,
-    table: &mut PatternTable,
-    place: &Place<'_>,
-    items: &[Value],
-) -> Result<Sequence<Rule>, ConfigFault>
-    ensures { Reads (each (rule_checks (steps_of place.now)) (map view items.now))
-        (λ rules. map texts_of_rule rules ≡ map rule_texts (map view items.now)) result }
-{
-    let mut rules = Vec::new(alloc);
-    for (position, item) in items.iter().enumerate() {
-        rules.push(read_item(alloc, table, place, position, item)?)?;
+    // The number of all rules was checked before.
+    fn check_position(
+        _alloc: Global,
+        _here: &Place<'_>,
+        _position: usize,
+    ) -> Result<(), ConfigFault> {
+        Ok(())
     }
-    Ok(Sequence::new(rules))
-}
-
-// Reads the rule at this position of a list.
-fn read_item(
-    alloc: Global,
-    table: &mut PatternTable,
-    place: &Place<'_>,
-    position: usize,
-    item: &Value,
-) -> Result<Rule, ConfigFault>
-    ensures { Reads (rule_checks (steps_of place.now) position (view item.now)) (λ rule. texts_of_rule rule ≡ rule_texts (view item.now)) result }
-{
-    let here = place.item(position);
-    read_rule(alloc, table, &here, item)
-}
-
-// Reads a rule: an object of attributes, of which `event` is required.
-fn read_rule(
-    alloc: Global,
-    table: &mut PatternTable,
-    here: &Place<'_>,
-    rule: &Value,
-) -> Result<Rule, ConfigFault>
-    ensures { Reads (rule_checks_at (steps_of here.now) (view rule.now)) (λ read. texts_of_rule read ≡ rule_texts (view rule.now)) result }
-{
-    check_object(alloc, here, rule)?;
-    let keys = keys(alloc, Some(rule))?;
-    let read = read_attributes(alloc, table, here, rule, keys.as_slice())?;
-    check_listed(alloc, here, rule)?;
-    Ok(read)
 }
 
 // Reads the attributes of a rule, in byte order of their keys.

@@ -1,4 +1,5 @@
 pub mod Batches
+pub mod FaultText
 pub mod FreeViews
 pub mod Inner
 pub mod Laws

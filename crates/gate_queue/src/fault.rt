@@ -1,4 +1,6 @@
 //! What opening, putting and settling of a bounded queue may fail with.
+ghost use Rattle.std.specs.Prelude.{Some, codes};
+ghost use Rattle.gate_queue.specs.FaultText.{open_text};
 
 use crate::queue::EventQueue;
 use crate::seats::{Head, Tail};
@@ -15,11 +17,14 @@ pub enum OpenFault {
 }
 
 impl fmt::Display for OpenFault {
+    ghost output = { λ fault. Some (open_text fault) };
+
     fn fmt<W: fmt::Write>(&self, f: &mut fmt::Formatter<W>) -> fmt::Result {
-        f.write_str(match self {
+        let word = match self {
             OpenFault::Capacity => "capacity",
             OpenFault::Memory => "memory",
-        })
+        };
+        f.write_str(word)
     }
 }
 
@@ -30,6 +35,8 @@ impl Error for OpenFault {}
 pub struct Full<T>(pub T);
 
 impl<T> fmt::Display for Full<T> {
+    ghost output = { λ full. Some (codes "full") };
+
     fn fmt<W: fmt::Write>(&self, f: &mut fmt::Formatter<W>) -> fmt::Result {
         f.write_str("full")
     }

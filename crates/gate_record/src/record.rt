@@ -1,5 +1,6 @@
 //! `Record`, one line of Gerrit's event stream, and the longest line that is read.
-ghost use Rattle.std.specs.Prelude.{◌≡◌, IfOk};
+ghost use Rattle.std.specs.Prelude.{◌≡◌, IfOk, OnErr};
+ghost use Rattle.gate_record.specs.Lines.{IsLine};
 
 use crate::memory::Memory;
 use crate::sequence::Sequence;
@@ -20,7 +21,8 @@ pub enum Record {
 impl Record {
     /// Returns a copy of the record. An oversize record takes no memory.
     pub fn copy(&self, alloc: Global) -> Result<Record, Memory>
-        ensures { IfOk result (λ copy. copy ≡ self.now) }
+        ensures copies { IfOk result (λ copy. copy ≡ self.now) }
+        ensures needs { OnErr result (IsLine self.now) }
     {
         match self {
             Record::Line(bytes) => Ok(Record::Line(Sequence::new(bytes.as_slice().to_vec(alloc)?))),

@@ -1,5 +1,6 @@
 pub mod Built
 pub mod Entry
+pub mod FaultText
 pub mod Inner
 pub mod Laws
 pub mod Pattern

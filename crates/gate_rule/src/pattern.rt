@@ -1,8 +1,9 @@
 //! `Pattern`, a regular expression of a trigger rule, and the two ways in which a text is searched for it.
-ghost use Rattle.std.specs.Prelude.{◌≡◌, IfErr, IfOk};
+ghost use Rattle.std.specs.Prelude.{◌≡◌, IfErr, IfOk, Some};
 ghost use Rattle.regex.specs.Strings.{regex_source};
 ghost use Rattle.gate_rule.specs.Built.{IsNoPattern, IsReadByDefault};
 ghost use Rattle.gate_rule.specs.Inner.Built.{IsNotBuilt};
+ghost use Rattle.gate_rule.specs.FaultText.{fault_text};
 
 use crate::matcher::Matcher;
 use gate_record::{Memory, Shared};
@@ -38,6 +39,8 @@ pub(crate) enum BuildFault {
 }
 
 impl fmt::Display for PatternFault {
+    ghost output = { λ fault. Some (fault_text fault) };
+
     fn fmt<W: fmt::Write>(&self, f: &mut fmt::Formatter<W>) -> fmt::Result {
         f.write_str(match self {
             PatternFault::Memory => "memory",

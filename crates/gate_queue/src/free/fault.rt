@@ -1,4 +1,5 @@
 //! What putting into a queue without a bound, and settling it, may fail with.
+ghost use Rattle.std.specs.Prelude.{Some, codes};
 
 use super::queue::FreeQueue;
 use super::seats::{FreeHead, FreeTail};
@@ -10,6 +11,8 @@ use std::fmt;
 pub struct Memory<T>(pub T);
 
 impl<T> fmt::Display for Memory<T> {
+    ghost output = { λ memory. Some (codes "memory") };
+
     fn fmt<W: fmt::Write>(&self, f: &mut fmt::Formatter<W>) -> fmt::Result {
         f.write_str("memory")
     }

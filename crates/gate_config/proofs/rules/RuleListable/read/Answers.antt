@@ -3,7 +3,7 @@ use Rattle.serde_json.specs.View.{view}
 use Rattle.gate_config.proofs.Faults.{exit, fault_later, fault_front, fault_rest, passed_more, passed_both}
 use Rattle.gate_config.specs.Inner.Found.{key_view}
 use Rattle.gate_config.specs.Parts.{keys_of}
-use Rattle.gate_config.proofs.rules.read_rule.Goals as goal
+use Rattle.gate_config.proofs.rules.RuleListable.read.Goals as goal
 
 pub returns-in_err-read : goal.returns-in_err-read
 returns-in_err-read c =
