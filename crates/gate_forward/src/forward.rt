@@ -147,6 +147,13 @@ impl<'c> Forward<'c> {
         self.outbox.put_back(item);
     }
 
+    /// Returns the generations of the configuration by which entries are forwarded.
+    pub fn generations(&self) -> &Generations
+        ensures { result.now ≡ gens_of self.now }
+    {
+        self.gens
+    }
+
     /// Returns whether nothing is left to be sent.
     pub fn is_empty(&self) -> bool
         ensures { result ≡ (length (state_of self.now).outbox.items == 0) }
@@ -229,7 +236,8 @@ impl<'c> Forward<'c> {
         number: u64,
         event: &Shared<Event>,
     ) -> Result<Option<TenantItem>, Memory>
-        ensures { IfOk result (λ item. item ≡ forwarded_reading (gens_of self.now) tenant.0 (conn_of self.now) (state_of self.now).generation number (reading.Event event.now)) }
+        ensures item { IfOk result (λ item. item ≡ forwarded_reading (gens_of self.now) tenant.0 (conn_of self.now) (state_of self.now).generation number (reading.Event event.now)) }
+        ensures needs { OnErr result (is_listed (config_at (gens_of self.now) (state_of self.now).generation) tenant.0 (conn_of self.now) event.now.project ≡ true) }
     {
         if !self.is_listed(tenant, event.get()) {
             return Ok(None);

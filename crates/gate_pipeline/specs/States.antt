@@ -75,8 +75,7 @@ abbrev pub is_taking : Which → Bool
 is_taking which.Management = true
 is_taking which.Result = true
 is_taking which.Trigger = true
-is_taking which.Held = false
-is_taking which.Finished = false
+is_taking other = false
 
 -- ---- takings
 

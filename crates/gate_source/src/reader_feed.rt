@@ -6,6 +6,7 @@ use crate::split::LineSplit;
 use gate_record::{Memory, Record};
 use std::alloc::Global;
 use std::collections::VecDeque;
+use std::io;
 use std::io::Read;
 use std::sync::Wait;
 
@@ -32,10 +33,10 @@ ghost use Rattle.std.specs.Prelude.{◌<◌, vec_len};
 ghost use Rattle.gate_source.specs.Inner.Streams.{IsOfLine};
 
 impl<R: Read + Drop> ReaderFeed<R> {
-    ghost use Rattle.std.specs.Prelude.{◌-◌, ◌<◌, ◌≤◌, ◌^◌, [], false, Some, take, true, vec_len};
+    ghost use Rattle.std.specs.Prelude.{◌-◌, ◌<◌, ◌≤◌, ◌^◌, [], false, is_err, Some, take, true, vec_len};
     ghost use Rattle.gate_source.specs.Feeds.{Steps, faults_after};
     ghost use Rattle.gate_source.specs.Streams.{still_of, still_told, told_of};
-    ghost use Rattle.gate_source.specs.Inner.Streams.{StepsOver};
+    ghost use Rattle.gate_source.specs.Inner.Streams.{StepsAfter, StepsOver, ends, is_empty, is_end, is_fault};
 
     /// A feed over a reader of which nothing was read.
     pub fn new(alloc: Global, reader: R) -> Result<ReaderFeed<R>, Memory>
@@ -61,7 +62,23 @@ impl<R: Read + Drop> ReaderFeed<R> {
         ensures steps { Steps (still_told [] false self.old.split (R.remaining self.old.reader)) result (still_told self.new.waiting.items self.new.has_ended self.new.split (R.remaining self.new.reader)) }
         ensures faults { self.new.faults ≡ faults_after result self.old.faults }
     {
-        match self.reader.read(self.buffer.as_mut_slice()) {
+        let answer = self.reader.read(self.buffer.as_mut_slice());
+        self.after_read(answer)
+    }
+
+    // Gives the step after a read: the first record that its bytes complete, the end if it gave none, or a fault if it failed.
+    fn after_read(&mut self, answer: io::Result<usize>) -> FeedStep
+        requires few { self.old.faults < 2 ^ 64 - 1 }
+        requires count { IfOk answer (λ count. count ≤ vec_len self.old.buffer) }
+        requires none { self.old.waiting.items ≡ [] }
+        requires goes_on { self.old.has_ended ≡ false }
+        ensures fault { is_fault result ≡ is_err answer }
+        ensures ended { is_end result ≡ ends answer self.old.split }
+        ensures steps { StepsAfter answer self.old.split self.old.buffer.items result self.new.waiting.items self.new.has_ended self.new.split }
+        ensures reader { self.new.reader ≡ self.old.reader }
+        ensures faults { self.new.faults ≡ faults_after result self.old.faults }
+    {
+        match answer {
             Ok(0) => self.end(),
             Ok(count) => self.feed(count),
             Err(_) => {
@@ -79,6 +96,8 @@ impl<R: Read + Drop> ReaderFeed<R> {
         ensures reader { self.new.reader ≡ self.old.reader }
         ensures goes_on { self.new.has_ended ≡ self.old.has_ended }
         ensures faults { self.new.faults ≡ faults_after result self.old.faults }
+        ensures no_fault { is_fault result ≡ false }
+        ensures no_end { is_end result ≡ false }
     {
         match self.split.feed(&self.buffer[..count]) {
             Ok(records) => {
@@ -100,6 +119,8 @@ impl<R: Read + Drop> ReaderFeed<R> {
         ensures reader { self.new.reader ≡ self.old.reader }
         ensures ended { self.new.has_ended ≡ true }
         ensures faults { self.new.faults ≡ faults_after result self.old.faults }
+        ensures no_fault { is_fault result ≡ false }
+        ensures none_left { is_end result ≡ is_empty (still_of self.old.split []) }
     {
         self.has_ended = true;
         let split = std::mem::replace(&mut self.split, LineSplit::new(self.alloc));

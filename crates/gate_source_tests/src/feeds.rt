@@ -3,6 +3,7 @@ ghost use Rattle.std.specs.Prelude.{◌+◌, ◌<◌, ◌≤◌};
 
 use gate_source::{FeedStep, ReaderFeed, RecordFeed};
 use gate_test_lines::is_line;
+use std::cell::Cell;
 use std::io;
 use std::io::{ErrorKind, Read};
 use std::process::Abort;
@@ -62,5 +63,38 @@ fn a_line_that_is_cut_by_a_failing_read_is_no_record(rt: HostRuntime) -> Result<
     steps(&rt, &mut feed, "pending");
     steps(&rt, &mut feed, "fault");
     assert!(&rt; feed.faults() == 1);
+    Ok(())
+}
+
+// A reader that counts its reads. The first read fails, and each later one gives two lines.
+#[derive(Drop)]
+struct Counting<'a> {
+    reads: &'a Cell<u32>,
+}
+
+impl<'a> Read for Counting<'a> {
+    fn read(&mut self, buf: &mut [u8]) -> io::Result<usize> {
+        let before = self.reads.get();
+        self.reads.set(before.saturating_add(1));
+        if before == 0 {
+            return Err(io::Error::from(ErrorKind::ConnectionReset));
+        }
+        let mut lines = b"a\nb\n".as_slice();
+        lines.read(buf)
+    }
+}
+
+#[test]
+fn a_step_reads_at_most_once(rt: HostRuntime) -> Result<(), Fail> {
+    let reads = Cell::new(0);
+    let mut feed = ReaderFeed::new(rt.alloc(), Counting { reads: &reads })?;
+    steps(&rt, &mut feed, "fault");
+    assert!(&rt; reads.get() == 1);
+    steps(&rt, &mut feed, "a");
+    assert!(&rt; reads.get() == 2);
+    steps(&rt, &mut feed, "b");
+    assert!(&rt; reads.get() == 2);
+    steps(&rt, &mut feed, "a");
+    assert!(&rt; reads.get() == 3);
     Ok(())
 }
