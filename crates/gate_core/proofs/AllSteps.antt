@@ -40,7 +40,7 @@ use Rattle.gate_core.specs.History.{History, finished, manage_posts, result_post
 use Rattle.gate_core.specs.History.{processed_by}
 use Rattle.gate_core.specs.Pipelines.{answer_of, first_ended, first_managed, first_triggered, found_where, passed_on, post_manage, post_result, took, turned, turned_by}
 use Rattle.gate_core.specs.States.{ConnectionState, TenantState, State, with_gathered}
-use Rattle.gate_core.specs.Steps.{close, fetch, fetched, give, give_from, give_to, match_from, is_past, match_gathered, offer, renew, send_from, on_pipeline, send_of, send_to, step_of, take, take_from}
+use Rattle.gate_core.specs.Steps.{close, fetch, fetched, give, give_from, give_to, match_from, match_gathered, offer, renew, send_from, on_pipeline, send_of, send_to, step_of, take, take_from}
 use Rattle.gate_core.proofs.Going.{closed_holds, offered_holds, renewed_holds, taken_holds}
 use Rattle.gate_core.proofs.Fits.{IsNoTrigger, PipeFits, fits_end, fits_manage_post, fits_passed, fits_result_post, fits_same, frees_action, frees_event, holds_ended, holds_event, holds_managed}
 use Rattle.gate_core.proofs.Pushes.{IsQuiet, or_false, or_true, puts_quiet, quiet_closed, quiet_full, quiet_idle, quiet_passed, same_quiet, takes_quiet}
@@ -142,16 +142,11 @@ module _ (gens : Generations) (h : History) (state : State) (holds : Holds gens 
   renew_goes d None at = quiet gens h state (step.Renew d) Idle quiet_idle holds
   renew_goes d (Some k) at = renew_by d k at k.closed (nat_le (count_of gens) (length k.renewals + 1)) (nat_lt (length k.queue) 4096) refl refl
 
-  taken_by : (d : ConnId) (k : ConnectionState) → slice_get state.connections d.0 ≡ Some k → (x : ConnEntry) (queue : List ConnEntry) → k.unsent ≡ [] → k.queue ≡ x ∷ queue → (past : Bool) →
-      ConnGoes (step.Take d) d.0 (if past then (k, Idle) else (record k { queue = queue; generation = behind k.generation x; unsent = sends gens d.0 k.generation x }, Moved))
-  taken_by d k at x queue e f true = conn_quiet gens h state (step.Take d) Idle d.0 k at quiet_idle holds
-  taken_by d k at x queue e f false = taken_holds gens h state d k x queue at e f holds
-
   take_by : (d : ConnId) (k : ConnectionState) → slice_get state.connections d.0 ≡ Some k → (unsent : List (TenantId × TenantItem)) (queue : List ConnEntry) → k.unsent ≡ unsent → k.queue ≡ queue →
       ConnGoes (step.Take d) d.0 (take_from gens d.0 unsent queue k)
   take_by d k at (first ∷ unsent) queue e f = conn_quiet gens h state (step.Take d) Idle d.0 k at quiet_idle holds
   take_by d k at [] [] e f = conn_quiet gens h state (step.Take d) Idle d.0 k at quiet_idle holds
-  take_by d k at [] (x ∷ queue) e f = taken_by d k at x queue e f (is_past gens k.generation x)
+  take_by d k at [] (x ∷ queue) e f = taken_holds gens h state d k x queue at e f holds
 
   take_goes : (d : ConnId) (o : Option ConnectionState) → slice_get state.connections d.0 ≡ o → Goes gens h (step.Take d) (with_connection (take gens d.0) d.0 o state)
   take_goes d None at = quiet gens h state (step.Take d) Idle quiet_idle holds

@@ -18,6 +18,7 @@ use Rattle.gate_core.specs.States.{ConnectionState}
 use Rattle.gate_core.specs.Steps.{first, new_connection, new_tenant}
 use Rattle.gate_core.specs.Worlds.{AcceptedAtMost}
 use Rattle.gate_core.proofs.Fits.{fits_new}
+use Rattle.gate_core.proofs.Moving.{AllHave}
 use Rattle.gate_core.proofs.Streams.{ConnHolds, Holds, PipeHolds, TenantHolds, count_of, generation_of, unsent_of, on_way, queue_of}
 use Rattle.gate_delivery.proofs.Maps.{the_same}
 
@@ -86,8 +87,14 @@ module _ (gens : Generations) where
     others = λ t p none. (refl, refl);
   }
 
+that_one : {X : Type 0} (x y : X) (o : Option X) → AllSame x o → o ≡ Some y → x ≡ y
+that_one x y None nothing e = absurd (cc)
+that_one x y (Some z) that e = the_same z y e
+
+-- in the beginning each connection is new
+pub first_have : (gens : Generations) (P : ConnectionState → Type 0) → P new_connection → AllHave P (first gens)
+first_have gens P new c conn at = subst P (that_one new_connection conn (slice_get (first gens).connections c) (all_same new_connection (connections_of gens.first) c) at) new
+
 -- nothing is accepted in the beginning
 pub first_counts : (gens : Generations) → AcceptedAtMost 0 (first gens)
-first_counts gens c conn at =
-    let none : conn.accepted ≡ 0 = ap count_of (sym at) ∙ (first_conns gens c).count in
-    omega (arith, none)
+first_counts gens = first_have gens (λ (conn : ConnectionState). conn.accepted ≤ 0) (omega arith)

@@ -13,11 +13,14 @@ use Rattle.gate_core.specs.Promises.{AnswersRightly, IsRightAnswer}
 use Rattle.gate_core.specs.States.{State}
 use Rattle.gate_core.specs.Steps.{first, refused_step, step_of}
 use Rattle.gate_core.proofs.AllSteps.{holds_on}
-use Rattle.gate_core.proofs.Beginnings.{first_holds}
+use Rattle.gate_core.specs.Worlds.{AllRenewWithin, RenewsWithin}
+use Rattle.gate_core.proofs.Beginnings.{first_have, first_holds}
 use Rattle.gate_core.proofs.Holding.{next_is_held}
+use Rattle.gate_core.proofs.Moving.{after_refusal, after_step}
 use Rattle.gate_core.proofs.Outcomes.{delivers}
 use Rattle.gate_core.proofs.Processing.{keeps, processes}
 use Rattle.gate_core.proofs.Refusals.{refused_holds}
+use Rattle.gate_core.proofs.Renewing.{new_within, renewing_moves}
 use Rattle.gate_core.proofs.Reported.{reported}
 use Rattle.gate_core.proofs.RightAnswers.{right_answer}
 use Rattle.gate_core.proofs.Streams.{Holds}
@@ -49,6 +52,12 @@ module _ (gens : Generations) where
     right_along (h ++ (s, answer) ∷ []) next attempts chain.1 (answered_holds h state s answer next chain.0 holds),
   )
 
+  within_along : (state : State) (attempts : List Attempt) → IsChain gens state attempts → AllRenewWithin gens state → AllRenewWithin gens (left_behind state attempts)
+  within_along state [] chain all = all
+  within_along state ((s, Err memory, next) ∷ attempts) chain all = within_along next attempts chain.1 (subst (AllRenewWithin gens) (sym chain.0) (after_refusal gens (renewing_moves gens) state all s))
+  within_along state ((s, Ok answer, next) ∷ attempts) chain all =
+      within_along next attempts chain.1 (subst (λ (after : State × Answer). AllRenewWithin gens after.0) (sym chain.0) (after_step gens (renewing_moves gens) state all s))
+
 pub every_chain : Laws → EachGetsItsOwn → NothingIsLost → OutcomesAreSaid → CancelledChangesNothing → EveryChainDelivers
 every_chain laws own lossless says late = record {
   delivers = λ gens attempts chain. delivers own lossless gens (answered_history attempts) (left_behind (first gens) attempts) (holds_all gens laws attempts chain);
@@ -56,5 +65,6 @@ every_chain laws own lossless says late = record {
   report = λ gens attempts chain. reported gens (answered_history attempts) (left_behind (first gens) attempts) (holds_all gens laws attempts chain);
   processes = λ gens attempts chain. processes own lossless late gens (answered_history attempts) (left_behind (first gens) attempts) (holds_all gens laws attempts chain);
   keeps = λ gens attempts chain. keeps says gens (answered_history attempts) (left_behind (first gens) attempts) (holds_all gens laws attempts chain);
+  within = λ gens attempts chain. within_along gens (first gens) attempts chain (first_have gens (RenewsWithin gens) (new_within gens));
   held = λ gens state attempts chain t p pipe waits at held. next_is_held gens state attempts chain t p pipe waits at held;
 }

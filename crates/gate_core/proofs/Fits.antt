@@ -68,22 +68,8 @@ pub record PipeFits (config : Config) (t p : ℕ) (given : List (PipelineId × P
   pub ends : filter_map resulting (map action_of ts) ++ waiting_ended pipe ≡ rs
 
 pub fits_new : (config : Config) (t p : ℕ) → PipeFits config t p [] (fresh_pipeline config t p) [] false [] []
-fits_new config t p = record {
-  taken = [];
-  parts = refl;
-  marked = refl;
-  finishes = refl;
-  tenant = refl;
-  number = refl;
-  plain = tt;
-  stamps = refl;
-  asks = refl;
-  does = refl;
-  items = refl;
-  outcome = refl;
-  manages = refl;
-  ends = refl;
-}
+fits_new config t p =
+    record { taken = []; parts = refl; marked = refl; finishes = refl; tenant = refl; number = refl; plain = tt; stamps = refl; asks = refl; does = refl; items = refl; outcome = refl; manages = refl; ends = refl }
 
 pub fits_same : {config : Config} {t p : ℕ} {given : List (PipelineId × PipelineItem)} {pipe : Pipeline} {ts ts' : List Processed} {fin fin' : Bool} {ms ms' : List Manage} {rs rs' : List JobResult} →
     ts ≡ ts' → fin ≡ fin' → ms ≡ ms' → rs ≡ rs' → PipeFits config t p given pipe ts fin ms rs → PipeFits config t p given pipe ts' fin' ms' rs'

@@ -102,7 +102,7 @@ module _ (laws : Laws) (gens : Generations) (t c : ℕ) where
       ∙ sym (way_push 0 (put_by c h) e)
       ∙ ap (forwarded gens t c) (sym put)
 
-generation_more : (g : ℕ) (entries : List ConnEntry) (e : ConnEntry) → generation_behind g (entries ++ e ∷ []) ≡ behind (generation_behind g entries) e
+pub generation_more : (g : ℕ) (entries : List ConnEntry) (e : ConnEntry) → generation_behind g (entries ++ e ∷ []) ≡ behind (generation_behind g entries) e
 generation_more g entries e = fold-append behind g entries (e ∷ [])
 
 -- the generation behind what waits, and behind all that was put
@@ -120,6 +120,17 @@ all_higher n m (x ∷ xs) h all =
     All-cons (λ y. y ≤ m) x xs (omega (arith, h, low)) (all_higher n m xs h (All-tail (λ y. y ≤ n) x xs all))
 
 -- a record that is accepted
+-- what an open connection has put, of which nothing is the end mark
+record IsOpenStill (h : History) (c : ℕ) : Type 0 where
+  shut : closed c h ≡ false
+  was : AreEntriesOf (put_by c h) (beside (renewals c h) (accepted_records c h)) (length (renewals c h)) false
+
+still_open : (gens : Generations) (h : History) (c : ℕ) (k : ConnectionState) → ConnHolds gens h c (Some k) → k.closed ≡ false → IsOpenStill h c
+still_open gens h c k old is_open =
+    let ms = renewals c h in
+    let shut : closed c h ≡ false = sym old.closing ∙ is_open in
+    record { shut = shut; was = subst (AreEntriesOf (put_by c h) (beside ms (accepted_records c h)) (length ms)) shut old.stream }
+
 module _ (gens : Generations) (h : History) (state : State) (d : ConnId) (line : Record) (k : ConnectionState) (at : slice_get state.connections d.0 ≡ Some k) (is_open : k.closed ≡ false) (room : length k.queue < 4096) where
   abbrev h1 : History
   h1 = h ++ (step.Offer d line, Accepted k.accepted) ∷ []
@@ -146,15 +157,14 @@ module _ (gens : Generations) (h : History) (state : State) (d : ConnId) (line :
   stream_more holds old =
       let ms = renewals d.0 h in
       let records = accepted_records d.0 h in
-      let shut : closed d.0 h ≡ false = sym old.closing ∙ is_open in
-      let was : AreEntriesOf (put_by d.0 h) (beside ms records) (length ms) false = subst (AreEntriesOf (put_by d.0 h) (beside ms records) (length ms)) shut old.stream in
+      let still = still_open gens h d.0 k old is_open in
       let more : beside ms (records ++ line ∷ []) ≡ beside ms records ++ (length ms, line) ∷ [] = holds.laws.records.one_record ms records line old.before in
       subst (λ (x : ((List ConnEntry × Bool) × (List (ℕ × Record) × ℕ))). AreEntriesOf x.0.0 x.1.0 x.1.1 x.0.1)
       (λ i. (
-        (sym (put_one_more ∙ ap (λ n. put_by d.0 h ++ entry.Numbered n line ∷ []) (sym (length_beside ms records))) i, sym (stays ∙ shut) i),
+        (sym (put_one_more ∙ ap (λ n. put_by d.0 h ++ entry.Numbered n line ∷ []) (sym (length_beside ms records))) i, sym (stays ∙ still.shut) i),
         (sym ((λ j. beside (renews_none j) (accepts_it j)) ∙ more) i, ap length (sym renews_none) i),
       ))
-      (accepts line was)
+      (accepts line still.was)
 
   pub offered_holds : Holds gens h state → Holds gens h1 (record state { connections = slice_set state.connections d.0 k1 })
   offered_holds holds =
@@ -259,15 +269,14 @@ module _ (gens : Generations) (h : History) (state : State) (d : ConnId) (k : Co
   stream_renews holds old =
       let ms = renewals d.0 h in
       let records = accepted_records d.0 h in
-      let shut : closed d.0 h ≡ false = sym old.closing ∙ is_open in
-      let was : AreEntriesOf (put_by d.0 h) (beside ms records) (length ms) false = subst (AreEntriesOf (put_by d.0 h) (beside ms records) (length ms)) shut old.stream in
+      let still = still_open gens h d.0 k old is_open in
       let longer : length (ms ++ length records ∷ []) ≡ suc (length ms) = let one = length-append ms (length records ∷ []) in omega (arith, one) in
       subst (λ (x : ((List ConnEntry × Bool) × (List (ℕ × Record) × ℕ))). AreEntriesOf x.0.0 x.1.0 x.1.1 x.0.1)
       (λ i. (
-        (sym put_the_renewal i, sym (renew_stays ∙ shut) i),
+        (sym put_the_renewal i, sym (renew_stays ∙ still.shut) i),
         (sym ((λ j. beside (renews_it j) (renew_accepts_none j)) ∙ holds.laws.records.one_renewal ms records) i, sym (ap length renews_it ∙ longer) i),
       ))
-      (renews was)
+      (renews still.was)
 
   pub renewed_holds : Holds gens h state → Holds gens h4 (record state { connections = slice_set state.connections d.0 k4 })
   renewed_holds holds =

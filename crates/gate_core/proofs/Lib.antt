@@ -14,11 +14,13 @@ pub mod ItemsSeen
 pub mod Lines
 pub mod LowerLaws
 pub mod Makings
+pub mod Moving
 pub mod Outcomes
 pub mod Processing
 pub mod Pushes
 pub mod Puts
 pub mod Refusals
+pub mod Renewing
 pub mod Reported
 pub mod RightAnswers
 pub mod Runs

@@ -1,6 +1,6 @@
 -- Steps of a world, by what one of its connections or one of its tenants does.
-use Rattle.std.proofs.Common.{◌≡◌, ◌∙◌, sym, ap, subst, ℕ, List, map, Some, None, Result, Ok, Err, slice_set}
-use Rattle.std.specs.Prelude.{option_and_then, slice_get}
+use Rattle.std.proofs.Common.{◌≡◌, ◌∙◌, ◌<◌, sym, ap, subst, ℕ, List, length, map, Some, None, Result, Ok, Err, slice_set}
+use Rattle.std.specs.Prelude.{option_and_then, slice_get, slice_index_or}
 use Rattle.std.proofs.lemmas.List.{map-set}
 use Rattle.gate_record.specs.declared.memory.Memory.{Memory}
 use Rattle.gate_config.specs.declared.generations.Generations.{Generations}
@@ -20,7 +20,7 @@ use Rattle.gate_core.specs.Steps.{on_connection, on_pipeline, on_tenant, refused
 use Rattle.gate_core.specs.Inner.Steps.{refused_at, with_connection, with_tenant}
 use Rattle.gate_core.specs.Views.{connection_view, tenant_view}
 use Rattle.gate_core.specs.Inner.Views.{AreConnections, AreTenants, IsConnection, IsTenant, gens_of_connection, gens_of_tenant, number_of_connection, number_of_tenant}
-use Rattle.gate_core.proofs.Elements.{each_set, seen, seen_same, unseen}
+use Rattle.gate_core.proofs.Elements.{each_set, lent, seen, seen_same, unseen}
 use Rattle.gate_core.proofs.Tenants.{posts, turns}
 
 -- a fact at the configuration and the number that a worker has is one at the world's
@@ -40,6 +40,11 @@ pub still_tenants : (gens : Generations) (tenants : List Tenant) (t : ℕ) (old 
 still_tenants gens tenants t old new at all same same_number =
     let was = all t old at in
     each_set (IsTenant gens) tenants t old new at all (same ∙ was.0, same_number ∙ was.1)
+
+-- tenants of which one was lent, and comes back with its number and its configuration
+pub lent_tenants : (gens : Generations) (tenants : List Tenant) (t : ℕ) (old new : Tenant) → t < length tenants → old ≡ slice_index_or tenants t old → AreTenants gens tenants →
+    gens_of_tenant new ≡ gens_of_tenant old → number_of_tenant new ≡ number_of_tenant old → AreTenants gens (slice_set tenants t new)
+lent_tenants gens tenants t old new within is all same same_number = still_tenants gens tenants t old new (lent tenants t old within is) all same same_number
 
 module _ (move : ConnectionState → ConnectionState × Answer) (c : ℕ) (conns : List Connection) (tenants : List TenantState) where
   -- a step of the connection that is looked up

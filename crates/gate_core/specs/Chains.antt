@@ -13,6 +13,7 @@ use Rattle.gate_core.specs.Promises.{AnswersRightly, Delivers, Keeps, Processes}
 use Rattle.gate_core.specs.Reports.{report_after, report_of}
 use Rattle.gate_core.specs.States.{State, pipeline_at}
 use Rattle.gate_core.specs.Steps.{first, refused_step, step_of}
+use Rattle.gate_core.specs.Worlds.{AllRenewWithin}
 
 -- a step, its answer or the refusal of memory, and the state that it left
 abbrev pub Attempt : Type 0
@@ -57,6 +58,7 @@ pub record EveryChainDelivers : Type 0 where
   pub report : (gens : Generations) (attempts : List Attempt) → IsChain gens (first gens) attempts → report_of (left_behind (first gens) attempts) ≡ report_after gens.first (answered_history attempts)
   pub processes : (gens : Generations) (attempts : List Attempt) → IsChain gens (first gens) attempts → Processes gens.first (answered_history attempts)
   pub keeps : (gens : Generations) (attempts : List Attempt) → IsChain gens (first gens) attempts → Keeps gens.first (answered_history attempts) (left_behind (first gens) attempts)
+  pub within : (gens : Generations) (attempts : List Attempt) → IsChain gens (first gens) attempts → AllRenewWithin gens (left_behind (first gens) attempts)
   pub held : (gens : Generations) (state : State) (attempts : List Attempt) → IsChain gens state attempts →
       (t p : ℕ) (pipe : Pipeline) (waits : Held) → pipeline_at t p state ≡ Some pipe → pipe.worker.held ≡ Some waits →
       IsNext waits (processed gens.first waits (held_as None pipe.worker)).1 (processed_by t p (answered_history attempts)) (pipeline_at t p (left_behind state attempts))

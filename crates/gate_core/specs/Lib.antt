@@ -1,5 +1,6 @@
 pub mod Answers
 pub mod Chains
+pub mod FaultTexts
 pub mod Faults
 pub mod History
 pub mod Inner

@@ -26,6 +26,7 @@ use Rattle.gate_core.specs.Late.{LateIsDiscarded}
 use Rattle.gate_core.specs.Reports.{report_after, report_of}
 use Rattle.gate_core.specs.States.{State, items_at}
 use Rattle.gate_core.specs.Steps.{first, left_by, run_from}
+use Rattle.gate_core.specs.Worlds.{AllRenewWithin}
 
 -- The trigger events that a pipeline has processed are, connection by connection, a prefix of the accepted records that its rules select,
 -- each once and in order, and all of them once its end mark is met. The rules are those of the generation in force at the record.
@@ -96,10 +97,12 @@ pub record Keeps (config : Config) (history : History) (state : State) : Type 0 
 
 -- For all generations of a configuration, with any number of connections, tenants and pipelines, and for every list of steps: what was
 -- processed is what the rules select; offers, closes and renewals are answered by what came before them; the report of the state at the end
--- says what happened; and the queue items are what the processed actions leave, which are those that were asked for.
+-- says what happened; the queue items are what the processed actions leave, which are those that were asked for; and no mark that waits goes
+-- beyond the last generation.
 pub record EveryRunDelivers : Type 0 where
   pub delivers : (gens : Generations) (steps : List Step) → Delivers gens (run_from gens (first gens) steps)
   pub rightly : (gens : Generations) (steps : List Step) → AnswersRightly gens [] (run_from gens (first gens) steps)
   pub report : (gens : Generations) (steps : List Step) → report_of (left_by gens (first gens) steps) ≡ report_after gens.first (run_from gens (first gens) steps)
   pub processes : (gens : Generations) (steps : List Step) → Processes gens.first (run_from gens (first gens) steps)
   pub keeps : (gens : Generations) (steps : List Step) → Keeps gens.first (run_from gens (first gens) steps) (left_by gens (first gens) steps)
+  pub within : (gens : Generations) (steps : List Step) → AllRenewWithin gens (left_by gens (first gens) steps)

@@ -1,6 +1,6 @@
 -- The core as a machine over plain lists: the state after each step, and the step's answer, with any number of connections, tenants and
 -- pipelines.
-use Rattle.std.specs.Prelude.{ℕ, suc, ◌+◌, ◌==◌, List, [], ◌∷◌, ◌++◌, Bool, true, false, nat_le, min, length, map, Option, Some, None, slice_get, slice_set, if◌then◌else◌}
+use Rattle.std.specs.Prelude.{ℕ, ◌+◌, ◌==◌, List, [], ◌∷◌, ◌++◌, true, false, nat_le, min, length, map, Option, Some, None, slice_get, slice_set, if◌then◌else◌}
 use Rattle.std.specs.List.{range_with_len}
 use Rattle.gate_record.specs.declared.ids.PipelineId.{PipelineId}
 use Rattle.gate_record.specs.declared.ids.TenantId.{TenantId}
@@ -70,19 +70,12 @@ renew count conn =
     then (record conn { renewals = conn.renewals ++ conn.accepted ∷ []; queue = conn.queue ++ entry.Renew ∷ [] }, Moved)
     else (conn, Full)))
 
--- the entry is the mark of a renewal beyond the last generation, which is never put
-abbrev pub is_past : Generations → ℕ → ConnEntry → Bool
-is_past gens g (entry.Numbered n line) = false
-is_past gens g entry.Renew = nat_le (count_of gens) (suc g)
-is_past gens g entry.End = false
-
 -- the step `take`, with these items in the forwarder's outbox and these entries in the queue
 abbrev pub take_from : Generations → ℕ → List (TenantId × TenantItem) → List ConnEntry → ConnectionState → ConnectionState × Answer
 take_from gens c (item ∷ unsent) queue conn = (conn, Idle)
 take_from gens c [] [] conn = (conn, Idle)
 take_from gens c [] (entry ∷ queue) conn =
-    if is_past gens conn.generation entry then (conn, Idle)
-    else (record conn { queue = queue; generation = behind conn.generation entry; unsent = sends gens c conn.generation entry }, Moved)
+    (record conn { queue = queue; generation = behind conn.generation entry; unsent = sends gens c conn.generation entry }, Moved)
 
 abbrev pub take : Generations → ℕ → ConnectionState → ConnectionState × Answer
 take gens c conn = take_from gens c conn.unsent conn.queue conn

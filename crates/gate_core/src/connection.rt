@@ -1,11 +1,13 @@
 //! A connection at work in the core: its queue, the steps of its reader, and the taking of its forwarder.
-ghost use Rattle.std.specs.Prelude.{◌≡◌, ◌<◌, ◌+◌, ◌^◌, None};
+ghost use Rattle.std.specs.Prelude.{◌≡◌, ◌<◌, ◌+◌, ◌^◌, None, length};
+ghost use Rattle.gate_config.specs.Generations.{count_of};
+ghost use Rattle.gate_record.specs.Entries.{generation_behind};
 ghost use Rattle.gate_record.specs.Limits.{places};
-ghost use Rattle.gate_forward.specs.States.{state_of as forward_state};
+ghost use Rattle.gate_forward.specs.States.{gens_of as forward_gens, state_of as forward_state};
 
 use crate::answer::Answer;
 use gate_config::Generations;
-use gate_forward::{Forward, Last};
+use gate_forward::Forward;
 use gate_record::{ConnEntry, ConnId, Memory, PLACES, Record};
 use std::alloc::Global;
 use std::collections::VecDeque;
@@ -17,8 +19,8 @@ pub enum ConnectionStep {
     Offer(Record),
     /// The reader puts the end mark.
     Close,
-    /// The reader puts the mark of the next generation. The number is that of all generations.
-    Renew(u32),
+    /// The reader puts the mark of the next generation.
+    Renew,
     /// The forwarder takes the next entry.
     Take,
 }
@@ -38,6 +40,10 @@ pub struct Connection<'c> {
     pub forward: Forward<'c>,
     /// The proof needs this: between two steps, the forwarder has lent out no item of its outbox.
     pub ghost none_out: { (forward_state forward).outbox.out ≡ None },
+    /// Once all waiting entries are taken, as many generations came into force as there were renewals.
+    pub ghost renewed: { generation_behind (forward_state forward).generation queue.items ≡ length renewals.items },
+    /// No renewal goes beyond the last generation.
+    pub ghost within: { length renewals.items < count_of (forward_gens forward) },
 }
 
 impl<'c> Connection<'c> {
@@ -76,7 +82,7 @@ impl<'c> Connection<'c> {
         match step {
             ConnectionStep::Offer(line) => self.offer(line),
             ConnectionStep::Close => self.close(),
-            ConnectionStep::Renew(count) => self.renew(count),
+            ConnectionStep::Renew => self.renew(),
             ConnectionStep::Take => self.take(alloc),
         }
     }
@@ -117,17 +123,16 @@ impl<'c> Connection<'c> {
         Ok(Answer::Moved)
     }
 
-    // Puts the mark of the next generation. `count` is the number of all generations. The answer is `Idle` where the last one is in force
-    // already.
-    fn renew(&mut self, count: u32) -> Result<Answer, Memory>
+    // Puts the mark of the next generation. The answer is `Idle` where the mark of the last one was put already.
+    fn renew(&mut self) -> Result<Answer, Memory>
         ensures gens { gens_of_connection self.new ≡ gens_of_connection self.old }
         ensures number { number_of_connection self.new ≡ number_of_connection self.old }
-        ensures does { Does (connection_view self.old) (renew count (connection_view self.old)) (connection_view self.new) result }
+        ensures does { Does (connection_view self.old) (renew (count_of (gens_of_connection self.old)) (connection_view self.old)) (connection_view self.new) result }
     {
         if self.closed {
             return Ok(Answer::Closed);
         }
-        if count as usize <= self.renewals.len() + 1 {
+        if self.forward.generations().count() as usize <= self.renewals.len() + 1 {
             return Ok(Answer::Idle);
         }
         if self.queue.len() >= PLACES {
@@ -155,13 +160,12 @@ impl<'c> Connection<'c> {
                 self.forward.load_end();
                 Ok(Answer::Moved)
             }
-            Some(ConnEntry::Renew) => match self.forward.load_renew() {
-                Ok(()) => Ok(Answer::Moved),
-                Err(Last) => {
-                    self.queue.push_front_reserved(ConnEntry::Renew);
-                    Ok(Answer::Idle)
-                }
-            },
+            Some(ConnEntry::Renew) => {
+                // No mark goes beyond the last generation.
+                let loaded = self.forward.load_renew();
+                prove!(loaded.is_ok());
+                Ok(Answer::Moved)
+            }
             Some(ConnEntry::Numbered(number, line)) => {
                 match self.forward.load(alloc, number, line) {
                     Ok(()) => Ok(Answer::Moved),

@@ -24,7 +24,7 @@ pub fn each_record_has_its_generation()
 /// and in order, and all of them once its end mark is met. The rules that count are those in force at the record. Offers, closes and
 /// renewals are answered by what came before them. The queue items of a pipeline are what the actions that it has processed made of them:
 /// each trigger event comes from its accepted record, and management events and results are processed in the order in which they were
-/// posted. No result of a cancelled build set changes an item.
+/// posted. No result of a cancelled build set changes an item. No mark of a renewal goes beyond the last generation.
 pub fn every_run_delivers()
     ensures { EveryRunDelivers }
 {

@@ -1,15 +1,15 @@
 //! What `gate replay` prints: the documents of a configuration and a script become one text.
-ghost use Rattle.std.specs.Prelude.{◌≡◌, map, string_bytes, IfOk, IfErr};
+ghost use Rattle.std.specs.Prelude.{◌≡◌, IfErr, IfOk, Some, map, string_bytes};
 ghost use Rattle.gate_config.specs.Generations.{bytes_of};
 ghost use Rattle.gate_core.specs.Replays.{Replays, FailsReplay};
+ghost use Rattle.gate_core.specs.FaultTexts.{replay_text};
 
 use crate::laws::every_run_delivers;
+use crate::onlooker::{Nobody, Onlooker};
 use crate::playing::play_script;
 use crate::script::ScriptFault;
-use crate::world::World;
 use gate_config::{GenerationFault, Generations, read_generations};
 use gate_record::Memory;
-use gate_report_text::push_report;
 use std::alloc::Global;
 use std::error::Error;
 use std::fmt;
@@ -26,6 +26,8 @@ pub enum ReplayFault {
 }
 
 impl fmt::Display for ReplayFault {
+    ghost output = { λ fault. Some (replay_text fault) };
+
     fn fmt<W: fmt::Write>(&self, f: &mut fmt::Formatter<W>) -> fmt::Result {
         match self {
             ReplayFault::Generations(fault) => write!(f, "{fault}"),
@@ -44,12 +46,29 @@ pub fn replay(alloc: Global, documents: &[Vec<u8>], script: &[u8]) -> Result<Str
     ensures text { IfOk result (λ text. Replays (map bytes_of documents.now) script.now (string_bytes text)) }
     ensures fault { IfErr result (FailsReplay (map bytes_of documents.now) script.now) }
 {
+    match replay_before(alloc, documents, script, Nobody) {
+        Ok((text, Nobody)) => Ok(text),
+        Err(fault) => Err(fault),
+    }
+}
+
+/// Does the same as `replay` before the eyes of an onlooker, who comes back with the text.
+pub fn replay_before<O: Onlooker + Drop>(
+    alloc: Global,
+    documents: &[Vec<u8>],
+    script: &[u8],
+    mut onlooker: O,
+) -> Result<(String, O), ReplayFault>
+    ensures text { IfOk result (λ done. Replays (map bytes_of documents.now) script.now (string_bytes done.0)) }
+    ensures fault { IfErr result (FailsReplay (map bytes_of documents.now) script.now) }
+{
     let gens = match read_generations(alloc, documents) {
         Ok(gens) => gens,
         Err(fault) => return Err(of_generations(fault)),
     };
-    match play_text(alloc, &gens, script) {
-        Ok(text) => Ok(text),
+    onlooker.begins(&gens);
+    match play_text(alloc, &gens, script, onlooker) {
+        Ok(done) => Ok(done),
         Err(fault) => Err(of_script(fault)),
     }
 }
@@ -78,34 +97,20 @@ fn of_script(fault: ScriptFault) -> ReplayFault
 }
 
 // The text that the lines of a script print, with the report of the world that they leave.
-fn play_text(alloc: Global, gens: &Generations, script: &[u8]) -> Result<String, ScriptFault>
-    ensures text { IfOk result (λ text. PlaysScript gens.now script.now (string_bytes text)) }
+fn play_text<O: Onlooker + Drop>(
+    alloc: Global,
+    gens: &Generations,
+    script: &[u8],
+    onlooker: O,
+) -> Result<(String, O), ScriptFault>
+    ensures text { IfOk result (λ done. PlaysScript gens.now script.now (string_bytes done.0)) }
     ensures fault { IfErr result (FailsScript (script_of script.now)) }
 {
     // This law says what every history of steps promises.
     every_run_delivers();
-    let mut text = String::new(alloc);
-    let world = play_script(alloc, gens, script, &mut text)?;
-    match push_left(&mut text, alloc, gens, &world) {
-        Ok(()) => Ok(text),
+    let player = play_script(alloc, gens, script, onlooker)?;
+    match player.finish(gens) {
+        Ok(done) => Ok(done),
         Err(Memory) => Err(ScriptFault::Memory),
     }
-}
-
-ghost use Rattle.std.specs.Prelude.{◌++◌, OnOk};
-ghost use Rattle.gate_report_text.specs.ReportText.{report_text};
-ghost use Rattle.gate_core.specs.Reports.{report_of};
-ghost use Rattle.gate_core.specs.Worlds.{state_of};
-
-// Adds the report of a world to a text.
-fn push_left(
-    out: &mut String,
-    alloc: Global,
-    gens: &Generations,
-    world: &World<'_>,
-) -> Result<(), Memory>
-    ensures { OnOk result (string_bytes out.new ≡ string_bytes out.old ++ report_text gens.now.first (report_of (state_of world.now))) }
-{
-    let report = world.report()?;
-    push_report(out, alloc, gens.first(), &report)
 }

@@ -1,6 +1,8 @@
 //! Reads a script: a step, or a request to show items, on each line.
+ghost use Rattle.std.specs.Prelude.{Some};
 ghost use Rattle.gate_core.specs.Faults.{GivesScript};
 ghost use Rattle.gate_core.specs.Script.{script_of};
+ghost use Rattle.gate_core.specs.FaultTexts.{script_text};
 
 use crate::script_lines::read_script_line;
 use crate::step::Step;
@@ -20,10 +22,12 @@ pub enum ScriptFault {
 }
 
 impl fmt::Display for ScriptFault {
+    ghost output = { λ fault. Some (script_text fault) };
+
     fn fmt<W: fmt::Write>(&self, f: &mut fmt::Formatter<W>) -> fmt::Result {
         match self {
-            ScriptFault::Memory => f.write_str("memory"),
             ScriptFault::Script(line) => write!(f, "script {line}"),
+            ScriptFault::Memory => f.write_str("memory"),
         }
     }
 }

@@ -75,10 +75,7 @@ impl<'c> World<'c> {
         match step {
             Step::Offer(conn, line) => self.connection_step(conn, ConnectionStep::Offer(line)),
             Step::Close(conn) => self.connection_step(conn, ConnectionStep::Close),
-            Step::Renew(conn) => {
-                let count = self.gens.count();
-                self.connection_step(conn, ConnectionStep::Renew(count))
-            }
+            Step::Renew(conn) => self.connection_step(conn, ConnectionStep::Renew),
             Step::Take(conn) => self.connection_step(conn, ConnectionStep::Take),
             Step::Send(conn) => self.send(conn),
             Step::Fetch(tenant, count) => self.tenant_step(tenant, TenantStep::Fetch(count)),
@@ -94,6 +91,13 @@ impl<'c> World<'c> {
                 self.pipeline_step(tenant, pipeline, PipelineStep::Turn)
             }
         }
+    }
+
+    /// The configuration, with its later generations.
+    pub fn generations(&self) -> &Generations
+        ensures { result.now ≡ gens_of self.now }
+    {
+        self.gens
     }
 
     /// The report of the steps so far.

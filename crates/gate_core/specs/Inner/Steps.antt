@@ -1,6 +1,7 @@
 -- Further definitions about `Steps`, which only private contracts and proofs cite.
 use Rattle.std.specs.Prelude.{ℕ, Option, slice_get, slice_set}
 use Rattle.gate_config.specs.declared.generations.Generations.{Generations}
+use Rattle.gate_config.specs.Generations.{count_of}
 use Rattle.gate_core.specs.declared.answer.Answer.{Answer}
 use Rattle.gate_core.specs.declared.connection.ConnectionStep.{ConnectionStep}
 use Rattle.gate_core.specs.declared.connection.ConnectionStep.TheVariants.{Offer, Close, Renew, Take}
@@ -15,7 +16,7 @@ use Rattle.gate_core.specs.Steps.{close, fetch, give, match_gathered, move_at, o
 abbrev pub connection_step : Generations → ℕ → ConnectionStep → ConnectionState → ConnectionState × Answer
 connection_step gens c (Offer line) = offer line
 connection_step gens c Close = close
-connection_step gens c (Renew count) = renew count
+connection_step gens c Renew = renew (count_of gens)
 connection_step gens c Take = take gens c
 
 abbrev pub tenant_step : Generations → ℕ → TenantStep → TenantState → TenantState × Answer

@@ -9,14 +9,14 @@ use Rattle.gate_core.proofs.Lines.{line_played}
 use Rattle.gate_core.proofs.playing.play_script.Goals as goal
 
 pub loop-rest-preserved : goal.loop-rest-preserved
-loop-rest-preserved c =
+loop-rest-preserved g c =
     let gens = c.args.gens.now in
     let before = c.loop-rest.before in
-    let state = state_of c.loop-rest.world in
-    let text = string_bytes c.loop-rest.out in
+    let state = state_of c.loop-rest.player.world in
+    let text = string_bytes c.loop-rest.player.text in
     let said = line_adds c.first_line.result.0.now in
-    let next = state_of c.play_line.new.world in
-    let longer = string_bytes c.play_line.new.out in
+    let next = state_of c.play_line.new.self.world in
+    let longer = string_bytes c.play_line.new.self.text in
     let rest = lines_from (before + 1 + 1) (lines c.first_line.result.1.now) in
     record {
       same = c.in_ok-play_line.ensures.gens ∙ c.loop-rest.invariant.same;

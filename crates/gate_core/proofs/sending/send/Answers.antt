@@ -7,9 +7,9 @@ use Rattle.gate_record.proofs.Outboxes.{is_out, was_empty}
 use Rattle.gate_record.specs.Outboxes.{put_back}
 use Rattle.gate_forward.specs.States.{State as ForwardState, state_of}
 use Rattle.gate_core.specs.Views.{connection_view, tenant_view}
-use Rattle.gate_core.specs.Inner.Views.{IsTenant}
-use Rattle.gate_core.proofs.Elements.{each_set, lent, seen, seen_same, unseen}
+use Rattle.gate_core.proofs.Elements.{lent, seen, seen_same, unseen}
 use Rattle.gate_core.proofs.Unsent.{back_in, refuses, sends_item, sends_nothing, sends_nowhere, shown, unchanged}
+use Rattle.gate_core.proofs.Wholes.{lent_tenants}
 use Rattle.gate_core.proofs.sending.send.Goals as goal
 
 pub returns-in_default-clause-does : goal.returns-in_default-clause-does
@@ -36,11 +36,7 @@ returns-in-None-clause-does c =
 
 pub returns-in-Ok-clause-tenants : goal.returns-in-Ok-clause-tenants
 returns-in-Ok-clause-tenants c gens all =
-    let tenants = c.args.tenants.now.items in
-    let item = c.in-Some-get_mut.ensures.item in
-    let at = lent tenants c.in-Some.tenant.0 c.in-Some-get_mut.tenant.now item.3.0 item.1 in
-    let was = all c.in-Some.tenant.0 c.in-Some-get_mut.tenant.now at in
-    each_set (IsTenant gens) tenants c.in-Some.tenant.0 c.in-Some-get_mut.tenant.now c.put.new.self at all (c.in-Ok.ensures.gens ∙ was.0, c.in-Ok.ensures.number ∙ was.1)
+    lent_tenants gens c.args.tenants.now.items c.in-Some.tenant.0 c.in-Some-get_mut.tenant.now c.put.new.self c.in-Some-get_mut.ensures.item.3.0 c.in-Some-get_mut.ensures.item.1 all c.in-Ok.ensures.gens c.in-Ok.ensures.number
 
 pub returns-in-Ok-clause-does : goal.returns-in-Ok-clause-does
 returns-in-Ok-clause-does c =
@@ -59,11 +55,7 @@ returns-in-Ok-clause-does c =
 
 pub returns-in-Err-clause-tenants : goal.returns-in-Err-clause-tenants
 returns-in-Err-clause-tenants c gens all =
-    let tenants = c.args.tenants.now.items in
-    let item = c.in-Some-get_mut.ensures.item in
-    let at = lent tenants c.in-Some.tenant.0 c.in-Some-get_mut.tenant.now item.3.0 item.1 in
-    let was = all c.in-Some.tenant.0 c.in-Some-get_mut.tenant.now at in
-    each_set (IsTenant gens) tenants c.in-Some.tenant.0 c.in-Some-get_mut.tenant.now c.put.new.self at all (c.in-Err.ensures.gens ∙ was.0, c.in-Err.ensures.number ∙ was.1)
+    lent_tenants gens c.args.tenants.now.items c.in-Some.tenant.0 c.in-Some-get_mut.tenant.now c.put.new.self c.in-Some-get_mut.ensures.item.3.0 c.in-Some-get_mut.ensures.item.1 all c.in-Err.ensures.gens c.in-Err.ensures.number
 
 pub returns-in-Err-clause-does : goal.returns-in-Err-clause-does
 returns-in-Err-clause-does c =

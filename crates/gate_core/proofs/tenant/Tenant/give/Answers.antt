@@ -19,22 +19,21 @@ returns-in-Ok-clause-does c =
     let tenant = tenant_view c.args.self.now in
     let new = state_of c.next.new.self in
     let first : PipelineId × PipelineItem = (c.in-Some.pipeline, c.in-Some.item) in
-    let p = c.in-Some.pipeline.0 in
+    let p = first.0.0 in
     let pipeline = c.in-Some-get_mut.pipeline.now in
-    let out = is_out tenant.dispatch.outbox new.outbox first c.in-Some.ensures.moves in
     let item = c.in-Some-get_mut.ensures.item in
-    let at = lent tenant.pipelines p pipeline item.3.0 item.1 in
+    let given = gives tenant new first (is_out tenant.dispatch.outbox new.outbox first c.in-Some.ensures.moves) pipeline (lent tenant.pipelines p pipeline item.3.0 item.1) in
     ap (λ (d : DispatchState). (record tenant { dispatch = d; pipelines = slice_set tenant.pipelines p (record pipeline { triggers = c.push.new.self }) }, Moved)) (c.given.ensures.closes ∙ went tenant.dispatch new c.in-Some.ensures.rest)
     ∙ ap (λ queue. (record tenant { dispatch = record tenant.dispatch { outbox = record { items = new.outbox.items; out = None } }; pipelines = slice_set tenant.pipelines p (record pipeline { triggers = queue }) }, Moved)) c.in-Ok.ensures
-    ∙ sym (gives tenant new first out pipeline at)
+    ∙ sym given
 
 pub returns-in-Err-clause-does : goal.returns-in-Err-clause-does
 returns-in-Err-clause-does c =
     let tenant = tenant_view c.args.self.now in
     let new = state_of c.next.new.self in
     let first : PipelineId × PipelineItem = (c.in-Some.pipeline, c.in-Some.item) in
-    let p = c.in-Some.pipeline.0 in
     let pipeline = c.in-Some-get_mut.pipeline.now in
+    let p = first.0.0 in
     let out = is_out tenant.dispatch.outbox new.outbox first c.in-Some.ensures.moves in
     let item = c.in-Some-get_mut.ensures.item in
     let at = lent tenant.pipelines p pipeline item.3.0 item.1 in

@@ -7,20 +7,12 @@ use Rattle.gate_core.specs.States.{TenantState}
 use Rattle.gate_core.specs.Inner.Sends.{state}
 use Rattle.gate_core.specs.Views.{connection_view, tenant_view}
 use Rattle.gate_core.proofs.Elements.{lent, seen_same, written_back}
-use Rattle.gate_core.proofs.Wholes.{pipeline_does, still_tenants}
+use Rattle.gate_core.proofs.Wholes.{lent_tenants, pipeline_does}
 use Rattle.gate_core.proofs.world.World.passes.Goals as goal
 
 pub invariant_of-self-clause-tenants_by_number : goal.invariant_of-self-clause-tenants_by_number
 invariant_of-self-clause-tenants_by_number c =
-    let tenants = c.args.self.now.tenants.items in
-    let at = lent tenants c.args.tenant.0 _ c.in-Some.ensures.item.3.0 c.in-Some.ensures.item.1 in
-    still_tenants c.args.self.now.gens.now tenants c.args.tenant.0 c.in-Some.tenant.now _ at c.args.self.now.tenants_by_number refl refl
-
-pub invariant_of-self-in-None-get_mut-clause-tenants_by_number : goal.invariant_of-self-in-None-get_mut-clause-tenants_by_number
-invariant_of-self-in-None-get_mut-clause-tenants_by_number c =
-    let tenants = c.args.self.now.tenants.items in
-    let at = lent tenants c.args.tenant.0 _ c.in-Some.ensures.item.3.0 c.in-Some.ensures.item.1 in
-    still_tenants c.args.self.now.gens.now tenants c.args.tenant.0 c.in-Some.tenant.now _ at c.args.self.now.tenants_by_number refl refl
+    lent_tenants c.args.self.now.gens.now c.args.self.now.tenants.items c.args.tenant.0 c.in-Some.tenant.now _ c.in-Some.ensures.item.3.0 c.in-Some.ensures.item.1 c.args.self.now.tenants_by_number refl refl
 
 pub returns-in-Some-get_mut-clause-passes : goal.returns-in-Some-get_mut-clause-passes
 returns-in-Some-get_mut-clause-passes c e =
@@ -43,6 +35,10 @@ returns-in-Some-get_mut-clause-stays c e =
     let same = ap (slice_set pipes c.args.pipeline.0) (c.passes.ensures.stays e).0 ∙ written_back pipes c.args.pipeline.0 c.in-Some-get_mut.pipeline.now whose in
     ap (λ (ts : List TenantState). state (map connection_view c.args.self.now.connections.items) ts)
     (seen_same tenant_view tenants c.args.tenant.0 tenant _ at (ap (λ (ps : List Pipeline). record (tenant_view tenant) { pipelines = ps }) same))
+
+pub invariant_of-self-in-None-get_mut-clause-tenants_by_number : goal.invariant_of-self-in-None-get_mut-clause-tenants_by_number
+invariant_of-self-in-None-get_mut-clause-tenants_by_number c =
+    lent_tenants c.args.self.now.gens.now c.args.self.now.tenants.items c.args.tenant.0 c.in-Some.tenant.now _ c.in-Some.ensures.item.3.0 c.in-Some.ensures.item.1 c.args.self.now.tenants_by_number refl refl
 
 pub returns-in-None-get_mut-clause-stays : goal.returns-in-None-get_mut-clause-stays
 returns-in-None-get_mut-clause-stays c e =

@@ -9,20 +9,12 @@ use Rattle.gate_core.specs.Inner.Pipelines.{pipeline_step}
 use Rattle.gate_core.specs.Steps.{on_pipeline}
 use Rattle.gate_core.specs.Views.{connection_view, tenant_view}
 use Rattle.gate_core.proofs.Elements.{lent}
-use Rattle.gate_core.proofs.Wholes.{pipeline_does, pipeline_is, still_tenants, tenant_does, tenant_idles}
+use Rattle.gate_core.proofs.Wholes.{lent_tenants, pipeline_does, pipeline_is, tenant_does, tenant_idles}
 use Rattle.gate_core.proofs.world.World.pipeline_step.Goals as goal
 
 pub invariant_of-self-clause-tenants_by_number : goal.invariant_of-self-clause-tenants_by_number
 invariant_of-self-clause-tenants_by_number c =
-    let tenants = c.args.self.now.tenants.items in
-    let at = lent tenants c.args.tenant.0 _ c.in-Some.ensures.item.3.0 c.in-Some.ensures.item.1 in
-    still_tenants c.args.self.now.gens.now tenants c.args.tenant.0 c.in-Some.tenant.now _ at c.args.self.now.tenants_by_number refl refl
-
-pub invariant_of-self-in-None-get_mut-clause-tenants_by_number : goal.invariant_of-self-in-None-get_mut-clause-tenants_by_number
-invariant_of-self-in-None-get_mut-clause-tenants_by_number c =
-    let tenants = c.args.self.now.tenants.items in
-    let at = lent tenants c.args.tenant.0 _ c.in-Some.ensures.item.3.0 c.in-Some.ensures.item.1 in
-    still_tenants c.args.self.now.gens.now tenants c.args.tenant.0 c.in-Some.tenant.now _ at c.args.self.now.tenants_by_number refl refl
+    lent_tenants c.args.self.now.gens.now c.args.self.now.tenants.items c.args.tenant.0 c.in-Some.tenant.now _ c.in-Some.ensures.item.3.0 c.in-Some.ensures.item.1 c.args.self.now.tenants_by_number refl refl
 
 pub returns-in-Some-get_mut-clause-moves : goal.returns-in-Some-get_mut-clause-moves
 returns-in-Some-get_mut-clause-moves c =
@@ -39,6 +31,10 @@ returns-in-Some-get_mut-clause-needs c =
     let whose = lent c.in-Some.tenant.now.pipelines.items c.args.pipeline.0 _ c.in-Some-get_mut.ensures.item.3.0 c.in-Some-get_mut.ensures.item.1 in
     subst (λ (o : Option Pipeline). OnErr c.step.result (IsThere (PipelineNeeds c.args.step) o))
     (sym (pipeline_is c.args.self.now.gens.now c.args.tenant.0 c.args.pipeline.0 (map connection_view c.args.self.now.connections.items) tenants c.in-Some.tenant.now at ∙ whose)) c.step.ensures.needs
+
+pub invariant_of-self-in-None-get_mut-clause-tenants_by_number : goal.invariant_of-self-in-None-get_mut-clause-tenants_by_number
+invariant_of-self-in-None-get_mut-clause-tenants_by_number c =
+    lent_tenants c.args.self.now.gens.now c.args.self.now.tenants.items c.args.tenant.0 c.in-Some.tenant.now _ c.in-Some.ensures.item.3.0 c.in-Some.ensures.item.1 c.args.self.now.tenants_by_number refl refl
 
 pub returns-in-None-get_mut-clause-moves : goal.returns-in-None-get_mut-clause-moves
 returns-in-None-get_mut-clause-moves c =

@@ -1,10 +1,10 @@
 use Rattle.std.proofs.Common.{◌∙◌, sym}
 use Rattle.std.proofs.lemmas.List.{length-map}
 use Rattle.gate_config.specs.Generations.{bytes_of}
-use Rattle.gate_core.proofs.replaying.replay.Goals as goal
+use Rattle.gate_core.proofs.replaying.replay_before.Goals as goal
 
 pub returns-in-Ok-play_text-clause-text : goal.returns-in-Ok-play_text-clause-text
-returns-in-Ok-play_text-clause-text c = record {
+returns-in-Ok-play_text-clause-text g c = record {
   gens = c.in-Ok.gens;
   count = c.in-Ok.ensures.count ∙ sym (length-map c.args.documents.now bytes_of);
   read = c.in-Ok.ensures.read;

@@ -1,4 +1,0 @@
-use Rattle.gate_core.proofs.playing.play.Goals as goal
-
-pub returns-in-Step-clause-counts : goal.returns-in-Step-clause-counts
-returns-in-Step-clause-counts c = c.play_step.ensures.counts c.args.before c.requires.counts

@@ -1,7 +1,0 @@
-use Rattle.gate_core.proofs.playing.play_line.Goals as goal
-
-pub returns-in-Ok-clause-counts : goal.returns-in-Ok-clause-counts
-returns-in-Ok-clause-counts c = c.play_turn.ensures.counts c.args.before c.requires.counts
-
-pub returns-in-Err-clause-counts : goal.returns-in-Err-clause-counts
-returns-in-Err-clause-counts c = c.play_turn.ensures.counts c.args.before c.requires.counts
