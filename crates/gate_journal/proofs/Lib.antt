@@ -1,3 +1,5 @@
+pub mod FactLines
+pub mod FactTurns
 pub mod Following
 pub mod Numbered
 pub mod Pushed

@@ -1,4 +1,5 @@
 pub mod Causes
+pub mod Facts
 pub mod Follows
 pub mod Lines
 pub mod Live

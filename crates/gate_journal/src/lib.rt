@@ -5,6 +5,7 @@
 mod begun;
 mod cause;
 mod keys;
+mod laws;
 mod lines;
 mod live;
 mod members;
@@ -15,6 +16,7 @@ mod queue;
 mod writing;
 
 pub use cause::CancelCause;
+pub use laws::{each_build_set_of_a_journal_begins_and_ends_once, lines_are_the_texts_of_facts};
 pub use lines::{push_end, push_start};
 pub use pipeline_journal::PipelineJournal;
 pub use place::Place;

@@ -1,5 +1,5 @@
 -- Further definitions about `Readers`, which only private contracts and proofs cite.
-use Rattle.std.specs.Prelude.{◌≡◌, ◌<◌, ◌⊎◌, ◌+◌, ◌-◌, if◌then◌else◌, ℕ, List, true, is_some, length}
+use Rattle.std.specs.Prelude.{◌≡◌, ◌<◌, ◌≤◌, ◌⊎◌, ◌+◌, ◌-◌, if◌then◌else◌, ℕ, List, true, is_some, length}
 use Rattle.gate_record.specs.declared.record.Record.{Record}
 use Rattle.gate_source.specs.Stops.{Note}
 use Rattle.gate_report.specs.declared.report.EndCause.{EndCause}
@@ -53,5 +53,5 @@ TakesIn generations cells line before now = (told told' told'' : Told) (tail : S
 -- Either the mark was put, or nothing was: because there is no later generation, or for this cause, which cuts reading short
 abbrev pub Marks : ℕ → Mark → RunningReader → RunningReader → Type 0
 Marks generations Put before now = (before.source.generation + 1 < generations) × (now.source ≡ renewed before.source)
-Marks generations NoLater before now = now.source ≡ before.source
+Marks generations NoLater before now = (generations ≤ before.source.generation + 1) × (now.source ≡ before.source)
 Marks generations (CutShort cause) before now = (now.source ≡ before.source) × CutsShort cause now.note
