@@ -11,6 +11,7 @@ mod tests;
 mod timed;
 
 pub use address::Address;
+pub use retrying::read_again;
 pub use socket_file::SocketFile;
-pub use stream::Stream;
+pub use stream::{Stream, StreamOf};
 pub use timed::{LineReader, ReplyWriter, TimedRead, TimedWrite};

@@ -9,16 +9,19 @@ use std::net::{Net, TcpStream};
 use std::os::unix::net::UnixStream;
 use std::rt::Files;
 
-/// The source of a connection's bytes. A read that is interrupted is tried again.
+/// The source of a connection's bytes: one of three devices. A read that is interrupted is tried again.
 #[derive(Drop)]
-pub enum Stream {
+pub enum StreamOf<F, T, U> {
     /// A file. Where it is a folder, the first read fails.
-    File(File),
+    File(F),
     /// A TCP socket.
-    Tcp(TcpStream),
+    Tcp(T),
     /// A Unix socket.
-    Unix(UnixStream),
+    Unix(U),
 }
+
+/// The stream of a connection.
+pub type Stream = StreamOf<File, TcpStream, UnixStream>;
 
 impl Stream {
     /// Opens the file of an address, or connects to its socket.
@@ -27,19 +30,23 @@ impl Stream {
         address: Address<'_>,
     ) -> io::Result<Stream> {
         match address {
-            Address::File(path) => Ok(Stream::File(File::open(rt, path)?)),
-            Address::Tcp(place) => Ok(Stream::Tcp(TcpStream::connect(rt, place)?)),
-            Address::Unix(path) => Ok(Stream::Unix(UnixStream::connect(rt, path)?)),
+            Address::File(path) => Ok(StreamOf::File(File::open(rt, path)?)),
+            Address::Tcp(place) => Ok(StreamOf::Tcp(TcpStream::connect(rt, place)?)),
+            Address::Unix(path) => Ok(StreamOf::Unix(UnixStream::connect(rt, path)?)),
         }
     }
 }
 
-impl Read for Stream {
+impl<F: Read, T: Read, U: Read> Read for StreamOf<F, T, U> {
+    ghost use Rattle.gate_main_streams.specs.Streams.{left_of};
+
+    ghost remaining = { left_of F.remaining T.remaining U.remaining };
+
     fn read(&mut self, buf: &mut [u8]) -> io::Result<usize> {
         match self {
-            Stream::File(file) => read_again(file, buf),
-            Stream::Tcp(socket) => read_again(socket, buf),
-            Stream::Unix(socket) => read_again(socket, buf),
+            StreamOf::File(file) => read_again(file, buf),
+            StreamOf::Tcp(socket) => read_again(socket, buf),
+            StreamOf::Unix(socket) => read_again(socket, buf),
         }
     }
 }

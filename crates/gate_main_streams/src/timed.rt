@@ -1,4 +1,6 @@
 //! The reader and the writer of a session, which limit the time of each line and each reply.
+ghost use Rattle.std.specs.Prelude.{◌≡◌};
+
 use crate::deadline::Deadline;
 use crate::retrying::read_again;
 use std::io;
@@ -9,14 +11,16 @@ use std::time::{Clock, Duration};
 
 /// A reader that can be told how long its reads may wait.
 pub trait TimedRead: Read {
-    /// Sets how long a read may wait before it answers an error. The time must not be 0.
-    fn set_read_time(&mut self, time: Duration) -> io::Result<()>;
+    /// Sets how long a read may wait before it answers an error. The time must not be 0. Nothing is read.
+    fn set_read_time(&mut self, time: Duration) -> io::Result<()>
+        ensures { Self.remaining self.new ≡ Self.remaining self.old };
 }
 
 /// A writer that can be told how long its writes may wait.
 pub trait TimedWrite: Write {
-    /// Sets how long a write may wait before it answers an error. The time must not be 0.
-    fn set_write_time(&mut self, time: Duration) -> io::Result<()>;
+    /// Sets how long a write may wait before it answers an error. The time must not be 0. Nothing is written.
+    fn set_write_time(&mut self, time: Duration) -> io::Result<()>
+        ensures { Self.contents self.new ≡ Self.contents self.old };
 }
 
 impl TimedRead for &TcpStream {
@@ -52,6 +56,8 @@ struct InTime<C, D> {
 }
 
 impl<C: Clock, R: TimedRead> Read for InTime<C, R> {
+    ghost remaining = { λ reader. R.remaining reader.device };
+
     fn read(&mut self, buf: &mut [u8]) -> io::Result<usize> {
         let left = self.deadline.left(&self.clock)?;
         self.device.set_read_time(left)?;
@@ -60,6 +66,8 @@ impl<C: Clock, R: TimedRead> Read for InTime<C, R> {
 }
 
 impl<C: Clock, W: TimedWrite> Write for InTime<C, W> {
+    ghost contents = { λ writer. W.contents writer.device };
+
     fn write(&mut self, buf: &[u8]) -> io::Result<usize> {
         let left = self.deadline.left(&self.clock)?;
         self.device.set_write_time(left)?;
@@ -80,7 +88,9 @@ pub struct LineReader<C, R> {
 
 impl<C: Clock, R: TimedRead> LineReader<C, R> {
     /// A reader from which nothing was read yet. The call takes no memory.
-    pub fn new(clock: C, device: R, time: Duration) -> LineReader<C, R> {
+    pub fn new(clock: C, device: R, time: Duration) -> LineReader<C, R>
+        ensures { ⟦<LineReader<C, R> as Read>⟧.remaining result ≡ R.remaining device }
+    {
         let deadline = Deadline::new(time);
         LineReader {
             reader: InTime {
@@ -93,6 +103,8 @@ impl<C: Clock, R: TimedRead> LineReader<C, R> {
 }
 
 impl<C: Clock, R: TimedRead> Read for LineReader<C, R> {
+    ghost remaining = { λ reader. R.remaining reader.reader.device };
+
     fn read(&mut self, buf: &mut [u8]) -> io::Result<usize> {
         let count = read_again(&mut self.reader, buf)?;
         if buf[..count].contains(&b'\n') {
@@ -111,7 +123,9 @@ pub struct ReplyWriter<C, W> {
 
 impl<C: Clock, W: TimedWrite> ReplyWriter<C, W> {
     /// A writer to which nothing was written yet. The call takes no memory.
-    pub fn new(clock: C, device: W, time: Duration) -> ReplyWriter<C, W> {
+    pub fn new(clock: C, device: W, time: Duration) -> ReplyWriter<C, W>
+        ensures { ⟦<ReplyWriter<C, W> as Write>⟧.contents result ≡ W.contents device }
+    {
         let deadline = Deadline::new(time);
         ReplyWriter {
             writer: InTime {
@@ -124,6 +138,8 @@ impl<C: Clock, W: TimedWrite> ReplyWriter<C, W> {
 }
 
 impl<C: Clock, W: TimedWrite> Write for ReplyWriter<C, W> {
+    ghost contents = { λ writer. W.contents writer.writer.device };
+
     fn write(&mut self, buf: &[u8]) -> io::Result<usize> {
         self.writer.write(buf)
     }
