@@ -1,6 +1,8 @@
 //! Why the program `gate` fails, with the text and the exit status of each fault.
-ghost use Rattle.std.specs.Prelude.{◌≡◌};
-ghost use Rattle.gate_main_command.specs.Faults.{status_of};
+ghost use Rattle.std.specs.Prelude.{◌≡◌, Some};
+ghost use Rattle.gate_main_command.specs.Faults.{of_generations, of_replay, of_run, status_of};
+ghost use Rattle.gate_main_command.specs.declared.fault.Fault.TheVariants.{Memory as Refused};
+ghost use Rattle.gate_main_command.specs.Faults.{fault_text};
 
 use gate_config::GenerationFault;
 use gate_core::ReplayFault;
@@ -54,6 +56,8 @@ impl Fault {
 }
 
 impl fmt::Display for Fault {
+    ghost output = { λ fault. Some (fault_text fault) };
+
     fn fmt<W: fmt::Write>(&self, f: &mut fmt::Formatter<W>) -> fmt::Result {
         match self {
             Fault::Memory => f.write_str("memory"),
@@ -77,24 +81,32 @@ pub(crate) fn is_out_of_memory(error: &io::Error) -> bool {
 }
 
 impl From<AllocError> for Fault {
+    ghost from_gives = { λ _ fault. fault ≡ Refused };
+
     fn from(_refused: AllocError) -> Fault {
         Fault::Memory
     }
 }
 
 impl<T: Drop> From<AllocFailed<T>> for Fault {
+    ghost from_gives = { λ _ fault. fault ≡ Refused };
+
     fn from(_refused: AllocFailed<T>) -> Fault {
         Fault::Memory
     }
 }
 
 impl From<Memory> for Fault {
+    ghost from_gives = { λ _ fault. fault ≡ Refused };
+
     fn from(_refused: Memory) -> Fault {
         Fault::Memory
     }
 }
 
 impl From<GenerationFault> for Fault {
+    ghost from_gives = { λ found fault. fault ≡ of_generations found };
+
     fn from(fault: GenerationFault) -> Fault {
         match fault {
             GenerationFault::Memory => Fault::Memory,
@@ -104,6 +116,8 @@ impl From<GenerationFault> for Fault {
 }
 
 impl From<RunFault> for Fault {
+    ghost from_gives = { λ found fault. fault ≡ of_run found };
+
     fn from(fault: RunFault) -> Fault {
         match fault {
             RunFault::Memory => Fault::Memory,
@@ -113,6 +127,8 @@ impl From<RunFault> for Fault {
 }
 
 impl From<ReplayFault> for Fault {
+    ghost from_gives = { λ found fault. fault ≡ of_replay found };
+
     fn from(fault: ReplayFault) -> Fault {
         match fault {
             ReplayFault::Memory => Fault::Memory,

@@ -1,12 +1,17 @@
-//! The journal of a run: one file with the lines of all pipelines.
+//! The journal of a run: the lines of all pipelines, in one writer.
+ghost use Rattle.std.specs.Prelude.{◌≡◌, ◌∷◌, ◌++◌, [], IfOk, IsOk, List, None, OnOk, Option, string_bytes, ℕ};
+ghost use Rattle.std.specs.Io.KnownBytes.{Appends};
+ghost use Rattle.gate_main_command.specs.Inner.Journals.{Keeps};
+ghost use Rattle.gate_main_command.specs.Telling.{IsTrue, Told, acts, ends};
+
 use crate::fault::is_out_of_memory;
-use gate_config::{Config, Generations};
-use gate_journal::{PipelineJournal, Place, ProcessedAction, push_end, push_start, write_lines};
-use gate_record::{Memory, PipelineId, Shared, TenantId};
+use crate::pipeline_journals::PipelineJournals;
+use gate_config::Config;
+use gate_journal::{Place, ProcessedAction, push_end, push_start, write_lines};
+use gate_record::Memory;
 use std::alloc::Global;
-use std::fs::{File, OpenOptions};
 use std::io;
-use std::rt::Files;
+use std::io::Write;
 
 /// Why a journal has ended before its run.
 #[derive(Clone, Copy, Debug, PartialEq, Eq)]
@@ -19,31 +24,19 @@ pub enum JournalFault {
 
 /// A journal in writing. After a line couldn't be written it takes no more.
 #[derive(Drop)]
-pub(crate) struct Journal {
+pub struct Journal<W> {
     alloc: Global,
-    gens: Shared<Generations>,
-    file: File,
-    // The journals of the pipelines, by tenant number and pipeline number.
-    pipelines: Vec<Vec<PipelineJournal>>,
+    writer: W,
+    pipelines: PipelineJournals,
     // The lines of the last action. Their room serves the next ones.
     lines: String,
     fault: Option<JournalFault>,
 }
 
-/// Opens the file of a journal and writes the line with which a run begins. A missing file is made, and one that is there is appended to.
-/// Where the file is a FIFO, the call waits for its reader.
-pub(crate) fn open_journal<X: Files<File = File> + AllocGlobal>(
-    rt: &X,
-    path: &str,
-) -> Result<File, JournalFault> {
-    let mut start = String::new(rt.alloc());
-    push_start(&mut start)?;
-    let mut file = opened(OpenOptions::new().append(true).create(true).open(rt, path))?;
-    opened(write_lines(&mut file, start.as_str()))?;
-    Ok(file)
-}
-
-fn opened<T>(answer: io::Result<T>) -> Result<T, JournalFault> {
+/// A call that opens or begins a journal, with why it failed.
+pub(crate) fn opened<T>(answer: io::Result<T>) -> Result<T, JournalFault>
+    ensures { IfOk result (λ value. answer ≡ Ok value) }
+{
     match answer {
         Ok(value) => Ok(value),
         Err(error) if is_out_of_memory(&error) => Err(JournalFault::Memory),
@@ -57,91 +50,91 @@ impl From<Memory> for JournalFault {
     }
 }
 
-impl Journal {
-    /// The journal of a run of these generations. Its pipelines begin with no items.
+impl<W: Write + Drop> Journal<W> {
+    /// Begins the journal of a run of this configuration, whose pipelines have no items yet: the line of the start is written.
     pub(crate) fn new(
         alloc: Global,
-        gens: Shared<Generations>,
-        file: File,
-    ) -> Result<Journal, JournalFault> {
-        let pipelines = first_of(alloc, gens.get().first())?;
+        config: &Config,
+        mut writer: W,
+    ) -> Result<Journal<W>, JournalFault>
+        ensures { IfOk result (Keeps W.contents config.now (W.contents writer) []) }
+    {
+        let pipelines = PipelineJournals::of(alloc, config)?;
+        let mut lines = String::new(alloc);
+        push_start(&mut lines)?;
+        opened(write_lines(&mut writer, lines.as_str()))?;
         Ok(Journal {
             alloc,
-            gens,
-            file,
+            writer,
             pipelines,
-            lines: String::new(alloc),
+            lines,
             fault: None,
         })
     }
 
     /// Writes the lines of a pipeline's next action.
-    pub(crate) fn tell(
-        &mut self,
-        tenant: TenantId,
-        pipeline: PipelineId,
-        processed: &ProcessedAction<'_>,
-    ) {
+    pub(crate) fn tell(&mut self, place: &Place<'_>, processed: &ProcessedAction<'_>)
+        ensures { (before : Option (List ℕ)) (so_far : List Told) → Keeps W.contents place.now.config.now before so_far self.old → IsTrue place.now.config.now so_far place.now.tenant.0 place.now.pipeline.0 processed.now.action.now processed.now.outcome processed.now.items.now → Keeps W.contents place.now.config.now before (so_far ++ acts place.now.tenant.0 place.now.pipeline.0 processed.now.stamp processed.now.action.now ∷ []) self.new }
+    {
         if self.fault.is_some() {
             return;
         }
-        let Some(pipelines) = self.pipelines.get_mut(tenant.0 as usize) else {
-            return;
-        };
-        let Some(journal) = pipelines.get_mut(pipeline.0 as usize) else {
-            return;
-        };
-        let place = place_of(&self.gens, tenant, pipeline);
         self.lines.clear();
-        let made = journal.push_action(&mut self.lines, &place, processed);
+        let made = self
+            .pipelines
+            .push_action(&mut self.lines, place, processed);
         self.write(made);
     }
 
     /// Writes the last line of a pipeline.
-    pub(crate) fn end(&mut self, tenant: TenantId, pipeline: PipelineId, finished: bool) {
+    pub(crate) fn end(&mut self, place: &Place<'_>, finished: bool)
+        ensures { (before : Option (List ℕ)) (so_far : List Told) → Keeps W.contents place.now.config.now before so_far self.old → Keeps W.contents place.now.config.now before (so_far ++ ends place.now.tenant.0 place.now.pipeline.0 finished ∷ []) self.new }
+    {
         if self.fault.is_some() {
             return;
         }
-        let place = place_of(&self.gens, tenant, pipeline);
         self.lines.clear();
-        let made = push_end(&mut self.lines, self.alloc, &place, finished);
+        let made = push_end(&mut self.lines, self.alloc, place, finished);
         self.write(made);
     }
 
     /// Why lines are missing, if any are.
-    pub(crate) fn fault(&self) -> Option<JournalFault> {
+    pub(crate) fn fault(&self) -> Option<JournalFault>
+        ensures { result ≡ self.now.fault }
+    {
         self.fault
     }
 
-    // Writes the lines that were made to the file at once. An action without lines writes nothing.
-    fn write(&mut self, made: Result<(), Memory>) {
-        if made.is_err() {
-            self.fault = Some(JournalFault::Memory);
-        } else if !self.lines.is_empty()
-            && write_lines(&mut self.file, self.lines.as_str()).is_err()
-        {
-            self.fault = Some(JournalFault::File);
-        }
+    /// What the lines were written to.
+    pub(crate) fn into_writer(self) -> W
+        ensures { result ≡ self.writer }
+    {
+        let Journal { writer, .. } = self;
+        writer
+    }
+
+    // Writes the lines that were made at once.
+    fn write(&mut self, made: Result<(), Memory>)
+        ensures made { self.new.fault ≡ None → IsOk made }
+        ensures written { self.new.fault ≡ None → Appends (W.contents self.old.writer) (W.contents self.new.writer) (string_bytes self.old.lines) }
+        ensures pipelines { self.new.pipelines ≡ self.old.pipelines }
+    {
+        self.fault = match made {
+            Ok(()) => written(&mut self.writer, self.lines.as_str()),
+            Err(Memory) => Some(JournalFault::Memory),
+        };
     }
 }
 
-fn place_of(gens: &Shared<Generations>, tenant: TenantId, pipeline: PipelineId) -> Place<'_> {
-    Place {
-        config: gens.get().first(),
-        tenant,
-        pipeline,
+// Writes lines, and says why that failed, if it did. An action without lines writes nothing.
+fn written<W: Write>(writer: &mut W, lines: &str) -> Option<JournalFault>
+    ensures { result ≡ None → Appends (W.contents writer.old) (W.contents writer.new) lines.now }
+{
+    if lines.is_empty() {
+        return None;
     }
-}
-
-// Makes the journals of all pipelines.
-fn first_of(alloc: Global, config: &Config) -> Result<Vec<Vec<PipelineJournal>>, Memory> {
-    let mut all = Vec::new(alloc);
-    for tenant in config.tenants() {
-        let mut own = Vec::new(alloc);
-        for pipeline in tenant.pipelines.as_slice() {
-            own.push(PipelineJournal::new(alloc, pipeline.manager))?;
-        }
-        all.push(own)?;
+    match write_lines(writer, lines) {
+        Ok(()) => None,
+        Err(_) => Some(JournalFault::File),
     }
-    Ok(all)
 }

@@ -1,6 +1,7 @@
 //! The gate of `serve`, by which workers keep the journal and the status board.
 use crate::fault::Fault;
 use crate::journal::{Journal, JournalFault};
+use crate::pipeline_journals::place_of;
 use gate_config::Generations;
 use gate_journal::ProcessedAction;
 use gate_pipeline::{Pipeline, Processed};
@@ -9,32 +10,37 @@ use gate_run_posts::{Inbox, Stopper};
 use gate_run_worker::Gate;
 use gate_source::StopCause;
 use gate_status::BoardGate;
-use std::alloc::Global;
 use std::fs::File;
 use std::sync::{Mutex, Wait};
 
 /// A journal that asks the run to stop if a line of it can't be written.
 #[derive(Drop)]
 pub struct Journaling {
-    journal: Journal,
+    gens: Shared<Generations>,
+    journal: Journal<File>,
     stopper: Stopper,
     // Whether the run was asked to stop.
     stops: bool,
 }
 
 impl Journaling {
-    /// A journal for the run that the stopper stops.
-    pub(crate) fn new(journal: Journal, stopper: Stopper) -> Journaling {
-        Journaling {
-            journal,
-            stopper,
-            stops: false,
-        }
-    }
-
     /// Why lines are missing, if any are.
     pub fn fault(&self) -> Option<JournalFault> {
         self.journal.fault()
+    }
+
+    // Writes the lines of a pipeline's next action.
+    fn tell(&mut self, tenant: TenantId, pipeline: PipelineId, processed: &ProcessedAction<'_>) {
+        let place = place_of(self.gens.get(), tenant, pipeline);
+        self.journal.tell(&place, processed);
+        self.stop_at_fault();
+    }
+
+    // Writes the last line of a pipeline.
+    fn end(&mut self, tenant: TenantId, pipeline: PipelineId, finished: bool) {
+        let place = place_of(self.gens.get(), tenant, pipeline);
+        self.journal.end(&place, finished);
+        self.stop_at_fault();
     }
 
     // Asks the run to stop if a line is missing. Where memory is refused for that, the next action asks again.
@@ -45,20 +51,21 @@ impl Journaling {
     }
 }
 
-/// Makes the journal that is written to a file, if there is one. It will stop the run of this inbox.
-pub fn open_journaling(
-    alloc: Global,
+/// Shares the journal of a run, if there is one, among the run's workers. A fault of the journal will stop the run of this inbox.
+pub fn shared_journal(
     gens: &Shared<Generations>,
     inbox: &Inbox,
-    file: Option<File>,
+    journal: Option<Journal<File>>,
 ) -> Result<Option<Mutex<Journaling>>, Fault> {
-    let Some(file) = file else {
+    let Some(journal) = journal else {
         return Ok(None);
     };
-    let Ok(journal) = Journal::new(alloc, gens.share()?, file) else {
-        return Err(Fault::Memory);
-    };
-    Ok(Some(Mutex::new(Journaling::new(journal, inbox.stopper()?))))
+    Ok(Some(Mutex::new(Journaling {
+        gens: gens.share()?,
+        journal,
+        stopper: inbox.stopper()?,
+        stops: false,
+    })))
 }
 
 /// A gate that keeps the board, and the journal if there is one. A call waits for the locks of both. Its time grows with what the action
@@ -96,9 +103,7 @@ impl<'a> Gate for JournalGate<'a> {
             outcome: *outcome,
             items: state.state(),
         };
-        let mut own = journal.lock(rt);
-        own.journal.tell(tenant, pipeline, &processed);
-        own.stop_at_fault();
+        journal.lock(rt).tell(tenant, pipeline, &processed);
     }
 
     fn last<R: Wait>(&self, rt: &R, tenant: TenantId, pipeline: PipelineId, state: &Pipeline) {
@@ -106,8 +111,6 @@ impl<'a> Gate for JournalGate<'a> {
         let Some(journal) = self.journal else {
             return;
         };
-        let mut own = journal.lock(rt);
-        own.journal.end(tenant, pipeline, state.finished());
-        own.stop_at_fault();
+        journal.lock(rt).end(tenant, pipeline, state.finished());
     }
 }

@@ -1,4 +1,8 @@
 //! Opens the status port.
+ghost use Rattle.std.specs.Prelude.{◌≡◌, IfErr, IfOk, MatchOption, codes};
+ghost use Rattle.gate_main_command.specs.declared.fault.Fault.TheVariants.{Usage};
+ghost use Rattle.gate_main_streams.specs.Addresses.{text_of};
+
 use crate::fault::{Fault, is_out_of_memory};
 use gate_main_streams::{Address, SocketFile};
 use std::fs::File;
@@ -10,7 +14,10 @@ use std::rt::Files;
 use std::time::Clock;
 
 /// Reads the word STATUS: the port's address, or `None` if there is to be no port. `Usage` says that the word has another form.
-pub fn port_address(word: &str) -> Result<Option<Address<'_>>, Fault> {
+pub fn port_address(word: &str) -> Result<Option<Address<'_>>, Fault>
+    ensures address { IfOk result (λ address. MatchOption address (word.now ≡ codes "none") (λ found. text_of found ≡ word.now)) }
+    ensures usage { IfErr result (λ fault. fault ≡ Usage) }
+{
     match Address::of(word) {
         None if word == "none" => Ok(None),
         None | Some(Address::File(_)) => Err(Fault::Usage),

@@ -1,9 +1,17 @@
 //! The command `replay`: what it prints, and the journal that it writes.
+ghost use Rattle.std.specs.Prelude.{IfErr, IfOk, length, map, string_bytes};
+ghost use Rattle.gate_config.specs.Generations.{bytes_of};
+ghost use Rattle.gate_core.specs.Replays.{Replays};
+ghost use Rattle.gate_main_command.specs.Faulty.{FailsInput, FailsRightly};
+ghost use Rattle.gate_main_command.specs.Printed.{IsCut, ReplaysBytes, ReplaysSome};
+
 use crate::fault::Fault;
-use crate::files::{read_file, read_files, reading_fault};
-use crate::journal_opening::{journal_fault, journal_file, journal_path};
-use crate::script_journal::write_replayed;
-use gate_core::replay;
+use crate::files::{read_file, read_files};
+use crate::input::read_input;
+use crate::journal_opening::{journal_path, write_journal};
+use crate::script_journal::ScriptJournal;
+use gate_core::{replay, replay_before};
+use gate_line::first_line;
 use std::fs::File;
 use std::io::Read;
 use std::rt::{Env, Files};
@@ -14,7 +22,9 @@ pub fn replay_files<X: Files<File = File> + Env + AllocGlobal>(
     rt: &X,
     config: Vec<String>,
     script: String,
-) -> Result<String, Fault> {
+) -> Result<String, Fault>
+    ensures { IfOk result (λ text. ReplaysSome (length config.items) (string_bytes text)) }
+{
     let documents = read_files(rt, config)?;
     let script = read_file(rt, script)?;
     replay_told(rt, documents.as_slice(), script.as_slice())
@@ -25,26 +35,18 @@ fn replay_told<X: Files<File = File> + Env + AllocGlobal>(
     rt: &X,
     documents: &[Vec<u8>],
     script: &[u8],
-) -> Result<String, Fault> {
-    let text = replay(rt.alloc(), documents, script)?;
-    write_journal(rt, documents, script)?;
-    Ok(text)
-}
-
-// Writes the journal of a script that was replayed, if there is to be one.
-fn write_journal<X: Files<File = File> + Env + AllocGlobal>(
-    rt: &X,
-    documents: &[Vec<u8>],
-    script: &[u8],
-) -> Result<(), Fault> {
+) -> Result<String, Fault>
+    ensures text { IfOk result (λ text. Replays (map bytes_of documents.now) script.now (string_bytes text)) }
+    ensures fault { IfErr result (FailsRightly (map bytes_of documents.now) script.now) }
+{
+    let alloc = rt.alloc();
     let Some(path) = journal_path(rt)? else {
-        return Ok(());
+        return Ok(replay(alloc, documents, script)?);
     };
-    let file = journal_file(rt, path.as_str())?;
-    match write_replayed(rt.alloc(), documents, script, file) {
-        Ok(()) => Ok(()),
-        Err(fault) => Err(journal_fault(rt.alloc(), path.as_str(), fault)),
-    }
+    let (text, journal) = replay_before(alloc, documents, script, ScriptJournal::new(alloc))?;
+    let lines = journal.into_lines()?;
+    write_journal(rt, path.as_str(), lines.as_slice())?;
+    Ok(text)
 }
 
 /// What `replay` prints of standard input: the first line is a configuration of one generation, and the rest is the script. The faults are
@@ -53,21 +55,22 @@ pub fn replay_input<X, R>(rt: &X, input: &mut R) -> Result<String, Fault>
 where
     X: Files<File = File> + Env + AllocGlobal,
     R: Read,
+    ensures text { IfOk result (λ text. ReplaysBytes (R.remaining input.old) (string_bytes text)) }
+    ensures fault { IfErr result (FailsInput (R.remaining input.old)) }
 {
     let alloc = rt.alloc();
-    let mut bytes = Vec::new(alloc);
-    if let Err(error) = input.read_to_end(&mut bytes) {
-        return Err(reading_fault(String::from_str(alloc, "-")?, &error));
-    }
-    let (line, script) = first_line(bytes.as_slice());
+    let bytes = read_input(alloc, input)?;
+    let (line, script) = configuration_and_script(bytes.as_slice());
     let documents = [line.to_vec(alloc)?];
     replay_told(rt, documents.as_slice(), script)
 }
 
-// The bytes before the first line feed, and those after it.
-fn first_line(bytes: &[u8]) -> (&[u8], &[u8]) {
-    match bytes.iter().position(|byte| *byte == b'\n') {
-        Some(end) => (&bytes[..end], &bytes[end + 1..]),
-        None => (bytes, &[]),
+// The configuration, which is the first line, and the script. Both are empty where there are no bytes.
+fn configuration_and_script(bytes: &[u8]) -> (&[u8], &[u8])
+    ensures { IsCut bytes.now result.0.now result.1.now }
+{
+    if bytes.is_empty() {
+        return (bytes, bytes);
     }
+    first_line(bytes)
 }

@@ -1,10 +1,15 @@
 //! Reads the words that name the streams of connections, and opens these streams.
-ghost use Rattle.std.specs.Prelude.{◌≡◌, ◌-◌, ◌<◌, ◌^◌, All, IfOk, length};
+ghost use Rattle.std.specs.Prelude.{◌≡◌, ◌==◌, ◌-◌, ◌<◌, ◌^◌, All, IfOk, IfSome, Some, length, map, slice_get, string_bytes};
+ghost use Rattle.std.specs.List.{list_any, position};
+ghost use Rattle.std.specs.Str.{bytes_eq};
 ghost use Rattle.gate_config.specs.Lookups.{connections_of};
+ghost use Rattle.gate_main_command.specs.StreamWords.{IsStreamWord, NameStreams};
+ghost use Rattle.gate_main_command.specs.declared.streams.StreamWord.{StreamWord as AStreamWord};
 
 use crate::fault::{Fault, is_out_of_memory};
 use gate_config::Config;
 use gate_main_streams::{Address, Stream};
+use gate_record::Text;
 use gate_source::{ReaderFeed, RecordFeed};
 use std::alloc::Global;
 use std::fs::File;
@@ -27,7 +32,9 @@ pub fn stream_words<'a>(
     alloc: Global,
     config: &Config,
     words: &'a [String],
-) -> Result<Vec<StreamWord<'a>>, Fault> {
+) -> Result<Vec<StreamWord<'a>>, Fault>
+    ensures { IfOk result (λ sources. NameStreams config.now (map string_bytes words.entry.now) sources.items) }
+{
     let mut sources: Vec<StreamWord<'a>> = Vec::new(alloc);
     for word in words {
         match stream_word(config, word.as_str()) {
@@ -43,7 +50,9 @@ pub fn stream_words<'a>(
     Ok(sources)
 }
 
-fn stream_word<'a>(config: &Config, word: &'a str) -> Option<StreamWord<'a>> {
+fn stream_word<'a>(config: &Config, word: &'a str) -> Option<StreamWord<'a>>
+    ensures { IfSome result (IsStreamWord config.now word.entry.now) }
+{
     let (name, address) = word.split_once('=')?;
     Some(StreamWord {
         word,
@@ -52,14 +61,21 @@ fn stream_word<'a>(config: &Config, word: &'a str) -> Option<StreamWord<'a>> {
     })
 }
 
-fn number_of(config: &Config, name: &str) -> Option<usize> {
-    config
-        .connections()
-        .iter()
-        .position(|connection| connection.as_str() == name)
+fn number_of(config: &Config, name: &str) -> Option<usize>
+    ensures { IfSome result (λ number. slice_get (connections_of config.now) number ≡ Some name.now) }
+{
+    position_of(config.connections(), name)
 }
 
-fn has(sources: &[StreamWord<'_>], conn: usize) -> bool {
+fn position_of(names: &[Text], name: &str) -> Option<usize>
+    ensures { result ≡ position (λ other. bytes_eq other name.now) names.now }
+{
+    names.iter().position(|other| other.as_str() == name)
+}
+
+fn has(sources: &[StreamWord<'_>], conn: usize) -> bool
+    ensures { result ≡ list_any (λ (source : AStreamWord). source.conn == conn) sources.now }
+{
     sources.iter().any(|source| source.conn == conn)
 }
 

@@ -1,5 +1,5 @@
 //! Reads the words of the command line.
-ghost use Rattle.std.specs.Prelude.{◌≡◌, ◌≢◌};
+ghost use Rattle.std.specs.Prelude.{◌≡◌, ◌≢◌, ◌≤◌, Ok, length};
 ghost use Rattle.std.specs.IoError.{error_kind};
 ghost use Rattle.gate_main_command.specs.Faults.{status_of};
 
@@ -35,7 +35,12 @@ pub enum Task {
 
 /// Reads the program's words, of which the first is the program's name. `Usage` says that they are none of the forms that the program
 /// knows.
-pub fn task_of<'a>(alloc: Global, words: &'a [String]) -> Result<Task, Fault> {
+pub fn task_of<'a>(alloc: Global, words: &'a [String]) -> Result<Task, Fault>
+    ensures input { length words.entry.now ≤ 1 → result ≡ Ok Task.Input }
+{
+    if words.len() <= 1 {
+        return Ok(Task::Input);
+    }
     let command = command(alloc)?;
     match command.try_get_matches_from(words) {
         Ok(matches) => task_in(alloc, &matches),

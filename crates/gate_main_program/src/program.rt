@@ -1,13 +1,20 @@
 //! Does what the words of the command line ask for, from reading the words to the exit status.
-ghost use Rattle.std.specs.Prelude.{◌≡◌, ◌≢◌, ◌≤◌};
+ghost use Rattle.std.specs.Prelude.{◌≡◌, ◌≢◌, ◌≤◌, ◌⊎◌, IfErr, IfOk, IfSome, MatchResult, None, OnOk, Some, length, string_bytes};
+ghost use Rattle.std.specs.Io.KnownBytes.{Appends};
 ghost use Rattle.std.specs.IoError.{error_kind};
-ghost use Rattle.gate_main_command.specs.Faults.{status_of};
+ghost use Rattle.gate_main_command.specs.Faults.{fault_line, status_of};
+ghost use Rattle.gate_main_command.specs.Faulty.{FailsInput};
+ghost use Rattle.gate_main_command.specs.declared.fault.Fault.TheVariants as faults;
+ghost use Rattle.gate_main_program.specs.Said.{HasStatus, IsOfAJournal, Prints};
+ghost use Rattle.gate_main_program.specs.Inner.Commands.{ComesAfter, SaysFor};
 
 use crate::serving::{Ran, serve_words};
 use gate_main_command::{
     Fault, Task, check_files, journal_fault, journal_path, read_files, replay_files, replay_input,
     task_of, unread,
 };
+use gate_main_streams::Stream;
+use gate_run::{ReaderFeed, RecordFeed};
 use std::alloc::Global;
 use std::fs::File;
 use std::io;
@@ -44,14 +51,14 @@ where
     O: Write,
     E: Write,
     ensures within { result ≤ 3 }
+    ensures prints { result ≡ 0 → Prints ⟦<ReaderFeed<Stream> as RecordFeed>⟧.to_come ⟦<ReaderFeed<Stream> as RecordFeed>⟧.fault_count (length words.now) (R.remaining input.old) (O.contents output.old) (O.contents output.new) }
+    ensures quiet { result ≡ 0 → errors.new ≡ errors.old }
+    ensures fails { result ≢ 0 → HasStatus (length words.now) result (R.remaining input.old) output.old output.new }
 {
-    let done = match said_by(rt, words, input) {
-        Ok(said) => print(output, said),
-        Err(fault) => Err(fault),
-    };
-    match done {
+    let said = said_by(rt, words, input);
+    match print_said(output, said) {
         Ok(()) => 0,
-        Err(fault) => tell(&fault, errors),
+        Err(fault) => fail(&fault, errors),
     }
 }
 
@@ -61,15 +68,22 @@ pub fn run_unread<E: Write>(error: &io::Error, errors: &mut E) -> u8
     ensures memory { error_kind error.now ≡ ErrorKind.OutOfMemory → result ≡ 1 }
     ensures usage { error_kind error.now ≢ ErrorKind.OutOfMemory → result ≡ 2 }
 {
-    tell(&unread(error), errors)
+    fail(&unread(error), errors)
 }
 
-// Writes the line of a fault, and gives its exit status.
-fn tell<E: Write>(fault: &Fault, errors: &mut E) -> u8
+// Tells a fault, and gives its exit status, also where nobody can be told.
+fn fail<E: Write>(fault: &Fault, errors: &mut E) -> u8
     ensures { result ≡ status_of fault.now }
 {
-    let _ = writeln!(errors, "fault: {fault}");
+    let _ = tell(fault, errors);
     fault.status()
+}
+
+// Writes the line of a fault.
+fn tell<E: Write>(fault: &Fault, errors: &mut E) -> io::Result<()>
+    ensures { OnOk result (Appends (E.contents errors.old) (E.contents errors.new) (fault_line fault.now)) }
+{
+    writeln!(errors, "fault: {fault}")
 }
 
 // What a command prints, and the fault that comes after that, if there is one.
@@ -80,7 +94,10 @@ struct Said {
 }
 
 impl Said {
-    fn of(text: String) -> Said {
+    fn of(text: String) -> Said
+        ensures text { result.text ≡ text }
+        ensures fault { result.fault ≡ None }
+    {
         Said { text, fault: None }
     }
 }
@@ -100,6 +117,9 @@ where
         + Sync
         + 'static,
     R: Read,
+    ensures says { IfOk result (λ said. SaysFor ⟦<ReaderFeed<Stream> as RecordFeed>⟧.to_come ⟦<ReaderFeed<Stream> as RecordFeed>⟧.fault_count (length words.now) (R.remaining input.old) (string_bytes said.text)) }
+    ensures late { IfOk result (λ said. ComesAfter (length words.now) said.fault) }
+    ensures fault { IfErr result (λ found. length words.now ≤ 1 → FailsInput (R.remaining input.old) found) }
 {
     match task_of(rt.alloc(), words)? {
         Task::Check { config } => Ok(Said::of(check_files(rt, config)?)),
@@ -119,19 +139,33 @@ where
     }
 }
 
-fn print<O: Write>(output: &mut O, said: Said) -> Result<(), Fault> {
-    let Said { text, fault } = said;
-    if write_text(output, text.as_str()).is_err() {
-        return Err(Fault::Write);
-    }
-    match fault {
-        Some(fault) => Err(fault),
-        None => Ok(()),
+// Prints what a command says, if it does, and answers its fault.
+fn print_said<O: Write>(output: &mut O, said: Result<Said, Fault>) -> Result<(), Fault>
+    ensures prints { OnOk result (MatchResult said (λ said. Appends (O.contents output.old) (O.contents output.new) (string_bytes said.text) × (said.fault ≡ None)) (λ fault. ⊥)) }
+    ensures fails { IfErr result (λ found. MatchResult said (λ said. (found ≡ faults.Write) ⊎ (said.fault ≡ Some found)) (λ fault. (found ≡ fault) × (output.new ≡ output.old))) }
+{
+    match said {
+        Ok(Said { text, fault }) => match (print(output, text.as_str()), fault) {
+            (Err(_), _) => Err(Fault::Write),
+            (Ok(()), Some(fault)) => Err(fault),
+            (Ok(()), None) => Ok(()),
+        },
+        Err(fault) => Err(fault),
     }
 }
 
+fn print<O: Write>(output: &mut O, text: &str) -> io::Result<()>
+    ensures { OnOk result (Appends (O.contents output.old) (O.contents output.new) text.now) }
+{
+    output.write_all(text.as_bytes())?;
+    output.flush()
+}
+
 // The report of a run, and after it the fault of its journal.
-fn said_of_run(alloc: Global, ran: Ran, path: Option<&str>) -> Said {
+fn said_of_run(alloc: Global, ran: Ran, path: Option<&str>) -> Said
+    ensures text { result.text ≡ ran.report }
+    ensures late { IfSome result.fault IsOfAJournal }
+{
     let fault = match (ran.fault, path) {
         (Some(fault), Some(path)) => Some(journal_fault(alloc, path, fault)),
         _ => None,
@@ -140,9 +174,4 @@ fn said_of_run(alloc: Global, ran: Ran, path: Option<&str>) -> Said {
         text: ran.report,
         fault,
     }
-}
-
-fn write_text<O: Write>(output: &mut O, text: &str) -> io::Result<()> {
-    output.write_all(text.as_bytes())?;
-    output.flush()
 }

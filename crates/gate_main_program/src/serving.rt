@@ -1,12 +1,16 @@
 //! The command `serve`: opens the streams, the port and the journal, runs the threads, and makes the report.
-ghost use Rattle.std.specs.Prelude.{◌≡◌, ◌-◌, ◌<◌, ◌^◌, All, IfOk, length};
+ghost use Rattle.std.specs.Prelude.{◌≡◌, ◌-◌, ◌<◌, ◌^◌, All, IfOk, length, map, string_bytes};
+ghost use Rattle.gate_config.specs.Generations.{bytes_of};
 ghost use Rattle.gate_config.specs.Lookups.{connections_of};
+ghost use Rattle.gate_report_text.specs.ReportText.{report_text};
 ghost use Rattle.gate_run_posts.specs.Ports.{IsInboxFor};
+ghost use Rattle.gate_main_command.specs.Printed.{AreGenerations};
+ghost use Rattle.gate_main_program.specs.Said.{ReportsRun, ServesDocuments};
 
 use gate_config::{Config, Generations, read_generations};
 use gate_main_command::{
-    Fault, JournalFault, JournalGate, Port, StreamWord, journal_file, journaling_crosses, listen,
-    open_feeds, open_inbox, open_journaling, port_address, stream_words,
+    Fault, Journal, JournalFault, JournalGate, Port, StreamWord, journaling_crosses, listen,
+    open_feeds, open_inbox, open_journal, port_address, shared_journal, stream_words,
 };
 use gate_main_streams::Stream;
 use gate_record::Shared;
@@ -54,6 +58,7 @@ where
         + Send
         + Sync
         + 'static,
+    ensures { IfOk result (λ ran. ServesDocuments ⟦<ReaderFeed<Stream> as RecordFeed>⟧.to_come ⟦<ReaderFeed<Stream> as RecordFeed>⟧.fault_count (map bytes_of documents.items) (string_bytes ran.report)) }
 {
     let alloc = rt.alloc();
     let gens = shared_generations(alloc, documents)?;
@@ -62,7 +67,7 @@ where
     let sources = stream_words(alloc, gens.get().first(), words)?;
     let (port, socket) = listen(rt, status, address)?;
     let ran = match open_all(rt, gens.get().first(), sources.as_slice(), journal) {
-        Ok((file, feeds)) => run(rt, &gens, &board, feeds, port, file),
+        Ok((journal, feeds)) => run(rt, &gens, &board, feeds, port, journal),
         Err(fault) => Err(fault),
     };
     // The file is removed while the port is still listened on, so that no other program takes the socket for an abandoned one.
@@ -76,10 +81,9 @@ where
 }
 
 // Reads the documents and drops their texts, because a run may take days and needs them no more.
-fn shared_generations(
-    alloc: Global,
-    documents: Vec<Vec<u8>>,
-) -> Result<Shared<Generations>, Fault> {
+fn shared_generations(alloc: Global, documents: Vec<Vec<u8>>) -> Result<Shared<Generations>, Fault>
+    ensures { IfOk result (λ gens. AreGenerations (map bytes_of documents.items) gens) }
+{
     Ok(Shared::new(alloc, read_generations(alloc, documents.as_slice())?)?)
 }
 
@@ -93,16 +97,16 @@ fn open_all<X: Files<File = File> + Net<Stream = TcpStream> + AllocGlobal>(
     config: &Config,
     sources: &[StreamWord<'_>],
     journal: Option<&str>,
-) -> Result<(Option<File>, Vec<ReaderFeed<Stream>>), Fault>
+) -> Result<(Option<Journal<File>>, Vec<ReaderFeed<Stream>>), Fault>
     ensures count { IfOk result (λ opened. length opened.1.items ≡ length (connections_of config.now)) }
     ensures few { IfOk result (λ opened. All (λ feed. ⟦<ReaderFeed<Stream> as RecordFeed>⟧.fault_count feed < 2 ^ 64 - 1) opened.1.items) }
 {
-    let file = match journal {
-        Some(path) => Some(journal_file(rt, path)?),
+    let journal = match journal {
+        Some(path) => Some(open_journal(rt, config, path)?),
         None => None,
     };
     let feeds = open_feeds(rt, config, sources)?;
-    Ok((file, feeds))
+    Ok((journal, feeds))
 }
 
 // Runs until the streams are processed or a session has ended by `stop`. Where there is a port, a session has to end so. The answer is what
@@ -113,15 +117,16 @@ fn run<X>(
     board: &Shared<Mutex<Board>>,
     feeds: Vec<ReaderFeed<Stream>>,
     port: Option<Port>,
-    file: Option<File>,
+    journal: Option<Journal<File>>,
 ) -> Result<(Ran, Option<Port>), Fault>
 where
     X: Threads + Wait + Clock + AllocGlobal + Copy + Send + Sync + 'static,
     requires feeds { length feeds.items ≡ length (connections_of gens.now.first) }
     requires few { All (λ feed. ⟦<ReaderFeed<Stream> as RecordFeed>⟧.fault_count feed < 2 ^ 64 - 1) feeds.items }
+    ensures { IfOk result (λ done. ReportsRun ⟦<ReaderFeed<Stream> as RecordFeed>⟧.to_come ⟦<ReaderFeed<Stream> as RecordFeed>⟧.fault_count gens.now (string_bytes done.0.report)) }
 {
     let (sessions, inbox) = open_inbox(rt, gens, board, port)?;
-    let ran = run_told(rt, gens, board, feeds, inbox, file)?;
+    let ran = run_told(rt, gens, board, feeds, inbox, journal)?;
     Ok((ran, joined(rt, sessions)))
 }
 
@@ -139,17 +144,18 @@ fn run_told<X>(
     board: &Shared<Mutex<Board>>,
     feeds: Vec<ReaderFeed<Stream>>,
     inbox: Inbox,
-    file: Option<File>,
+    journal: Option<Journal<File>>,
 ) -> Result<Ran, Fault>
 where
     X: Threads + Wait + Clock + AllocGlobal + Copy + Send + Sync + 'static,
     requires feeds { length feeds.items ≡ length (connections_of gens.now.first) }
     requires few { All (λ feed. ⟦<ReaderFeed<Stream> as RecordFeed>⟧.fault_count feed < 2 ^ 64 - 1) feeds.items }
     requires for_config { IsInboxFor gens.now.first inbox }
+    ensures { IfOk result (λ ran. ReportsRun ⟦<ReaderFeed<Stream> as RecordFeed>⟧.to_come ⟦<ReaderFeed<Stream> as RecordFeed>⟧.fault_count gens.now (string_bytes ran.report)) }
 {
     let alloc = rt.alloc();
     journaling_crosses();
-    let journal = open_journaling(alloc, gens, &inbox, file)?;
+    let journal = shared_journal(gens, &inbox, journal)?;
     let gate = JournalGate::new(BoardGate::new(board.get()), journal.as_ref());
     let served = serve(rt, alloc, gens.get(), feeds, inbox, &gate)?;
     let report = report(alloc, gens.get().first(), served)?;
@@ -163,7 +169,9 @@ fn report(
     alloc: Global,
     config: &Config,
     served: Served<ReaderFeed<Stream>>,
-) -> Result<String, Fault> {
+) -> Result<String, Fault>
+    ensures { IfOk result (λ text. string_bytes text ≡ report_text config.now served.report) }
+{
     let Served {
         report,
         pipelines,

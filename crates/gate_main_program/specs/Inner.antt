@@ -1,0 +1,2 @@
+-- Definitions that only private contracts and proofs cite: no public contract rests on them.
+pub mod Commands
