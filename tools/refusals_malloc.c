@@ -1,7 +1,8 @@
-// Refuses memory and threads to the program for which this library is preloaded (tools/refusals). It counts the calls of malloc and realloc
-// that stand in the program itself, not in its libraries, from 1 and over all threads. REFUSE is CALL:TIMES:THREAD. From that call on, so
-// many calls return NULL; and that thread, counted from 1, isn't started. The file REFUSE_COUNTS is mapped, so it has three numbers of 64
-// bits however the program ends: the calls, how much was refused, and the threads that the program asked for.
+// Refuses memory and threads to the program for which this library is preloaded (by tools/refusals, and by a case of tools/serving). It
+// counts the calls of malloc and realloc that stand in the program itself, not in its libraries, from 1 and over all threads. REFUSE is
+// CALL:TIMES:THREAD. From that call on, so many calls return NULL; and that thread, counted from 1, isn't started. With :WRITES behind it,
+// a thread whose write has failed is refused its next call, as long as so many haven't been. The file REFUSE_COUNTS is mapped, so it has
+// three numbers of 64 bits however the program ends: the calls, how much was refused, and the threads that the program asked for.
 #define _GNU_SOURCE
 #include <dlfcn.h>
 #include <errno.h>
@@ -23,11 +24,13 @@
 enum { CALLS, REFUSED, THREADS };
 
 static _Atomic uint64_t *counts;
-static unsigned long refused_call, times, refused_thread;
+static unsigned long refused_call, times, refused_thread, writes;
+// Whether the next call of this thread is refused.
+static _Thread_local int has_failed;
 static Dl_info program;
 
 __attribute__((constructor)) static void begin(void) {
-    sscanf(getenv("REFUSE"), "%lu:%lu:%lu", &refused_call, &times, &refused_thread);
+    sscanf(getenv("REFUSE"), "%lu:%lu:%lu:%lu", &refused_call, &times, &refused_thread, &writes);
     int file = open(getenv("REFUSE_COUNTS"), O_RDWR);
     counts = mmap(NULL, 3 * sizeof *counts, PROT_READ | PROT_WRITE, MAP_SHARED, file, 0);
     close(file);
@@ -39,8 +42,9 @@ static int is_refused(void *caller) {
     if (!program.dli_fbase || !dladdr(caller, &object) || object.dli_fbase != program.dli_fbase)
         return 0;
     uint64_t call = ++counts[CALLS];
-    if (call < refused_call || call - refused_call >= times)
+    if (!has_failed && (call < refused_call || call - refused_call >= times))
         return 0;
+    has_failed = 0;
     counts[REFUSED]++;
     errno = ENOMEM;
     return 1;
@@ -62,4 +66,12 @@ int pthread_create(pthread_t *thread, const pthread_attr_t *attributes, void *(*
         return real(thread, attributes, begin, given);
     counts[REFUSED]++;
     return EAGAIN;
+}
+
+ssize_t write(int file, const void *bytes, size_t size) {
+    REAL(write);
+    ssize_t written = real(file, bytes, size);
+    if (written < 0 && counts && counts[REFUSED] < writes)
+        has_failed = 1;
+    return written;
 }

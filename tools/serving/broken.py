@@ -11,8 +11,10 @@ from live.peers import connect, reset, server
 
 from .shared import GERRIT, REPORT, Session, begin, ends, ends_by_stop, port, start, write_streams
 
-# How many seconds to wait for a session that another one keeps out for a minute.
+# How many seconds to wait for a session that another one keeps out for a minute, and how many have passed at the least. The program may
+# see the end of the minute a little early.
 LONG = 90
+LEAST = 59
 
 
 def goes_on_after(kind, breaks):
@@ -86,15 +88,20 @@ def a_session_that_goes_away_ends_no_program():
 
 
 def is_over_after_a_minute(kind, spoils):
-    """A session that does this keeps out another one, which asks for a stop. After a minute the program ends the first one."""
+    """A session that does this keeps out another one, which asks for a stop. After a minute, and no sooner, the program ends the first
+    one."""
     process = begin(place := port(kind))
     first = Session(place)
+    # The minute begins after this moment, and the second session has its reply after the minute.
+    before = time.monotonic()
     first.waits()
     with connect(place) as second:
         second.settimeout(LONG)
         second.sendall(b"stop\n")
         spoils(first)
         same(second.recv(8), b"ok\n")
+        passed = time.monotonic() - before
+    same((f"{passed:.1f} seconds", passed >= LEAST), (f"{passed:.1f} seconds", True))
     ends(process, REPORT)
 
 

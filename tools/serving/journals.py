@@ -2,11 +2,13 @@
 takes to write the journal."""
 import json
 import os
+import struct
+import subprocess
 from contextlib import contextmanager
 from pathlib import Path
 
 from live.cases import case, same
-from live.peers import SECONDS, server
+from live.peers import ROOT, SECONDS, server
 
 from .journaling import RUNNER, compact, fed, journal_of, members, of_gate, of_gerrit, open_sets, report_of_example, start_example, until
 from .shared import FILES, GERRIT, REPORT, Session, ends, faults, report, start, write_streams
@@ -116,6 +118,43 @@ def a_journal_tells_of_each_action_what_it_begins_cancels_reports_or_discards():
     telling.is_told()
 
 
+# A configuration of two tenants with two pipelines each, its streams, and the journal of a script in which some results come besides.
+SEVERAL = ROOT / "cases/journals/of-several-tenants"
+REPORT_OF_SEVERAL = """\
+connection "gerrit" accepted 3 ended
+connection "review" accepted 1 ended
+pipeline "main" "check" finished
+done "main" "check" "gerrit" 0 2
+pipeline "main" "post" finished
+done "main" "post" "gerrit" 1
+pipeline "other" "gate" finished
+done "other" "gate" "gerrit" 0 1 2
+done "other" "gate" "review"
+pipeline "other" "release" finished
+done "other" "release" "gerrit"
+done "other" "release" "review" 0
+"""
+
+
+def by_pipeline(journal):
+    """The lines of each pipeline, in order."""
+    lines = {}
+    for line in journal:
+        lines.setdefault((line["t"], line["p"]), []).append(line)
+    return lines
+
+
+@case
+def each_pipeline_of_each_tenant_has_lines_and_an_end_of_its_own():
+    streams = [f"{name}=file:{SEVERAL / name}.stream" for name in ("gerrit", "review")]
+    ends(start("none", *streams, config=str(SEVERAL / "config.json"), journal="journal"), REPORT_OF_SEVERAL)
+    begin, *found = journal_of(Path("journal").read_text())
+    same(begin, {"start": 1})
+    _, *wanted = journal_of((SEVERAL / "journal").read_text())
+    wanted = [{**line, "end": "finished"} if "end" in line else line for line in wanted if "report" not in line]
+    same(by_pipeline(found), by_pipeline(wanted))
+
+
 @contextmanager
 def left_by_its_reader(place):
     """A run whose journal is a FIFO: somebody reads two lines of it and leaves. Gives the run and its stream, which is open."""
@@ -135,12 +174,12 @@ def left_by_its_reader(place):
         yield process, stream
 
 
-def goes_on(stream, is_over):
+def goes_on(stream, is_over, records=GERRIT):
     """Sends records until the run is over. A reader sees that the run is to stop when its stream brings something."""
 
     def is_over_then():
         try:
-            stream.sendall(GERRIT)
+            stream.sendall(records)
         except ConnectionError:
             pass
         return is_over()
@@ -163,6 +202,28 @@ def a_journal_whose_reader_leaves_ends_the_run():
     with left_by_its_reader("none") as (process, stream):
         goes_on(stream, lambda: process.poll() is not None)
     ends_by_its_journal(process)
+
+
+@case
+def a_stop_that_was_refused_memory_is_asked_for_again():
+    """The run is to stop where its journal's reader leaves, and is refused the allocation behind the write that fails."""
+    source = str(ROOT / "tools/refusals_malloc.c")
+    subprocess.run(["cc", "-O1", "-shared", "-fPIC", "-o", "refusals_malloc.so", source, "-ldl"], check=True)
+    Path("counts").write_bytes(bytes(24))
+    listener, place = server("tcp")
+    Path("empty").touch()
+    os.mkfifo("journal")
+    words = ["none", f"gerrit={place}", "review=file:empty"]
+    before = "export LD_PRELOAD=$PWD/refusals_malloc.so REFUSE=0:0:0:1 REFUSE_COUNTS=counts;"
+    process = start(*words, config=str(SEVERAL / "config.json"), before=before, journal="journal")
+    with open("journal") as reader:
+        same(reader.readline(), '{"start":1}\n')
+        stream = listener.accept()[0]
+    with stream:
+        goes_on(stream, lambda: process.poll() is not None, (SEVERAL / "gerrit.stream").read_bytes())
+    told, why = process.communicate(timeout=SECONDS)
+    same((process.returncode, why, told.split()[4]), (1, "fault: journal journal\n", "stopped"))
+    same(struct.unpack("QQQ", Path("counts").read_bytes())[1], 1)
 
 
 @case
@@ -200,6 +261,14 @@ def a_journal_that_can_t_be_written_is_journal_and_no_stream_is_opened():
         for place in ("none", "unix:status.sock"):
             faults(start(place, "gerrit=file:missing", "review=file:missing", journal=path), f"journal {path}")
     same(os.listdir(), ["folder"])
+
+
+@case
+def a_journal_whose_path_isn_t_utf_8_is_usage():
+    write_streams()
+    for path in (b"\xff", b"journal\xe9"):
+        faults(start("none", *FILES, journal=path), "usage", 2)
+    same(sorted(os.listdir()), ["gerrit.stream", "review.stream"])
 
 
 @case

@@ -1,4 +1,4 @@
-"""Where the status port listens: ports that are taken, sockets that were left, folders that are locked. Two cases wait for locked
+"""Where the status port listens: ports that are taken, sockets that were left, links, folders that are locked. Two cases wait for locked
 folders, as long as the program does. The others take as long as the program takes to start and stop; one starts it 400 times."""
 import fcntl
 import os
@@ -97,6 +97,31 @@ def of_two_programs_that_start_at_once_over_a_stale_socket_one_serves():
         started.clear()
 
 
+@case
+def a_datagram_socket_can_t_be_asked_whether_somebody_listens_and_stays():
+    with socket.socket(socket.AF_UNIX, socket.SOCK_DGRAM) as other:
+        other.bind("status.sock")
+        faults(begin(place := port("unix")), f"listen {place}")
+    same(os.path.exists("status.sock"), True)
+
+
+@case
+def a_link_to_a_socket_that_was_left_is_listen_and_both_stay():
+    leave_socket("left.sock")
+    os.symlink("left.sock", "status.sock")
+    faults(begin(place := port("unix")), f"listen {place}")
+    same((os.readlink("status.sock"), os.path.exists("left.sock")), ("left.sock", True))
+
+
+@case
+def a_program_that_may_open_too_few_files_leaves_no_socket():
+    write_streams()
+    # The program opens the folder, the socket, a second number for the socket, and then the streams. The first three numbers are taken.
+    for most, fault in ((4, "listen unix:status.sock"), (5, "listen unix:status.sock"), (6, "file review.stream")):
+        faults(start("unix:status.sock", *FILES, before=f"ulimit -n {most};"), fault)
+        same(os.path.exists("status.sock"), False)
+
+
 @contextmanager
 def locked(folder):
     descriptor = os.open(folder, os.O_RDONLY)
@@ -127,6 +152,16 @@ def a_socket_that_took_the_place_of_the_program_s_own_stays():
     leave_socket("status.sock")
     ends_by_stop(process, "unix:moved.sock")
     same(sorted(path for path in os.listdir() if path.endswith(".sock")), ["moved.sock", "status.sock"])
+
+
+@case
+def a_link_to_the_program_s_own_socket_in_its_place_stays():
+    process = begin(port("unix"))
+    Session("unix:status.sock").asks("quit", "bye")
+    os.rename("status.sock", "moved.sock")
+    os.symlink("moved.sock", "status.sock")
+    ends_by_stop(process, "unix:moved.sock")
+    same(os.readlink("status.sock"), "moved.sock")
 
 
 @case

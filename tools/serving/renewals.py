@@ -4,7 +4,7 @@ import json
 from pathlib import Path
 
 from live.cases import case
-from live.peers import server
+from live.peers import connect, server
 
 from .shared import CONFIG, GERRIT, REPORT, Session, begin, begun, ends, port, report, start
 
@@ -92,6 +92,54 @@ def renewals_are_asked_for_as_long_as_there_is_a_later_generation():
     session.shows("check", "done 2 items 1 reports 0 finished")
     session.stops()
     ends(process, renewed(report("6 ended", [0, 2], [4]), 0, 0))
+
+
+def renews_twice(config, reply, text):
+    """The first session asks for a renewal, and leaves without the reply. The second one asks again."""
+    listener, place = server("tcp")
+    Path("empty").touch()
+    process = start(status := port("unix"), f"gerrit={place}", "review=file:empty", config=config)
+    with listener.accept()[0] as stream:
+        begun()
+        with connect(status) as first:
+            first.sendall(b"renew\n")
+        session = Session(status)
+        session.asks("renew", reply)
+        session.asks("renew", "last")
+        stream.sendall(GERRIT)
+    session.shows("gate", "done 1 items 1 reports 0 finished")
+    session.stops()
+    ends(process, text)
+
+
+@case
+def with_two_documents_a_renewal_without_its_reply_may_be_repeated():
+    renews_twice(next_config(), "last", renewed(report("6 ended", [2], [4]), 0))
+
+
+@case
+def with_three_documents_a_repeated_renewal_goes_a_generation_too_far():
+    renews_twice(f"{next_config()},{CONFIG}", "ok", renewed(report("6 ended", [0, 2], [4]), 0, 0))
+
+
+@case
+def a_renewal_whose_reply_nobody_waits_for_is_in_force_on_each_connection():
+    listener, place = server("tcp")
+    other, other_place = server("tcp")
+    process = start(status := port("unix"), f"gerrit={place}", f"review={other_place}", config=next_config())
+    with listener.accept()[0] as stream, other.accept()[0] as review:
+        first = Session(status)
+        with connect(status) as second:
+            second.sendall(b"renew\n")
+        first.asks("quit", "bye")
+        session = Session(status)
+        session.asks("renew", "last")
+        stream.sendall(GERRIT)
+        review.sendall(b"no event\n")
+    session.shows("check", "done 1 items 1 reports 0 finished")
+    session.stops()
+    found = renewed(report("6 ended", [2], [4]), 0)
+    ends(process, found.replace('"review" accepted 0 ended\n', '"review" accepted 1 ended\nrenewed "review" 0\n'))
 
 
 @case

@@ -1,6 +1,7 @@
 """Sessions of the status port: their lines and the replies, several sessions in turn, and the stop. A case takes as long as the program
 takes to answer; the one that halts the program waits for a second and a half."""
 import os
+import resource
 import signal
 import socket
 from pathlib import Path
@@ -81,6 +82,47 @@ def sessions_are_served_one_after_the_other():
     second.peer.settimeout(SECONDS)
     same(second.peer.recv(8), b"ok\n")
     ends(process, REPORT)
+
+
+def may_open(process, most=None):
+    """Lets a process open no more files than that, or as many as it could at its start. What is open stays open."""
+    _, hard = resource.prlimit(process.pid, resource.RLIMIT_NOFILE)
+    resource.prlimit(process.pid, resource.RLIMIT_NOFILE, (hard if most is None else most, hard))
+
+
+def serves_on(kind):
+    """A session that can't be accepted, because the program may open no file, is served once it may."""
+    process = begin(place := port(kind))
+    first = Session(place)
+    first.asks("foo", "unknown")
+    may_open(process, 0)
+    # From the end of this session on, the program tries in vain to accept the next one.
+    first.asks("quit", "bye")
+    first.is_over()
+    second = Session(place)
+    second.peer.sendall(b"foo\n")
+    second.peer.settimeout(1)
+    try:
+        found = second.peer.recv(8)
+    except TimeoutError:
+        found = "no reply"
+    same(found, "no reply")
+    may_open(process)
+    second.peer.settimeout(SECONDS)
+    same(second.lines.readline(), "unknown\n")
+    second.asks("quit", "bye")
+    second.is_over()
+    ends_by_stop(process, place)
+
+
+@case
+def a_tcp_port_that_couldn_t_accept_a_session_goes_on():
+    serves_on("tcp")
+
+
+@case
+def a_unix_port_that_couldn_t_accept_a_session_goes_on():
+    serves_on("unix")
 
 
 @case

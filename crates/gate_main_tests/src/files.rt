@@ -1,5 +1,6 @@
 //! Files that want memory.
-use crate::running::{given, outcome};
+use crate::running::words_of;
+use gate_main_program::run_words;
 use std::alloc::{AllocError, Allocator, Global};
 use std::env::FillError;
 use std::fs::{File, Metadata, OpenOptions};
@@ -117,9 +118,17 @@ impl<X> Files for Refusing<X> {
 #[test]
 fn tells_want_of_memory_as_such(rt: HostRuntime) {
     let mut output: Vec<u8> = Vec::new(rt.alloc());
-    let words = ["gate", "check", "config.json"];
-    let read = outcome(&Refusing(rt), &words, &mut b"".as_slice(), &mut output);
-    let (status, errors) = given(&rt, read);
+    let mut errors: Vec<u8> = Vec::new(rt.alloc());
+    let mut input = b"".as_slice();
+    let words = words_of(&rt, &["gate", "check", "config.json"]);
+    let host = Refusing(rt);
+    let status = run_words(
+        &host,
+        words.as_slice(),
+        &mut input,
+        &mut output,
+        &mut errors,
+    );
     assert_eq!(rt; errors.as_slice(), b"fault: memory\n".as_slice());
     assert_eq!(rt; status, 1);
     assert!(rt; output.is_empty());

@@ -1,5 +1,7 @@
 //! Standard input and output that come and go byte by byte, and fail.
-use crate::running::{BASE, NOTHING_HAPPENED, given, outcome};
+use crate::running::{BASE, NOTHING_HAPPENED, words_of};
+use gate_journal::write_lines;
+use gate_main_program::run_words;
 use std::io;
 use std::io::{ErrorKind, Read, Write};
 
@@ -33,9 +35,11 @@ fn reads_to_the_end_or_tells_why_not(rt: HostRuntime) {
     ];
     for (fault, status, text, line) in cases {
         let rest = BASE.as_bytes();
+        let words = words_of(&rt, &["gate"]);
+        let mut input = Slow { rest, fault };
         let mut output: Vec<u8> = Vec::new(rt.alloc());
-        let read = outcome(&rt, &["gate"], &mut Slow { rest, fault }, &mut output);
-        let (found, errors) = given(&rt, read);
+        let mut errors: Vec<u8> = Vec::new(rt.alloc());
+        let found = run_words(&rt, words.as_slice(), &mut input, &mut output, &mut errors);
         assert_eq!(rt; errors.as_slice(), line.as_bytes());
         assert_eq!(rt; found, status);
         assert_eq!(rt; output.as_slice(), text.as_bytes());
@@ -87,8 +91,10 @@ fn writes_to_the_end_or_tells_why_not(rt: HostRuntime) {
             room,
             flushes,
         };
-        let written = outcome(&rt, &["gate"], &mut BASE.as_bytes(), &mut output);
-        let (found, errors) = given(&rt, written);
+        let words = words_of(&rt, &["gate"]);
+        let mut input = BASE.as_bytes();
+        let mut errors: Vec<u8> = Vec::new(rt.alloc());
+        let found = run_words(&rt, words.as_slice(), &mut input, &mut output, &mut errors);
         assert_eq!(rt; errors.as_slice(), line.as_bytes());
         assert_eq!(rt; found, status);
         assert_eq!(rt; output.taken.len(), count);
@@ -97,5 +103,20 @@ fn writes_to_the_end_or_tells_why_not(rt: HostRuntime) {
                 .as_bytes()
                 .starts_with(output.taken.as_slice())
         );
+    }
+}
+
+#[test]
+fn lines_of_a_journal_are_flushed(rt: HostRuntime) {
+    for flushes in [true, false] {
+        let taken: Vec<u8> = Vec::new(rt.alloc());
+        let mut output = Narrow {
+            taken,
+            room: 64,
+            flushes,
+        };
+        let written = write_lines(&mut output, "{\"start\":1}\n");
+        assert_eq!(rt; written.is_ok(), flushes);
+        assert_eq!(rt; output.taken.as_slice(), "{\"start\":1}\n".as_bytes());
     }
 }

@@ -4,7 +4,7 @@ ghost use Rattle.gate_core.specs.Worlds.{AcceptedAtMost, state_of};
 use crate::log::{Ended, Log};
 use crate::{made, say, unexpected};
 use gate_config::{Config, Generations};
-use gate_core::{Answer, ReplayFault, ScriptFault, Scripted, Step, Transcript, World};
+use gate_core::{Answer, Nobody, ReplayFault, ScriptFault, Scripted, Step, Transcript, World};
 use gate_forward::Forward;
 use gate_items::{Items, JobResult, Manage};
 use gate_journal::{PipelineJournal, Place, ProcessedAction, push_end};
@@ -39,6 +39,11 @@ pub(crate) fn steps_of(log: &mut Log, script: &[u8]) -> Result<Vec<Step>, Memory
 pub(crate) fn replay_script(log: &mut Log, documents: &[Vec<u8>], script: &[u8]) {
     match made!(log; gate_core::replay(log.alloc, documents, script), ReplayFault::Memory) {
         Ok(text) => say!(log.told, "{text}"),
+        Err(fault) => say!(log.told, "{fault}\n"),
+    }
+    match made!(log; gate_core::replay_before(log.alloc, documents, script, Nobody), ReplayFault::Memory)
+    {
+        Ok((text, Nobody)) => say!(log.told, "{text}"),
         Err(fault) => say!(log.told, "{fault}\n"),
     }
 }

@@ -23,6 +23,11 @@ pub const TWO_PIPELINES: &str =
 pub const TWO_CONNECTIONS: &str =
     r#"{"tenants":[{"name":"main","source":{"a":{"untrusted-projects":["demo"]},"b":{"untrusted-projects":["demo"]}}}],"config":{"main":[{"pipeline":{"name":"check","manager":"independent","trigger":{"a":[{"event":"patchset-created"}],"b":[{"event":"patchset-created"}]}}}]}}"#;
 
+/// Two tenants of two pipelines each, over two connections. Of the first one, `check` selects new patch sets, and `post` comments. Of the
+/// second one, `gate` selects both, and `idle` nothing. The second one alone lists `demo` of the second connection.
+pub const TWO_TENANTS: &str =
+    r#"{"tenants":[{"name":"main","source":{"gerrit":{"untrusted-projects":["demo"]}}},{"name":"other","source":{"gerrit":{"untrusted-projects":["demo"]},"review":{"untrusted-projects":["demo"]}}}],"config":{"main":[{"pipeline":{"name":"check","manager":"independent","trigger":{"gerrit":[{"event":"patchset-created"}]}}},{"pipeline":{"name":"post","manager":"independent","trigger":{"gerrit":[{"event":"comment-added"}]}}},{"project":{"name":"demo","check":{"jobs":["build"]},"post":{"jobs":["build"]}}}],"other":[{"pipeline":{"name":"gate","manager":"independent","trigger":{"gerrit":[{"event":["patchset-created","comment-added"]}]}}},{"pipeline":{"name":"idle","manager":"independent"}},{"project":{"name":"demo","gate":{"jobs":["build"]}}}]}}"#;
+
 /// A new patch set of `demo`.
 pub const FIRST: &str =
     r#"{"type":"patchset-created","change":{"project":"demo","branch":"master","number":1},"patchSet":{"number":1}}"#;

@@ -9,7 +9,7 @@ mod silent;
 
 pub use documents::{
     COMMENT, COMMENTS, EIGHTH, FIRST, FOREIGN, NEVER, NO_EVENT, ONE, SEVENTH, TWO_CONNECTIONS,
-    TWO_PIPELINES, generations,
+    TWO_PIPELINES, TWO_TENANTS, generations,
 };
 pub use done::{Done, reports, reports_all};
 pub use feed::Feed;

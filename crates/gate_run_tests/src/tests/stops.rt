@@ -1,5 +1,5 @@
 //! Runs that are stopped.
-use super::asking::{Asks, Wish};
+use super::asking::Stops;
 use super::meeting::Meeting;
 use gate_pipeline::Pipeline;
 use gate_record::{Memory, PipelineId, TenantId};
@@ -39,7 +39,7 @@ fn stops_before<R: Threads + Wait + Clock + Sync>(
 ) -> Result<(), Fail> {
     let feed = numbered(alloc, 100)?;
     let (posts, run) = Run::open(alloc, &[ONE])?;
-    let done = run.serve(rt, feed, &Asks::behind(action, Wish::Stop, posts))?;
+    let done = run.serve(rt, feed, &Stops::behind(action, posts))?;
     has_ended_or_stopped(alloc, &done)
 }
 

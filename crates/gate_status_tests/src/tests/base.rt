@@ -1,10 +1,10 @@
 //! A configuration, and sessions on it.
 ghost use Rattle.std.specs.Prelude.{◌≡◌};
 
-use gate_config::Generations;
+use gate_config::{Config, Generations};
 use gate_record::Memory;
 use gate_run::Posts;
-use gate_status::{Board, Counted, Progress, SessionEnd, SessionFault, session};
+use gate_status::{Board, Counted, Progress, SessionEnd, SessionFault, session, status_text};
 use gate_test_runs::{ONE, generations};
 use std::io::{Read, Write};
 use std::process::Abort;
@@ -39,6 +39,17 @@ pub(crate) fn given<T, E: Drop>(rt: &impl Abort, answer: Result<T, E>) -> T {
 /// Sees that a text is as it should be.
 pub(crate) fn comes_to(rt: &impl Abort, found: &str, wanted: &str) {
     assert_eq!(rt; found, wanted);
+}
+
+/// Sees what a board has of a configuration's pipelines.
+pub(crate) fn board_shows<R: AllocGlobal + Abort>(
+    rt: &R,
+    config: &Config,
+    board: &Board,
+    wanted: &str,
+) {
+    let text = given(rt, status_text(rt.alloc(), config, board));
+    comes_to(rt, text.as_str(), wanted);
 }
 
 /// Serves a session with a new board, and with nothing posted before.

@@ -1,14 +1,7 @@
 //! What a board says of a configuration.
-use super::base::{comes_to, given, progress, two};
-use gate_config::Config;
+use super::base::{board_shows, given, progress, two};
 use gate_record::{PipelineId, TenantId};
-use gate_status::{Board, Progress, status_text};
-use std::process::Abort;
-
-fn shows<R: AllocGlobal + Abort>(rt: &R, config: &Config, board: &Board, wanted: &str) {
-    let text = given(rt, status_text(rt.alloc(), config, board));
-    comes_to(rt, text.as_str(), wanted);
-}
+use gate_status::{Board, Progress};
 
 // Sets the only pipeline of a board, and then two that aren't there.
 fn set(board: &mut Board) {
@@ -23,8 +16,8 @@ fn a_board_shows_what_was_set(rt: HostRuntime) {
     let config = gens.first();
     let mut board = given(&rt, Board::new(rt.alloc(), config));
     let first = "pipeline \"main\" \"check\" done 0 items 0 reports 0 running\n";
-    shows(&rt, config, &board, first);
+    board_shows(&rt, config, &board, first);
     set(&mut board);
     let second = "pipeline \"main\" \"check\" done 1 items 1 reports 0 finished\n";
-    shows(&rt, config, &board, second);
+    board_shows(&rt, config, &board, second);
 }

@@ -48,6 +48,23 @@ impl<'a> Read for Lines<'a> {
     }
 }
 
+/// A writer into memory that adds a mark at each flush.
+#[derive(Drop)]
+pub(crate) struct Marking {
+    pub(crate) written: Vec<u8>,
+}
+
+impl Write for Marking {
+    fn write(&mut self, buf: &[u8]) -> io::Result<usize> {
+        self.written.write(buf)
+    }
+
+    fn flush(&mut self) -> io::Result<()> {
+        self.written.push(b'|')?;
+        Ok(())
+    }
+}
+
 /// A writer into memory that fails behind so many calls, flushes among them.
 #[derive(Drop)]
 pub(crate) struct Failing {

@@ -1,9 +1,13 @@
 //! Sessions over devices that fail.
 use super::base::{SHOWN, comes_to, given, talk};
 use super::devices::{Failing, Lines};
-use gate_status::{Counted, SessionEnd, SessionFault};
+use gate_config::Generations;
+use gate_record::Memory;
+use gate_run::{Posts, RenewPostFault};
+use gate_status::{Board, Counted, SessionEnd, SessionFault, session};
+use gate_test_runs::{ONE, generations};
 use std::process::Abort;
-use std::sync::Wait;
+use std::sync::{Mutex, Wait};
 
 // The lines of a session, and their replies.
 const LINES: [&str; 4] = ["foo\n", "status\n", "renew x\n", "quit\n"];
@@ -72,6 +76,37 @@ fn each_write_and_flush_that_fails_ends_a_session(rt: HostRuntime) {
         writes(&rt, left, "Err(Write) (0, 1)");
     }
     writes(&rt, 2 * REPLIES.len(), "Ok(Quit) (0, 0)");
+}
+
+// Sees that a renewal is asked for whose reply can't be written, or flushed, because the writer fails behind so many calls.
+fn renews<R: AllocGlobal + Wait + Abort>(
+    rt: &R,
+    gens: &Generations,
+    board: &Mutex<Board>,
+    left: usize,
+) {
+    let mut input = Counted::new(b"renew\nquit\n".as_slice());
+    let mut output = Counted::new(Failing {
+        written: Vec::new(rt.alloc()),
+        left,
+    });
+    match Posts::open(rt.alloc(), gens) {
+        Ok((mut posts, _inbox)) => {
+            let ended = session(rt, &mut input, &mut output, gens.first(), board, &mut posts);
+            assert!(rt; matches!(ended, Err(SessionFault::Write)));
+            assert!(rt; posts.renew() == Ok(2));
+            assert!(rt; posts.renew() == Err(RenewPostFault::Last));
+        }
+        Err(Memory) => panic!(rt; "the posts are opened"),
+    }
+}
+
+#[test]
+fn a_renewal_counts_though_its_reply_fails(rt: HostRuntime) {
+    let gens = given(&rt, generations(rt.alloc(), &[ONE, ONE, ONE]));
+    let board = Mutex::new(given(&rt, Board::new(rt.alloc(), gens.first())));
+    renews(&rt, &gens, &board, 0);
+    renews(&rt, &gens, &board, 1);
 }
 
 #[test]

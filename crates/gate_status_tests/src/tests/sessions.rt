@@ -1,6 +1,6 @@
 //! Sessions over memory.
 use super::base::{comes_to, given, talk, text_of, two};
-use super::devices::Pieces;
+use super::devices::{Marking, Pieces};
 use gate_config::Generations;
 use gate_record::Memory;
 use gate_run::Posts;
@@ -25,9 +25,8 @@ fn plays<R: AllocGlobal + Wait + Abort>(rt: &R, lines: &str, wanted: &str) {
     plays_in(rt, 4096, lines, wanted);
 }
 
-#[test]
-fn answers_each_line(rt: HostRuntime) {
-    let lines = "\
+// A line of each kind.
+const EACH_KIND: &str = "\
 status
 foo
 result 0 0 x success build
@@ -38,8 +37,13 @@ dequeue 0 0 change 0 7
 result 0 0 1 failure build
 reset 0 0 change 0 7
 dequeue 1 0 change 0 7
+renew
+renew
 quit
 ";
+
+#[test]
+fn answers_each_line(rt: HostRuntime) {
     let wanted = "\
 pipeline \"main\" \"check\" done 0 items 0 reports 0 running
 ok
@@ -52,9 +56,11 @@ ok
 ok
 ok
 no-pipeline
+ok
+last
 bye
 Quit";
-    plays(&rt, lines, wanted);
+    plays(&rt, EACH_KIND, wanted);
 }
 
 #[test]
@@ -77,6 +83,38 @@ fn a_renewal_is_asked_for_while_there_is_a_later_generation(rt: HostRuntime) {
     let lines = "renew\nrenew\nrenew x\nrenew \n renew\nRenew\nrenew\r\nquit\n";
     let wanted = "ok\nlast\narguments\narguments\nunknown\nunknown\nlast\nbye\nQuit";
     plays(&rt, lines, wanted);
+}
+
+// Plays a session whose writer marks each flush, and sees what it writes and how it ends.
+fn flushes<R: AllocGlobal + Wait + Abort>(rt: &R, lines: &str, wanted: &str) {
+    let mut input = Counted::new(lines.as_bytes());
+    let written = Vec::new(rt.alloc());
+    let mut output = Counted::new(Marking { written });
+    let end = given(rt, talk(rt, &mut input, &mut output));
+    let Marking { written } = output.into_inner();
+    comes_to(rt, text_of(rt, written, end).as_str(), wanted);
+}
+
+#[test]
+fn each_reply_is_flushed(rt: HostRuntime) {
+    let wanted = "\
+pipeline \"main\" \"check\" done 0 items 0 reports 0 running
+ok
+|unknown
+|number
+|empty
+|no-pipeline
+|arguments
+|ok
+|ok
+|ok
+|no-pipeline
+|ok
+|last
+|bye
+|Quit";
+    flushes(&rt, EACH_KIND, wanted);
+    flushes(&rt, "foo\nstop\n", "unknown\n|ok\n|Stop");
 }
 
 // Sees that the cause to stop is the port, behind a session that has ended by `stop`.

@@ -25,7 +25,7 @@ returns-in-Ok-clause-first g c =
 
 pub returns-in-Ok-clause-second : goal.returns-in-Ok-clause-second
 returns-in-Ok-clause-second g c =
-    let both = c.exchange-first.ensures in
     let new = c.in_ok-queue.ensures in
+    let both = c.exchange-first.ensures in
     at_seat _ _ _ c.exchange-first.result.0.1 c.in_ok-queue.seats.1 _ _ (both.head.1 ∙ ap (λ l. l ++ c.exchange-first.result.1.1.items) new.head.1) both.second.1 new.second.1 both.second.2 new.second.2
     (told _ _ _ _ _ c.in_ok-tails.ensures.items c.in-Ok.ensures.delivered).1
