@@ -39,8 +39,9 @@ class Body:
     """A mutant, or a control."""
 
     name: str
-    # The text of its edit.
+    # The text of its edit, less the lines that say why its verdict is weak, and these.
     text: str
+    why: str
     changes: list
     functions: list = dataclasses.field(default_factory=list)
     # Whether all that changes is the inside of one function, so that others can be tried beside it.
@@ -107,11 +108,13 @@ class Sources:
             raise Unfit("its name doesn't end in .edit")
         with open(f"{self.folder}/{file}", encoding="utf-8", errors="replace") as it:
             edit = it.read()
-        changes, path, old = [], None, None
+        changes, path, old, why = [], None, None, []
         for line in filter(None, edit.split("\n")):
             word, _, text = line.partition(":")
             text = text.removeprefix(" ")
-            if word == "file":
+            if word == "why" and not old:
+                why.append(text.strip())
+            elif word == "file":
                 path = text.strip()
             elif word == "old" and path:
                 old = text
@@ -119,10 +122,11 @@ class Sources:
                 changes.append(self.change(path, old.encode(), text.encode()))
                 old = None
             else:
-                raise Unfit("it has a line that is no file, old or new text at its turn")
+                raise Unfit("it has a line that is no file, old or new text or why at its turn")
         if not changes or old:
             raise Unfit("it has no pair of an old and a new text, or half a pair")
-        return self.placed(Body(name, edit, changes))
+        text = "".join(line for line in edit.splitlines(keepends=True) if not line.startswith("why:"))
+        return self.placed(Body(name, text, " ".join(why), changes))
 
     def change(self, path, old, new):
         if not path.startswith("src/"):

@@ -50,12 +50,19 @@ class Judging:
         # The verdicts of this run and why, by the names of the mutants, and those that are recorded of what stands here.
         self.verdicts = {}
         self.records = {it.name: self.kept.record(it) for it in self.sources.bodies}
+        # What the edits say of why their verdicts are weak, and which verdicts are.
+        self.whys, self.weak = {it.name: it.why for it in self.sources.bodies}, set()
         self.is_controlled, self.asking = None, threading.Lock()
 
     def tell(self, name, verdict, why):
         recorded = self.records.get(name)
         if recorded and verdict != recorded:
             verdict, why = "FAILED", f"the record says {recorded}, and this is {verdict}, {why}"
+        if verdict == "refused" and self.whys.get(name):
+            verdict, why = "FAILED", f"its edit says why it is weak, and it is refused, {why}"
+        if verdict == "weak":
+            self.weak.add(name)
+            why += f"; {self.whys[name]}" if self.whys[name] else ""
         with printing:
             print(f"{self.name}/{name}: {verdict}, {why}", flush=True)
         self.refused += verdict != "FAILED"
@@ -92,6 +99,7 @@ class Judging:
     def leave_recorded(self):
         if self.skips_recorded:
             left = [it for it in self.sources.bodies if not self.records[it.name]]
+            self.weak |= {it.name for it in self.sources.bodies if self.records[it.name] == "weak"}
             self.recorded = len(self.sources.bodies) - len(left)
             self.sources.bodies = left
 
