@@ -13,6 +13,13 @@ from .checks import KIT, rtlib, sources
 OF_CONTRACT = re.compile(r"(\S+-)?(returns|invariant_of|loop-\S+-(init|preserved))(-|\Z)")
 
 
+# What antt says of a kept answer whose names are all there, and which is of another value than the changed body has: where the answer's
+# type and the goal's, computed as far as they go, aren't the same, or at which numbers the goal fails.
+DIFFERS = re.compile(r"the two types (?:first )?differ|the goal does not follow from what it read\. All of that holds, and the goal fails")
+# What a check makes of a body's shape: its names, the arguments of a call. Where these differ, nothing is said of a value.
+OF_SHAPE = re.compile(r"\.proofs\.\S+\.(?:Lts|View|Tie|Given|Goals)\b|\bborrow\.Fn\.|\.locals\b")
+
+
 class Unfit(Exception):
     """Why an edit can't be judged as a mutant."""
 
@@ -48,31 +55,39 @@ class Body:
     is_inside: bool = False
     # The symbols of changed functions through which it fell in an earlier round.
     avoids: set = dataclasses.field(default_factory=set)
-    # The proof files of its function without the answers that no longer fit, and the names of these answers.
+    # The proof files of its function without the answers that no longer fit, and these by their names: what antt says of the value
+    # in which an answer differs, or nothing where the answer can't be read over the changed body.
     proofs: dict = dataclasses.field(default_factory=dict)
-    stale: set = dataclasses.field(default_factory=set)
+    stale: dict = dataclasses.field(default_factory=dict)
     tries: int = 0
 
     def failed(self, verdict):
-        """Returns the goals of the contract that failed, save those whose answer was taken out."""
-        found = [name for _, name, how in verdict.goals if OF_CONTRACT.match(name) and "gave up" not in how]
-        return [it for it in found if it not in self.stale]
+        """Returns the goals of the contract that failed. One whose answer was taken out is among them if the answer differs in a value."""
+        of_contract = [(name, how) for _, name, how in verdict.goals if OF_CONTRACT.match(name)]
+        return [name for name, how in of_contract if self.stale.get(name, "gave up" not in how)]
 
     def drop_stale(self, folder, errors):
         """Takes the answers at these places out of the proof files, and says whether there were any."""
         before = len(self.stale)
-        for file in dict.fromkeys(file for file, _ in errors):
-            lines = {line for it, line in errors if it == file}
+        for file in dict.fromkeys(file for file, _, _ in errors):
+            said = {line: text for it, line, text in reversed(errors) if it == file}
             text, at, left = self.proofs.get(file) or rtlib.text_of(f"{folder}/{file}"), 1, ""
             for part in re.split(r"(\n\n+)", text):
                 answer = re.match(r"(?:abbrev )?(?:pub )?(\S+) :", part)
-                if answer and lines & {*range(at, at + part.count("\n") + 1)}:
-                    self.stale.add(answer[1])
+                of_answer = [said[line] for line in range(at, at + part.count("\n") + 1) if line in said]
+                if answer and of_answer:
+                    self.stale[answer[1]] = next(filter(None, map(difference, of_answer)), "")
                 else:
                     left += part
                 at += part.count("\n")
             self.proofs[file] = left
         return len(self.stale) > before
+
+
+def difference(error):
+    """Returns what an error in a kept answer says of the value in which it differs, or nothing where it says none."""
+    found = DIFFERS.search(error)
+    return error[found.start() :] if found and not OF_SHAPE.search(error) else ""
 
 
 def tokens(file, data):

@@ -293,12 +293,14 @@ class Judging:
 
     def drop_stale(self, body, said):
         folders = tuple(map(folder_of, self.own(body)))
-        errors = [(file, line) for file, line, _ in said.errors if file.startswith(folders)]
+        errors = [it for it in said.errors if it[0].startswith(folders)]
         return body.drop_stale(self.crate.folder, errors)
 
     def tell_refused(self, body, fell):
         by = [(name, goal) for name, verdict in fell.items() for goal in body.failed(verdict)]
-        self.tell(body.name, "refused", f"by {by[0][0]}: " + ", ".join(f"`{goal}`" for _, goal in by[:2]))
+        differs = next((body.stale[goal] for _, goal in by[:2] if body.stale.get(goal)), "")
+        goals = ", ".join(f"`{goal}`" for _, goal in by[:2])
+        self.tell(body.name, "refused", f"by {by[0][0]}: {goals}" + (f"; over the kept answer {differs[:200]}" if differs else ""))
 
     def tell_weak(self, body, fell):
         name, (about, goal, how) = next((name, goal) for name, it in fell.items() for goal in it.goals)
