@@ -30,7 +30,7 @@ rtlib = rt.rtlib
 UNPROVED = re.compile(r"(?m)^fn \S+: (not proved|no proof)")
 GOAL = re.compile(r"note: \S+: (.*?) \(`(\S+)`\)(.*)")
 LINE = re.compile(r"(fn|struct|enum|impl|trait|union|const|static|type) (\S+): ((?:not |could not |no )?\w.*)")
-ERROR = re.compile(r"(?:\./)?((?:src|specs|proofs)/\S+?):(\d+):\d+: error(.*)")
+ERROR = re.compile(r"(?m)^(?:\./)?((?:src|specs|proofs)/\S+?):(\d+):\d+: error(.*(?:\n  .*)*)")
 CALLEE = re.compile(r"(?:it calls|it passes|a call of|the call of)\b[^`]*`([^`]+)`")
 
 
@@ -51,17 +51,16 @@ class Said:
     """What a check said: of each function, of types and impls that aren't proved, and where it could not take a file."""
 
     def __init__(self, text, is_cut):
-        self.text, self.functions, self.others, self.errors, goals = text, {}, [], [], []
+        self.text, self.functions, self.others, goals = text, {}, [], []
+        self.errors = [(file, int(line), " ".join(said.split())) for file, line, said in ERROR.findall(text)]
         for line in text.split("\n"):
-            goal, verdict, error = GOAL.match(line), LINE.match(line), ERROR.match(line)
+            goal, verdict = GOAL.match(line), LINE.match(line)
             if goal:
                 goals.append(goal.groups())
             elif verdict and verdict[1] == "fn":
                 self.functions[verdict[2]], goals = Verdict(verdict[3], goals), []
             elif verdict and not verdict[3].startswith("proved") and "it waits for the proof of" not in line:
                 self.others.append(line)
-            elif error:
-                self.errors.append((error[1], int(error[2]), error[3]))
         last = text.rstrip("\n").rpartition("\n")[2]
         self.is_proved = last.startswith("logic=proved ")
         is_whole = is_cut or self.is_proved or last.startswith("logic=not-proved")
@@ -99,6 +98,7 @@ def check(crate, texts, kept, until=None):
         for part in filter(lambda it: os.path.isdir(f"{crate.folder}/{it}"), rtlib.PARTS):
             shutil.copytree(f"{crate.folder}/{part}", f"{room}/{part}")
         for path, text in texts.items():
+            os.makedirs(os.path.dirname(f"{room}/{path}"), exist_ok=True)
             with open(f"{room}/{path}", "w", encoding="utf-8") as it:
                 it.write(text)
         words = crate.words(["--jobs", "1", "--stage-times", f"{room}/stages"], keeps=False)

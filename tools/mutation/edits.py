@@ -13,9 +13,10 @@ from .checks import KIT, rtlib, sources
 OF_CONTRACT = re.compile(r"(\S+-)?(returns|invariant_of|loop-\S+-(init|preserved))(-|\Z)")
 
 
-# What antt says of a kept answer whose names are all there, and which is of another value than the changed body has: where the answer's
-# type and the goal's, computed as far as they go, aren't the same, or at which numbers the goal fails.
+# What antt says where a goal is clear: of a kept answer whose names are all there, that its type and the goal's, computed as far as they
+# go, aren't the same, or at which numbers the goal fails; of a search, that it has come to its end.
 DIFFERS = re.compile(r"the two types (?:first )?differ|the goal does not follow from what it read\. All of that holds, and the goal fails")
+ENDED = re.compile(r"Every way was tried: a deeper search would find nothing either|" + DIFFERS.pattern)
 # What a check makes of a body's shape: its names, the arguments of a call. Where these differ, nothing is said of a value.
 OF_SHAPE = re.compile(r"\.proofs\.\S+\.(?:Lts|View|Tie|Given|Goals)\b|\bborrow\.Fn\.|\.locals\b")
 
@@ -59,35 +60,75 @@ class Body:
     # in which an answer differs, or nothing where the answer can't be read over the changed body.
     proofs: dict = dataclasses.field(default_factory=dict)
     stale: dict = dataclasses.field(default_factory=dict)
+    # The goals at which a tactic gave up, which are searched alone then, and what antt says of a search that came to its end.
+    probes: dict = dataclasses.field(default_factory=dict)
+    # What a check said of its functions before.
+    searched: dict = dataclasses.field(default_factory=dict)
     tries: int = 0
 
     def failed(self, verdict):
-        """Returns the goals of the contract that failed. One whose answer was taken out is among them if the answer differs in a value."""
+        """Returns the goals of the contract that failed. One whose answer was taken out is among them if the answer differs in a value,
+        and one at which a tactic gave up if a search of it alone came to its end."""
         of_contract = [(name, how) for _, name, how in verdict.goals if OF_CONTRACT.match(name)]
-        return [name for name, how in of_contract if self.stale.get(name, "gave up" not in how)]
+        found = [name for name, how in of_contract if self.stale.get(name, "gave up" not in how)]
+        return found + [name for name, said in self.probes.items() if said and name not in found]
+
+    def answers(self, folder, file):
+        """Yields each part of a proof file as it stands now: its text, its lines, and the name of the answer that it is, or nothing."""
+        at = 1
+        for part in re.split(r"(\n\n+)", self.proofs.get(file, rtlib.text_of(f"{folder}/{file}")) or ""):
+            answer = re.match(r"(?:abbrev )?(?:pub )?(\S+) :", part)
+            yield part, range(at, at + part.count("\n") + 1), answer and answer[1]
+            at += part.count("\n")
 
     def drop_stale(self, folder, errors):
-        """Takes the answers at these places out of the proof files, and says whether there were any."""
+        """Takes the answers at these places out of the proof files, and says whether there were any. What antt says of a goal that is
+        searched alone is learned."""
         before = len(self.stale)
         for file in dict.fromkeys(file for file, _, _ in errors):
-            said = {line: text for it, line, text in reversed(errors) if it == file}
-            text, at, left = self.proofs.get(file) or rtlib.text_of(f"{folder}/{file}"), 1, ""
-            for part in re.split(r"(\n\n+)", text):
-                answer = re.match(r"(?:abbrev )?(?:pub )?(\S+) :", part)
-                of_answer = [said[line] for line in range(at, at + part.count("\n") + 1) if line in said]
-                if answer and of_answer:
-                    self.stale[answer[1]] = next(filter(None, map(difference, of_answer)), "")
-                else:
-                    left += part
-                at += part.count("\n")
+            said, left = {line: text for it, line, text in reversed(errors) if it == file}, ""
+            for part, lines, name in self.answers(folder, file):
+                found = [said[line] for line in lines if line in said]
+                if name in self.probes:
+                    self.probes[name] = next((clear(ENDED, it) for it in found), "")
+                elif name and found:
+                    self.stale[name] = next(filter(None, (clear(DIFFERS, it) for it in found)), "")
+                    continue
+                left += part
             self.proofs[file] = left
         return len(self.stale) > before
 
+    def probe(self, folder, symbol, verdict):
+        """Has the goals of the contract at which a tactic gave up searched alone, and says whether there are any."""
+        names = [name for _, name, how in verdict.goals if OF_CONTRACT.match(name) and "gave up" in how]
+        names = [it for it in names if it not in self.stale and it not in self.probes]
+        if not names:
+            return False
+        where, file = symbol.split("::"), f"proofs/{'/'.join(symbol.split('::')[1:])}/Answers.antt"
+        goals = f"Rattle.{where[0]}.proofs.{'.'.join(where[1:])}.Goals"
+        text = "".join(part for part, _, _ in self.answers(folder, file))
+        if not self.probes:
+            text = f"use Rattle.std.proofs.Common.{{rules as probed_rules}}\nuse {goals} as probed\n{text}"
+        c = "g c" if is_generic(self.functions[0]) else "c"
+        for it in names:
+            text = f"{text.rstrip()}\n\npub {it} : probed.{it}\n{it} {c} = search probed_rules\n"
+            self.probes[it] = ""
+        self.proofs[file] = text
+        return True
 
-def difference(error):
-    """Returns what an error in a kept answer says of the value in which it differs, or nothing where it says none."""
-    found = DIFFERS.search(error)
-    return error[found.start() :] if found and not OF_SHAPE.search(error) else ""
+
+def clear(words, error):
+    """Returns what an error says from such words on, or nothing where it says none, or where two types differ in a body's shape."""
+    found = words.search(error)
+    said = error[found.start() :] if found else ""
+    return "" if said.startswith("the two types") and OF_SHAPE.search(said[:600]) else said
+
+
+def is_generic(function):
+    """Whether a proof of this function is one for all types, which it gets before what the goal speaks of."""
+    of_block = function.block.generics if function.block else []
+    takes_any = any("impl" in ty for _, ty in function.params)
+    return takes_any or any(not it.startswith("'") for it in [*function.generics, *of_block])
 
 
 def tokens(file, data):

@@ -276,17 +276,18 @@ class Judging:
         """Tells the verdict on a mutant where the round shows it; else says whether it is for a later round, or alone."""
         fell = self.fell(body, said)
         body.tries += 1
+        has_stale = self.drop_stale(body, said)
         if any(map(body.failed, fell.values())):
             self.tell_refused(body, fell)
             return False
-        if fell and body.tries < 4:
+        if fell and body.tries < 6:
             if all(it.falls_through_callees() for it in fell.values()):
                 body.avoids |= {root for name in fell for root in said.roots(name)} - {*self.own(body)}
                 return True
-            if self.drop_stale(body, said):
+            if has_stale or self.probe(body, fell):
                 return True
-        if any(it.goals for it in fell.values()):
-            self.tell_weak(body, fell)
+        if body.searched or any(it.goals for it in fell.values()):
+            self.tell_weak(body, body.searched or fell)
         else:
             alone.append(body)
         return False
@@ -296,11 +297,18 @@ class Judging:
         errors = [it for it in said.errors if it[0].startswith(folders)]
         return body.drop_stale(self.crate.folder, errors)
 
+    def probe(self, body, fell):
+        """Has the goals at which a tactic gave up searched alone in the next try, and says whether there are any."""
+        found = any([body.probe(self.crate.folder, name, verdict) for name, verdict in fell.items()])
+        body.searched = fell if found else body.searched
+        return found
+
     def tell_refused(self, body, fell):
         by = [(name, goal) for name, verdict in fell.items() for goal in body.failed(verdict)]
-        differs = next((body.stale[goal] for _, goal in by[:2] if body.stale.get(goal)), "")
         goals = ", ".join(f"`{goal}`" for _, goal in by[:2])
-        self.tell(body.name, "refused", f"by {by[0][0]}: {goals}" + (f"; over the kept answer {differs[:200]}" if differs else ""))
+        kept, searched = (next((it[goal] for _, goal in by[:2] if it.get(goal)), "")[:200] for it in (body.stale, body.probes))
+        over = f"; over the kept answer {kept}" if kept else f"; by a search of it alone: {searched}" if searched else ""
+        self.tell(body.name, "refused", f"by {by[0][0]}: {goals}{over}")
 
     def tell_weak(self, body, fell):
         name, (about, goal, how) = next((name, goal) for name, it in fell.items() for goal in it.goals)
@@ -310,7 +318,7 @@ class Judging:
 
     def judge_alone(self, body):
         said = self.check_alone(body)
-        while said and said.is_judged and not said.is_proved and body.tries < 8 and self.drop_stale(body, said):
+        while said and said.is_judged and not said.is_proved and body.tries < 8 and self.has_another_try(body, said):
             body.tries += 1
             said = self.check_alone(body)
         from_nothing = said and said.is_proved and self.check_alone(body, over_kept=False)
@@ -327,12 +335,17 @@ class Judging:
             self.tell(body.name, "FAILED", "the crate is still proved with it")
         elif said.is_proved:
             self.tell(body.name, "FAILED", "the crate is proved with it over what was kept, and not from nothing")
-        elif any(it.goals for it in fell.values()):
-            self.tell_weak(body, fell)
+        elif body.searched or any(it.goals for it in fell.values()):
+            self.tell_weak(body, body.searched or fell)
         elif said.errors or not words:
             self.tell(body.name, "FAILED", f"no goal of its own failed: {said.first_error()}")
         else:
             self.tell(body.name, "weak", words[:200])
+
+    def has_another_try(self, body, said):
+        """Whether the mutant is to be tried again: without answers that don't fit, or with goals that are searched alone."""
+        fell = self.fell(body, said)
+        return self.drop_stale(body, said) or not any(map(body.failed, fell.values())) and self.probe(body, fell)
 
     def check_alone(self, body, over_kept=True):
         return self.check([body], over_kept, in_time=True)
