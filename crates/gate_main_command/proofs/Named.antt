@@ -1,25 +1,19 @@
 -- What the words that were read so far say of streams.
-use Rattle.std.proofs.Common.{◌≡◌, ◌∙◌, sym, ap, refl, subst, ℕ, ◌<◌, ◌≤◌, ◌+◌, List, [], ◌∷◌, ◌++◌, Bool, true, false, Option, Some, None, IfSome, option_map, length, map, string_bytes, get_or, eqb-true, arith}
+use Rattle.std.proofs.Common.{◌≡◌, ◌∙◌, sym, ap, refl, subst, ℕ, ◌<◌, ◌≤◌, ◌+◌, List, [], ◌∷◌, ◌++◌, Bool, true, false, Some, option_map, length, map, string_bytes, get_or, eqb-true, arith}
 use Rattle.std.specs.Prelude.{String, ◌==◌, cond, count_by, slice_get}
-use Rattle.std.specs.Cmp.Lexicographic.{bytes_decides}
-use Rattle.std.specs.List.{list_any, position}
-use Rattle.std.specs.Str.{bytes_eq}
-use Rattle.std.proofs.lemmas.List.Quantifiers.{position-Some}
+use Rattle.std.specs.List.{list_any}
 use Rattle.std.proofs.lemmas.List.Sums.{sum_by-cons}
-use Rattle.std.proofs.lemmas.Option.{slice_get-get_or, slice_get-map, slice_get_read}
+use Rattle.std.proofs.lemmas.Option.{slice_get-map, slice_get_read}
 use Rattle.std.specs.Global.{Global}
 use Rattle.gate_config.specs.declared.config.Config.{Config}
-use Rattle.gate_core.specs.Views.{EachAt}
 use Rattle.gate_core.proofs.Elements.{each_push}
-use Rattle.gate_main_command.specs.StreamWords.{IsStreamWord, how_many}
+use Rattle.gate_main_streams.specs.Addresses.{text_of}
+use Rattle.gate_main_streams.specs.declared.address.Address.{Address}
+use Rattle.gate_main_streams.specs.declared.address.Address.TheVariants as address
+use Rattle.gate_main_command.specs.StreamWords.{IsStreamWord, NameFirst, how_many}
 use Rattle.gate_main_command.specs.declared.streams.StreamWord.{StreamWord}
 
--- the streams of the first words
-pub record SoFar (config : Config) (words : List (List ℕ)) (sources : List StreamWord) : Type 0 where
-  pub each : EachAt (λ i (source : StreamWord). (word : List ℕ) → slice_get words i ≡ Some word → IsStreamWord config word source) sources
-  pub at_most_one : (conn : ℕ) → how_many conn sources ≤ 1
-
-pub none_yet : (config : Config) (words : List (List ℕ)) → SoFar config words []
+pub none_yet : (config : Config) (words : List (List ℕ)) → NameFirst config words []
 none_yet config words = record { each = λ i source e. absurd (cc); at_most_one = λ conn. omega arith }
 
 abbrev weight : Bool → ℕ
@@ -63,8 +57,8 @@ at_most sources source conn false e none_before most =
     let more : how_many conn (sources ++ source ∷ []) ≡ how_many conn sources + 0 = one_by (λ (one : StreamWord). one.conn == conn) false sources source e in
     omega (arith, most, more)
 
-pub named_more : (config : Config) (words : List (List ℕ)) (sources : List StreamWord) (source : StreamWord) (word : List ℕ) → SoFar config words sources → slice_get words (length sources) ≡ Some word
-    → IsStreamWord config word source → list_any (λ (one : StreamWord). one.conn == source.conn) sources ≡ false → SoFar config words (sources ++ source ∷ [])
+pub named_more : (config : Config) (words : List (List ℕ)) (sources : List StreamWord) (source : StreamWord) (word : List ℕ) → NameFirst config words sources → slice_get words (length sources) ≡ Some word
+    → IsStreamWord config word source → list_any (λ (one : StreamWord). one.conn == source.conn) sources ≡ false → NameFirst config words (sources ++ source ∷ [])
 named_more config words sources source word so_far at is new = record {
   each = each_push (λ i (one : StreamWord). (w : List ℕ) → slice_get words i ≡ Some w → IsStreamWord config w one) sources source so_far.each
       (λ w e. let found : Some word ≡ Some w = sym at ∙ e in let same : word ≡ w = cc in subst (λ v. IsStreamWord config v source) same is);
@@ -72,20 +66,19 @@ named_more config words sources source word so_far at is new = record {
 }
 
 -- a connection that has a stream has exactly one
-pub exactly_one : (config : Config) (words : List (List ℕ)) (sources : List StreamWord) (conn : ℕ) → SoFar config words sources → list_any (λ (one : StreamWord). one.conn == conn) sources ≡ true → how_many conn sources ≡ 1
+pub exactly_one : (config : Config) (words : List (List ℕ)) (sources : List StreamWord) (conn : ℕ) → NameFirst config words sources → list_any (λ (one : StreamWord). one.conn == conn) sources ≡ true → how_many conn sources ≡ 1
 exactly_one config words sources conn so_far has =
     let least : 1 ≤ how_many conn sources = some (λ (one : StreamWord). one.conn == conn) sources has in
     let most : how_many conn sources ≤ 1 = so_far.at_most_one conn in
     omega (arith, least, most)
 
--- ---- words and names
+-- ---- words
 
--- a name stands where it was found
-pub found_at : (names : List (List ℕ)) (name : List ℕ) (found : Option ℕ) → found ≡ position (λ other. bytes_eq other name) names → IfSome found (λ number. slice_get names number ≡ Some name)
-found_at names name None e = tt
-found_at names name (Some i) e =
-    let at = position-Some (λ other. bytes_eq other name) names i [] (sym e) in
-    slice_get-get_or names i [] at.0 ∙ ap Some ((bytes_decides (get_or names i []) name).0 at.1)
+-- a text without a first equals sign, and so without an address
+pub no_address : (text : List ℕ) → text ≡ [] → (a : Address) → text_of a ≡ text → ⊥
+no_address text none (address.File path) e = absurd (cc)
+no_address text none (address.Tcp place) e = absurd (cc)
+no_address text none (address.Unix path) e = absurd (cc)
 
 -- the bytes of a word
 pub word_at : (words : List (String Global)) (i : ℕ) (word : String Global) → i < length words → word ≡ get_or words i word → slice_get (map string_bytes words) i ≡ Some (string_bytes word)

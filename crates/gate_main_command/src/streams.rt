@@ -1,9 +1,9 @@
 //! Reads the words that name the streams of connections, and opens these streams.
-ghost use Rattle.std.specs.Prelude.{◌≡◌, ◌==◌, ◌-◌, ◌<◌, ◌^◌, All, IfOk, IfSome, Some, length, map, slice_get, string_bytes};
+ghost use Rattle.std.specs.Prelude.{◌≡◌, ◌==◌, ◌-◌, ◌<◌, ◌^◌, All, IfErr, IfNone, IfOk, IfSome, false, length, map, string_bytes, true};
 ghost use Rattle.std.specs.List.{list_any, position};
 ghost use Rattle.std.specs.Str.{bytes_eq};
 ghost use Rattle.gate_config.specs.Lookups.{connections_of};
-ghost use Rattle.gate_main_command.specs.StreamWords.{IsStreamWord, NameStreams};
+ghost use Rattle.gate_main_command.specs.StreamWords.{FailsWords, IsStreamWord, NameStreams};
 ghost use Rattle.gate_main_command.specs.declared.streams.StreamWord.{StreamWord as AStreamWord};
 
 use crate::fault::{Fault, is_out_of_memory};
@@ -33,14 +33,15 @@ pub fn stream_words<'a>(
     config: &Config,
     words: &'a [String],
 ) -> Result<Vec<StreamWord<'a>>, Fault>
-    ensures { IfOk result (λ sources. NameStreams config.now (map string_bytes words.entry.now) sources.items) }
+    ensures names { IfOk result (λ sources. NameStreams config.now (map string_bytes words.entry.now) sources.items) }
+    ensures fault { IfErr result (λ fault. FailsWords config.now (map string_bytes words.entry.now) fault) }
 {
     let mut sources: Vec<StreamWord<'a>> = Vec::new(alloc);
     for word in words {
-        match stream_word(config, word.as_str()) {
-            Some(source) if !has(sources.as_slice(), source.conn) => sources.push(source)?,
-            _ => return Err(Fault::Source(String::from_str(alloc, word.as_str())?)),
-        }
+        let Some(source) = new_stream_word(config, sources.as_slice(), word.as_str()) else {
+            return Err(Fault::Source(String::from_str(alloc, word.as_str())?));
+        };
+        sources.push(source)?;
     }
     for (number, name) in config.connections().iter().enumerate() {
         if !has(sources.as_slice(), number) {
@@ -50,8 +51,26 @@ pub fn stream_words<'a>(
     Ok(sources)
 }
 
+// Reads a word that names the stream of a connection without one so far.
+fn new_stream_word<'a>(
+    config: &Config,
+    sources: &[StreamWord<'_>],
+    word: &'a str,
+) -> Option<StreamWord<'a>>
+    ensures is { IfSome result (IsStreamWord config.now word.entry.now) }
+    ensures new { IfSome result (λ source. list_any (λ (one : AStreamWord). one.conn == source.conn) sources.now ≡ false) }
+    ensures none { IfNone result ((source : AStreamWord) → IsStreamWord config.now word.entry.now source → list_any (λ (one : AStreamWord). one.conn == source.conn) sources.now ≡ true) }
+{
+    let source = stream_word(config, word)?;
+    if has(sources, source.conn) {
+        return None;
+    }
+    Some(source)
+}
+
 fn stream_word<'a>(config: &Config, word: &'a str) -> Option<StreamWord<'a>>
-    ensures { IfSome result (IsStreamWord config.now word.entry.now) }
+    ensures is { IfSome result (IsStreamWord config.now word.entry.now) }
+    ensures none { IfNone result ((source : AStreamWord) → IsStreamWord config.now word.entry.now source → ⊥) }
 {
     let (name, address) = word.split_once('=')?;
     Some(StreamWord {
@@ -62,7 +81,7 @@ fn stream_word<'a>(config: &Config, word: &'a str) -> Option<StreamWord<'a>>
 }
 
 fn number_of(config: &Config, name: &str) -> Option<usize>
-    ensures { IfSome result (λ number. slice_get (connections_of config.now) number ≡ Some name.now) }
+    ensures { result ≡ position (λ other. bytes_eq other name.now) (connections_of config.now) }
 {
     position_of(config.connections(), name)
 }
