@@ -1,10 +1,11 @@
 -- What a journal knows and has written after it was told one thing more.
-use Rattle.std.proofs.Common.{◌≡◌, ◌∙◌, sym, ap, refl, subst, ℕ, zero, suc, ◌+◌, List, [], ◌∷◌, ◌++◌, append-nil, append_assoc, Bool, true, false, Option, Some, None, Result, Ok, Err, IsOk, OnOk, is_some, option_map, length, slice_set, eqb-true, ◌<◌, ◌≤◌, arith}
-use Rattle.std.specs.Prelude.{◌==◌, ◌&&◌, if◌then◌else◌, slice_get, unwrap_or}
+use Rattle.std.proofs.Common.{◌≡◌, ◌∙◌, sym, ap, refl, subst, ℕ, ◌+◌, List, [], ◌∷◌, ◌++◌, append-nil, append_assoc, Bool, true, false, Option, Some, None, Result, Ok, Err, IsOk, OnOk, is_some, option_map, length, slice_set, eqb-true, ◌<◌, ◌≤◌, arith}
+use Rattle.std.specs.Prelude.{◌==◌, ◌&&◌, if◌then◌else◌, slice_get, slice_index_or, unwrap_or}
 use Rattle.std.specs.Global.{Vec}
 use Rattle.std.specs.Io.KnownBytes.{Appends}
 use Rattle.std.specs.List.{filter_map}
 use Rattle.std.proofs.KnownBytes.{Appends-trans}
+use Rattle.std.proofs.lemmas.List.{length-append, length-set}
 use Rattle.std.proofs.lemmas.List.Elements.{filter_map-append}
 use Rattle.std.proofs.lemmas.Option.{slice_get_past}
 use Rattle.gate_record.specs.declared.ids.ManagerKind.TheVariants.{Independent}
@@ -14,7 +15,7 @@ use Rattle.gate_config.specs.declared.config.PipelineSpec.{PipelineSpec}
 use Rattle.gate_config.specs.declared.config.TenantSpec.{TenantSpec}
 use Rattle.gate_config.specs.Lookups.{pipelines_of, tenants_of}
 use Rattle.gate_core.specs.Views.{EachAt}
-use Rattle.gate_core.proofs.Elements.{each_push}
+use Rattle.gate_core.proofs.Elements.{each_push, lent}
 use Rattle.gate_core.proofs.Spots.{AfterSet, after_set, another, it, not_itself}
 use Rattle.gate_items.specs.declared.action.Action.{Action}
 use Rattle.gate_items.specs.declared.action.Outcome.{Outcome}
@@ -28,12 +29,8 @@ use Rattle.gate_main_command.specs.Inner.Journals.{Keeps}
 use Rattle.gate_main_command.specs.Inner.Rows.{KnowAll, KnowRow, KnowsAt}
 
 -- one element more
-length_more : {X : Type 0} (xs : List X) (y : X) → length (xs ++ y ∷ []) ≡ suc (length xs)
-length_more [] y = refl
-length_more (x ∷ xs) y = ap suc (length_more xs y)
-
 pub count_more : {X : Type 0} (xs ys : List X) (y : X) (i : ℕ) → ys ≡ xs ++ y ∷ [] → length xs ≡ i → length ys ≡ i + 1
-count_more xs ys y i grown count = let longer : length ys ≡ suc (length xs) = ap length grown ∙ length_more xs y in omega (arith, longer, count)
+count_more xs ys y i grown count = let longer : length ys ≡ length xs + 1 = ap length grown ∙ length-append xs (y ∷ []) in omega (arith, longer, count)
 
 -- ---- new journals
 
@@ -124,10 +121,11 @@ module _ {X : Type 0} (has has' : ℕ → X → Type 0) where
   each_moved : (xs : List X) (i : ℕ) (x y : X) → slice_get xs i ≡ Some x → ((k : ℕ) (w : X) → (i ≡ k → ⊥) → has k w → has' k w) → EachAt has xs → has' i y → EachAt has' (slice_set xs i y)
   each_moved xs i x y at moves all here j z e = by_set xs i j y z moves all here (after_set xs i j x y at) e
 
-length_set : {X : Type 0} (xs : List X) (i : ℕ) (y : X) → length (slice_set xs i y) ≡ length xs
-length_set [] i y = refl
-length_set (x ∷ xs) zero y = refl
-length_set (x ∷ xs) (suc i) y = ap suc (length_set xs i y)
+-- a pipeline's journal that was lent knows the pipeline's items
+pub lent_knows : (config : Config) (so_far : List Told) (t p : ℕ) (journals : List (Vec PipelineJournal)) (row : Vec PipelineJournal) (journal : PipelineJournal) → KnowAll config so_far journals
+    → t < length journals → row ≡ slice_index_or journals t row → p < length row.items → journal ≡ slice_index_or row.items p journal → KnowsAt config so_far t p journal
+lent_knows config so_far t p journals row journal all tenant_there row_is pipeline_there journal_is =
+    (all.1 t row (lent journals t row tenant_there row_is)).1 p journal (lent row.items p journal pipeline_there journal_is)
 
 -- the journal of one pipeline was told of an action
 pub know_one_more : (config : Config) (so_far : List Told) (t p : ℕ) (stamp : Option Stamp) (action : Action) (journals : List (Vec PipelineJournal)) (row row' : Vec PipelineJournal) (journal journal' : PipelineJournal)
@@ -141,8 +139,8 @@ know_one_more config so_far t p stamp action journals row row' journal journal' 
     let row_knows : EachAt (KnowsAt config later t) (slice_set row.items p journal') =
     each_moved (KnowsAt config so_far t) (KnowsAt config later t) row.items p journal journal' own
     (λ k w unlike. knows_still config so_far later t k w (other_action t k t p so_far stamp action (λ same q. unlike (sym q)))) before.1 here in
-    let row_is : KnowRow config later t row'.items = (ap length changed ∙ length_set row.items p journal' ∙ before.0, subst (EachAt (KnowsAt config later t)) (sym changed) row_knows) in (
-      length_set journals t row' ∙ all.0,
+    let row_is : KnowRow config later t row'.items = (ap length changed ∙ length-set row.items p journal' ∙ before.0, subst (EachAt (KnowsAt config later t)) (sym changed) row_knows) in (
+      length-set journals t row' ∙ all.0,
       each_moved (λ u (other : Vec PipelineJournal). KnowRow config so_far u other.items) (λ u (other : Vec PipelineJournal). KnowRow config later u other.items) journals t row row' at
           (λ u other unlike old. (old.0, λ q one e. knows_still config so_far later u q one (other_action u q t p so_far stamp action (λ same q'. unlike (sym same))) (old.1 q one e)))
           all.1 row_is,

@@ -7,7 +7,6 @@ use Rattle.std.specs.Prelude.{All, length, map}
 use Rattle.std.proofs.lemmas.List.{length-map}
 use Rattle.gate_config.specs.Generations.{AreReadFrom, PassesBeside, bytes_of, common_of, count_of}
 use Rattle.gate_config.specs.declared.generations.Generations.{Generations}
-use Rattle.gate_config.specs.declared.generation_fault.GenerationFault.TheVariants as generation
 use Rattle.gate_source.specs.Feeds.{Told}
 use Rattle.gate_main_command.specs.declared.fault.Fault.{Fault}
 use Rattle.gate_main_command.specs.declared.fault.Fault.TheVariants as fault
@@ -17,42 +16,6 @@ use Rattle.gate_main_command.specs.Printed.{AreGenerations}
 use Rattle.gate_main_program.specs.declared.program.Said.{Said}
 use Rattle.gate_main_program.specs.Said.{Fails, HasStatus, IsOfAJournal, Prints}
 use Rattle.gate_main_program.specs.Inner.Commands.{ComesAfter, SaysFor}
-
--- ---- the status of a fault
-
-pub at_most : (found : Fault) → status_of found ≤ 3
-at_most fault.Memory = omega arith
-at_most (fault.File path) = omega arith
-at_most fault.Thread = omega arith
-at_most (fault.Listen word) = omega arith
-at_most (fault.Connect word) = omega arith
-at_most fault.Write = omega arith
-at_most (fault.Journal path) = omega arith
-at_most fault.Usage = omega arith
-at_most (fault.Source word) = omega arith
-at_most (fault.Generations generation.Memory) = omega arith
-at_most (fault.Generations generation.Count) = omega arith
-at_most (fault.Generations (generation.Document number found)) = omega arith
-at_most (fault.Script line) = omega arith
-
-pub at_least : (found : Fault) → 1 ≤ status_of found
-at_least fault.Memory = omega arith
-at_least (fault.File path) = omega arith
-at_least fault.Thread = omega arith
-at_least (fault.Listen word) = omega arith
-at_least (fault.Connect word) = omega arith
-at_least fault.Write = omega arith
-at_least (fault.Journal path) = omega arith
-at_least fault.Usage = omega arith
-at_least (fault.Source word) = omega arith
-at_least (fault.Generations generation.Memory) = omega arith
-at_least (fault.Generations generation.Count) = omega arith
-at_least (fault.Generations (generation.Document number found)) = omega arith
-at_least (fault.Script line) = omega arith
-
--- the status of a fault isn't that of a run without one
-pub not_nought : (status : ℕ) (found : Fault) → status ≡ status_of found → status ≡ 0 → ⊥
-not_nought status found is nought = let least : 1 ≤ status_of found = at_least found in omega (arith, is, nought, least)
 
 -- ---- what was printed
 

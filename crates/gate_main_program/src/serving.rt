@@ -1,11 +1,11 @@
 //! The command `serve`: opens the streams, the port and the journal, runs the threads, and makes the report.
-ghost use Rattle.std.specs.Prelude.{◌≡◌, ◌-◌, ◌<◌, ◌^◌, All, IfOk, length, map, string_bytes};
+ghost use Rattle.std.specs.Prelude.{◌≡◌, ◌-◌, ◌<◌, ◌^◌, All, IfOk, map, string_bytes};
 ghost use Rattle.gate_config.specs.Generations.{bytes_of};
-ghost use Rattle.gate_config.specs.Lookups.{connections_of};
 ghost use Rattle.gate_report_text.specs.ReportText.{report_text};
 ghost use Rattle.gate_run_posts.specs.Ports.{IsInboxFor};
 ghost use Rattle.gate_main_command.specs.Printed.{AreGenerations};
 ghost use Rattle.gate_main_program.specs.Said.{ReportsRun, ServesDocuments};
+ghost use Rattle.gate_main_program.specs.Inner.Commands.{OneForEach};
 
 use gate_config::{Config, Generations, read_generations};
 use gate_main_command::{
@@ -98,7 +98,7 @@ fn open_all<X: Files<File = File> + Net<Stream = TcpStream> + AllocGlobal>(
     sources: &[StreamWord<'_>],
     journal: Option<&str>,
 ) -> Result<(Option<Journal<File>>, Vec<ReaderFeed<Stream>>), Fault>
-    ensures count { IfOk result (λ opened. length opened.1.items ≡ length (connections_of config.now)) }
+    ensures count { IfOk result (λ opened. OneForEach config.now opened.1.items) }
     ensures few { IfOk result (λ opened. All (λ feed. ⟦<ReaderFeed<Stream> as RecordFeed>⟧.fault_count feed < 2 ^ 64 - 1) opened.1.items) }
 {
     let journal = match journal {
@@ -121,7 +121,7 @@ fn run<X>(
 ) -> Result<(Ran, Option<Port>), Fault>
 where
     X: Threads + Wait + Clock + AllocGlobal + Copy + Send + Sync + 'static,
-    requires feeds { length feeds.items ≡ length (connections_of gens.now.first) }
+    requires feeds { OneForEach gens.now.first feeds.items }
     requires few { All (λ feed. ⟦<ReaderFeed<Stream> as RecordFeed>⟧.fault_count feed < 2 ^ 64 - 1) feeds.items }
     ensures { IfOk result (λ done. ReportsRun ⟦<ReaderFeed<Stream> as RecordFeed>⟧.to_come ⟦<ReaderFeed<Stream> as RecordFeed>⟧.fault_count gens.now (string_bytes done.0.report)) }
 {
@@ -148,7 +148,7 @@ fn run_told<X>(
 ) -> Result<Ran, Fault>
 where
     X: Threads + Wait + Clock + AllocGlobal + Copy + Send + Sync + 'static,
-    requires feeds { length feeds.items ≡ length (connections_of gens.now.first) }
+    requires feeds { OneForEach gens.now.first feeds.items }
     requires few { All (λ feed. ⟦<ReaderFeed<Stream> as RecordFeed>⟧.fault_count feed < 2 ^ 64 - 1) feeds.items }
     requires for_config { IsInboxFor gens.now.first inbox }
     ensures { IfOk result (λ ran. ReportsRun ⟦<ReaderFeed<Stream> as RecordFeed>⟧.to_come ⟦<ReaderFeed<Stream> as RecordFeed>⟧.fault_count gens.now (string_bytes ran.report)) }

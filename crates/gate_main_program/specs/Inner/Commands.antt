@@ -1,5 +1,7 @@
 -- What a command answers before anything is printed.
-use Rattle.std.specs.Prelude.{◌≡◌, ◌<◌, ◌≤◌, ℕ, List, Option, Some, None}
+use Rattle.std.specs.Prelude.{◌≡◌, ◌<◌, ◌≤◌, ℕ, List, Option, Some, None, length}
+use Rattle.gate_config.specs.declared.config.Config.{Config}
+use Rattle.gate_config.specs.Lookups.{connections_of}
 use Rattle.gate_source.specs.Feeds.{Told}
 use Rattle.gate_main_command.specs.declared.fault.Fault.{Fault}
 use Rattle.gate_main_command.specs.declared.words.Task.{Task}
@@ -16,3 +18,7 @@ pub record SaysFor {F : Type 0} (to_come : F → Told) (faults : F → ℕ) (wor
 abbrev pub ComesAfter : ℕ → Option Fault → Type 0
 ComesAfter words None = Unit {0}
 ComesAfter words (Some found) = (1 < words) × IsOfAJournal found
+
+-- There is a feed for each connection.
+abbrev pub OneForEach : {F : Type 0} → Config → List F → Type 0
+OneForEach config feeds = length feeds ≡ length (connections_of config)
