@@ -98,8 +98,8 @@ class Body:
             self.proofs[file] = left
         return len(self.stale) > before
 
-    def probe(self, folder, symbol, verdict):
-        """Has the goals of the contract at which a tactic gave up searched alone, and says whether there are any."""
+    def probe(self, folder, symbol, function, verdict):
+        """Has the goals of the function's contract at which a tactic gave up searched alone, and says whether there are any."""
         names = [name for _, name, how in verdict.goals if OF_CONTRACT.match(name) and "gave up" in how]
         names = [it for it in names if it not in self.stale and it not in self.probes]
         if not names:
@@ -109,7 +109,7 @@ class Body:
         text = "".join(part for part, _, _ in self.answers(folder, file))
         if not self.probes:
             text = f"use Rattle.std.proofs.Common.{{rules as probed_rules}}\nuse {goals} as probed\n{text}"
-        c = "g c" if is_generic(self.functions[0]) else "c"
+        c = "g c" if is_generic(function) else "c"
         for it in names:
             text = f"{text.rstrip()}\n\npub {it} : probed.{it}\n{it} {c} = search probed_rules\n"
             self.probes[it] = ""

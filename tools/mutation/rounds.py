@@ -299,7 +299,8 @@ class Judging:
 
     def probe(self, body, fell):
         """Has the goals at which a tactic gave up searched alone in the next try, and says whether there are any."""
-        found = any([body.probe(self.crate.folder, name, verdict) for name, verdict in fell.items()])
+        own = {self.symbol(it): it for it in body.functions}
+        found = any([body.probe(self.crate.folder, name, own[name], it) for name, it in fell.items() if name in own])
         body.searched = fell if found else body.searched
         return found
 
