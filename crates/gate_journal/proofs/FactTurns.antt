@@ -4,6 +4,7 @@ use Rattle.std.specs.List.{cons_option, filter_map, find, range_with_len}
 use Rattle.gate_record.specs.declared.ids.ManagerKind.{ManagerKind}
 use Rattle.gate_record.specs.declared.ids.Stamp.{Stamp}
 use Rattle.gate_items.specs.declared.action.Action.{Action}
+use Rattle.gate_items.specs.declared.action.Action.TheVariants as action
 use Rattle.gate_items.specs.declared.action.Outcome.{Outcome}
 use Rattle.gate_items.specs.declared.action.Outcome.TheVariants.{Applied, Discarded}
 use Rattle.gate_items.specs.declared.item.QueueItem.{QueueItem}
@@ -15,15 +16,13 @@ use Rattle.gate_items.proofs.Balances.{count-append, often}
 use Rattle.std.proofs.lemmas.List.{map-append}
 use Rattle.std.proofs.lemmas.List.Elements.{filter_map-append}
 use Rattle.gate_journal.specs.declared.cause.CancelCause.TheVariants.{Ahead}
-use Rattle.gate_journal.specs.Facts.{Fact, FactsBeginAndEndOnce, begin_facts, begun_by, cancel_facts, cancels, ended_by, facts_after, facts_of, reports}
+use Rattle.gate_journal.specs.Facts.{Fact, FactsBeginAndEndOnce, begin_facts, begun_by, cancel_facts, cancels, ended_by, facts_after, facts_of, reports, result_facts}
+use Rattle.gate_journal.specs.Queues.{actions_of}
 use Rattle.gate_journal.proofs.Following.{one_more}
 
 -- an action with its stamp
 abbrev Stamped : Type 0
 Stamped = Option Stamp × Action
-
-abbrev actions_of : List Stamped → List Action
-actions_of told = map (λ (one : Stamped). one.1) told
 
 often_more : (n : ℕ) (xs ys : List ℕ) → how_often n (xs ++ ys) ≡ how_often n xs + how_often n ys
 often_more n xs ys = often n (xs ++ ys) ∙ count-append n xs ys ∙ (λ i. sym (often n xs) i + sym (often n ys) i)
@@ -35,6 +34,16 @@ Begun facts = filter_map begun_by facts
 
 abbrev Ended : List Fact → List ℕ
 Ended facts = filter_map ended_by facts
+
+results_begin_none : (action : Action) → Begun (result_facts action) ≡ []
+results_begin_none (action.Trigger key patchset jobs) = refl
+results_begin_none (action.Result result) = refl
+results_begin_none (action.Manage manage) = refl
+
+results_end_none : (action : Action) → Ended (result_facts action) ≡ []
+results_end_none (action.Trigger key patchset jobs) = refl
+results_end_none (action.Result result) = refl
+results_end_none (action.Manage manage) = refl
 
 ahead_begin_none : (sets : List ℕ) → Begun (map (cancels Ahead) sets) ≡ []
 ahead_begin_none [] = refl
@@ -84,7 +93,8 @@ module _ (discards_nothing : DiscardsChangeNothing) (s : State) (stamp : Option 
       let first = cancel_facts action (sets_of (cancelled s s')) in
       let middle = begin_facts stamp s'.next (begun s s') in
       let last = map reports (reported s s') in
-      filter_map-append begun_by first (middle ++ last)
+      filter_map-append begun_by (result_facts action) (first ++ (middle ++ last))
+      ∙ (λ i. results_begin_none action i ++ filter_map-append begun_by first (middle ++ last) i)
       ∙ (λ i. cancels_begin_none action (sets_of (cancelled s s')) i ++ filter_map-append begun_by middle last i)
       ∙ (λ i. begins_begin stamp s'.next (begun s s') i ++ reports_begin_none (reported s s') i)
       ∙ append-nil (sets_of (begun s s'))
@@ -96,8 +106,9 @@ module _ (discards_nothing : DiscardsChangeNothing) (s : State) (stamp : Option 
       let first = cancel_facts action (sets_of (cancelled s s')) in
       let middle = begin_facts stamp s'.next (begun s s') in
       let last = map reports (reported s s') in
-      let all : Ended (first ++ (middle ++ last)) ≡ sets_of (cancelled s s') ++ reported_sets (reported s s') =
-      filter_map-append ended_by first (middle ++ last)
+      let all : Ended (result_facts action ++ (first ++ (middle ++ last))) ≡ sets_of (cancelled s s') ++ reported_sets (reported s s') =
+      filter_map-append ended_by (result_facts action) (first ++ (middle ++ last))
+      ∙ (λ i. results_end_none action i ++ filter_map-append ended_by first (middle ++ last) i)
       ∙ (λ i. cancels_end action (sets_of (cancelled s s')) i ++ filter_map-append ended_by middle last i)
       ∙ (λ i. sets_of (cancelled s s') ++ (begins_end_none stamp s'.next (begun s s') i ++ reports_end (reported s s') i)) in
       let counts = ap (how_often set) all ∙ often_more set (sets_of (cancelled s s')) (reported_sets (reported s s')) in

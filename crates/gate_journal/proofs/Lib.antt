@@ -1,4 +1,5 @@
 pub mod FactLines
+pub mod FactQueues
 pub mod FactTurns
 pub mod Following
 pub mod Numbered

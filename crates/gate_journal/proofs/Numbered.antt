@@ -7,7 +7,8 @@ use Rattle.gate_config.specs.declared.config.Config.{Config}
 use Rattle.gate_record.specs.declared.ids.Stamp.{Stamp}
 use Rattle.gate_items.specs.declared.item.QueueItem.{QueueItem}
 use Rattle.gate_items.specs.Machine.{has_set}
-use Rattle.gate_journal.specs.Lines.{begin_line, begin_lines}
+use Rattle.gate_journal.specs.Inner.Lines.{begin_lines}
+use Rattle.gate_journal.specs.Lines.{begin_line}
 
 module _ (config : Config) (t p : ℕ) (stamp : Option Stamp) (next : ℕ) (items : List QueueItem) where
   abbrev pub lines_from : ℕ → List ℕ

@@ -1,5 +1,5 @@
 -- The lines of a journal: JSON objects, each with its members in the order of their bytes and a line feed at its end.
-use Rattle.std.specs.Prelude.{◌+◌, ◌==◌, ℕ, List, [], ◌∷◌, ◌++◌, Bool, true, false, Option, None, codes, decimal, flat_map, if◌then◌else◌}
+use Rattle.std.specs.Prelude.{ℕ, List, ◌++◌, Bool, true, false, Option, codes, decimal}
 use Rattle.gate_record.specs.Names.{name_text}
 use Rattle.gate_record.specs.declared.ids.Stamp.{Stamp}
 use Rattle.gate_config.specs.declared.config.Config.{Config}
@@ -8,17 +8,12 @@ use Rattle.gate_items.specs.declared.action.Action.TheVariants as action
 use Rattle.gate_items.specs.declared.action.Manage.TheVariants as manage
 use Rattle.gate_items.specs.declared.action.Discard.{Discard}
 use Rattle.gate_items.specs.declared.action.JobResult.{JobResult}
-use Rattle.gate_items.specs.declared.action.Outcome.{Outcome}
-use Rattle.gate_items.specs.declared.action.Outcome.TheVariants.{Applied, Discarded}
 use Rattle.gate_items.specs.declared.item.QueueItem.{QueueItem}
 use Rattle.gate_items.specs.declared.item.Report.{Report}
 use Rattle.gate_items.specs.declared.key.Key.{Key}
-use Rattle.gate_items.specs.Machine.{State}
-use Rattle.gate_items.specs.Sets.{begun, cancelled, reported, sets_of}
 use Rattle.gate_items.specs.Words.{discard_word}
-use Rattle.gate_journal.specs.Causes.{cause_word, own_cause}
+use Rattle.gate_journal.specs.Causes.{cause_word}
 use Rattle.gate_journal.specs.declared.cause.CancelCause.{CancelCause}
-use Rattle.gate_journal.specs.declared.cause.CancelCause.TheVariants.{Ahead}
 use Rattle.gate_journal.specs.Members.{change_member, jobs_member, patched_members, pipeline_members, record_member, ref_member, tenant_members}
 
 -- ---- single lines, of pipeline p of tenant t
@@ -52,6 +47,12 @@ report_end config t report = ref_member config report.key ++ ((codes "\"report\"
 abbrev pub report_line : Config → ℕ → ℕ → Report → List ℕ
 report_line config t p report = (codes "{" ++ change_member config report.key) ++ (patched_members config t p report.patchset ++ report_end config t report)
 
+-- the line of a job's result
+abbrev pub result_line : Config → ℕ → ℕ → JobResult → List ℕ
+result_line config t p result =
+    (codes "{\"job\":" ++ (name_text result.job ++ codes ","))
+    ++ (pipeline_members config t p ++ ((codes "\"result\":" ++ (decimal result.set ++ success_member result.success)) ++ line_end config t))
+
 -- The lines of discarded actions: a trigger is named by its record, a result by its build set and job, and a management event by
 -- its key.
 abbrev pub lost_trigger : Config → ℕ → ℕ → Option Stamp → List ℕ → List ℕ
@@ -71,32 +72,11 @@ discard_line config t p stamp (action.Result result) why = lost_result config t 
 discard_line config t p stamp (action.Manage (manage.Dequeue key)) why = lost_manage config t p (codes "\"discard\":\"dequeue\",") key (discard_word why)
 discard_line config t p stamp (action.Manage (manage.Reset key)) why = lost_manage config t p (codes "\"discard\":\"reset\",") key (discard_word why)
 
--- ---- the lines of an action
+-- ---- the first lines of a run, and the last one of a pipeline
 
--- The lines of the build sets that an action cancels. The first is that of the item whose key the action names, and the others
--- are those of items behind it.
-abbrev pub cancel_lines : Config → ℕ → ℕ → Action → List ℕ → List ℕ
-cancel_lines config t p action [] = []
-cancel_lines config t p action (set ∷ sets) = cancel_line config t p (own_cause action) set ++ flat_map (cancel_line config t p Ahead) sets
-
--- The lines of the items that begin. A trigger's own item is the last, and its line has the record of the trigger.
-abbrev pub begin_lines : Config → ℕ → ℕ → Option Stamp → ℕ → List QueueItem → List ℕ
-begin_lines config t p stamp next items = flat_map (λ (item : QueueItem). begin_line config t p (if item.set + 1 == next then stamp else None) item) items
-
--- The lines of an action that was processed, by the items before it and after it. An applied action has lines for what it
--- cancels, then for what begins, then for what is reported. A discarded action has one line. The stamp is that of a trigger
--- event.
-abbrev pub action_lines : Config → ℕ → ℕ → State → Option Stamp → Action → Outcome → State → List ℕ
-action_lines config t p before stamp action (Discarded why) items = discard_line config t p stamp action why
-action_lines config t p before stamp action Applied items =
-    cancel_lines config t p action (sets_of (cancelled before items))
-    ++ (begin_lines config t p stamp items.next (begun before items) ++ flat_map (report_line config t p) (reported before items))
-
--- ---- the first line of a run, and the last one of a pipeline
-
--- the line with which a run begins: after it, the numbers of build sets begin anew
-abbrev pub start_line : List ℕ
-start_line = codes "{\"start\":1}\n"
+-- The lines with which a run begins. After them, the numbers of build sets begin anew. The second has the version of the lines.
+abbrev pub start_lines : List ℕ
+start_lines = codes "{\"start\":1}\n{\"gate\":2}\n"
 
 abbrev pub end_member : Bool → List ℕ
 end_member true = codes "{\"end\":\"finished\","

@@ -2,7 +2,8 @@
 ghost use Rattle.std.specs.Prelude.{◌≡◌, ◌≤◌, ◌-◌, ◌++◌, flat_map, string_bytes, OnOk};
 ghost use Rattle.std.specs.List.{filter_map, find, range_with_len};
 ghost use Rattle.gate_items.specs.Machine.{has_set};
-ghost use Rattle.gate_journal.specs.Lines.{begin_lines, cancel_line, report_line};
+ghost use Rattle.gate_journal.specs.Inner.Lines.{begin_lines};
+ghost use Rattle.gate_journal.specs.Lines.{cancel_line, report_line};
 
 use crate::cause::CancelCause;
 use crate::lines::{push_begin, push_cancel, push_report};

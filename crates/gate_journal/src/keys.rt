@@ -6,7 +6,7 @@ ghost use Rattle.gate_items.specs.KeyOrder.{key_cmp};
 ghost use Rattle.gate_items.specs.Keys.{is_same};
 ghost use Rattle.gate_items.specs.Sets.{key_meant};
 ghost use Rattle.gate_items.specs.declared.key.Key.{Key as ItemKey};
-ghost use Rattle.gate_journal.specs.Lines.{cancel_lines};
+ghost use Rattle.gate_journal.specs.Inner.Lines.{cancel_lines};
 ghost use Rattle.gate_journal.specs.Live.{keyed_after};
 
 use crate::cause::CancelCause;

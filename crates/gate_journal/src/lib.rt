@@ -16,7 +16,7 @@ mod queue;
 mod writing;
 
 pub use cause::CancelCause;
-pub use laws::{each_build_set_of_a_journal_begins_and_ends_once, lines_are_the_texts_of_facts};
+pub use laws::{a_journal_tells_the_queue, each_build_set_of_a_journal_begins_and_ends_once};
 pub use lines::{push_end, push_start};
 pub use pipeline_journal::PipelineJournal;
 pub use place::Place;

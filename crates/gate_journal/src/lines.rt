@@ -1,7 +1,7 @@
 //! Writes the single lines of a journal, each a JSON object.
 ghost use Rattle.std.specs.Prelude.{◌≡◌, ◌++◌, codes, decimal, string_bytes, OnOk};
 ghost use Rattle.gate_record.specs.Names.{name_text};
-ghost use Rattle.gate_journal.specs.Lines.{begin_end, begin_line, cancel_line, discard_line, end_line, end_member, line_end, lost_manage, lost_result, lost_trigger, report_end, report_line, start_line, success_member, why_end};
+ghost use Rattle.gate_journal.specs.Lines.{begin_end, begin_line, cancel_line, discard_line, end_line, end_member, line_end, lost_manage, lost_result, lost_trigger, report_end, report_line, result_line, start_lines, success_member, why_end};
 
 use crate::cause::CancelCause;
 use crate::members::{
@@ -98,6 +98,22 @@ fn push_why(out: &mut String, alloc: Global, place: &Place<'_>, word: &str) -> R
     Ok(())
 }
 
+/// Adds the line of a job's result.
+pub(crate) fn push_result(
+    out: &mut String,
+    alloc: Global,
+    place: &Place<'_>,
+    ended: &JobResult,
+) -> Result<(), Memory>
+    ensures { OnOk result (string_bytes out.new ≡ string_bytes out.old ++ result_line place.now.config.now place.now.tenant.0 place.now.pipeline.0 ended.now) }
+{
+    push_job(out, alloc, "{\"job\":", ended.job.as_str())?;
+    push_pipeline(out, place)?;
+    push_success(out, alloc, "\"result\":", ended.set, ended.success)?;
+    push_line_end(out, alloc, place)?;
+    Ok(())
+}
+
 /// Adds the line of an item that is reported.
 pub(crate) fn push_report(
     out: &mut String,
@@ -130,16 +146,23 @@ fn push_report_end(
     ensures { OnOk result (string_bytes out.new ≡ string_bytes out.old ++ report_end place.now.config.now place.now.tenant.0 report.now) }
 {
     push_ref(out, place.config, &report.key)?;
-    push_reported(out, alloc, report.set, report.success)?;
+    push_success(out, alloc, "\"report\":", report.set, report.success)?;
     push_line_end(out, alloc, place)?;
     Ok(())
 }
 
-fn push_reported(out: &mut String, alloc: Global, set: u64, success: bool) -> Result<(), Memory>
-    ensures { OnOk result (string_bytes out.new ≡ string_bytes out.old ++ (codes "\"report\":" ++ (decimal set ++ success_member success))) }
+// Adds a member with the number of a build set, and whether it succeeded.
+fn push_success(
+    out: &mut String,
+    alloc: Global,
+    member: &str,
+    set: u64,
+    success: bool,
+) -> Result<(), Memory>
+    ensures { OnOk result (string_bytes out.new ≡ string_bytes out.old ++ (member.now ++ (decimal set ++ success_member success))) }
 {
     let set = format!(in alloc; "{set}")?;
-    push_parts(out, "\"report\":", set.as_str(), success_member(success))
+    push_parts(out, member, set.as_str(), success_member(success))
 }
 
 fn success_member(success: bool) -> &'static str
@@ -201,18 +224,24 @@ fn push_lost_result(
 ) -> Result<(), Memory>
     ensures { OnOk result (string_bytes out.new ≡ string_bytes out.old ++ lost_result place.now.config.now place.now.tenant.0 place.now.pipeline.0 ended.now why.now) }
 {
-    push_job(out, alloc, ended.job.as_str())?;
+    push_job(
+        out,
+        alloc,
+        "{\"discard\":\"result\",\"job\":",
+        ended.job.as_str(),
+    )?;
     push_pipeline(out, place)?;
     push_set(out, alloc, "\"set\":", ended.set)?;
     push_why(out, alloc, place, why)?;
     Ok(())
 }
 
-fn push_job(out: &mut String, alloc: Global, job: &str) -> Result<(), Memory>
-    ensures { OnOk result (string_bytes out.new ≡ string_bytes out.old ++ (codes "{\"discard\":\"result\",\"job\":" ++ (name_text job.now ++ codes ","))) }
+// Adds a member with the name of a job.
+fn push_job(out: &mut String, alloc: Global, member: &str, job: &str) -> Result<(), Memory>
+    ensures { OnOk result (string_bytes out.new ≡ string_bytes out.old ++ (member.now ++ (name_text job.now ++ codes ","))) }
 {
     let job = name_text(alloc, job)?;
-    push_parts(out, "{\"discard\":\"result\",\"job\":", job.as_str(), ",")
+    push_parts(out, member, job.as_str(), ",")
 }
 
 fn push_lost_manage(
@@ -241,11 +270,11 @@ fn push_lost_key(out: &mut String, place: &Place<'_>, member: &str, key: &Key) -
     Ok(())
 }
 
-/// Adds the line with which a run begins: after it, the numbers of build sets begin anew.
+/// Adds the lines with which a run begins: after them, the numbers of build sets begin anew. The second line has the version of the lines.
 pub fn push_start(out: &mut String) -> Result<(), Memory>
-    ensures { OnOk result (string_bytes out.new ≡ string_bytes out.old ++ start_line) }
+    ensures { OnOk result (string_bytes out.new ≡ string_bytes out.old ++ start_lines) }
 {
-    out.push_str("{\"start\":1}\n")?;
+    out.push_str("{\"start\":1}\n{\"gate\":2}\n")?;
     Ok(())
 }
 

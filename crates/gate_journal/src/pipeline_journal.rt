@@ -6,17 +6,17 @@ ghost use Rattle.gate_items.specs.declared.action.Action.{Action as AnAction};
 ghost use Rattle.gate_items.specs.declared.action.Outcome.TheVariants.{Applied};
 ghost use Rattle.gate_record.specs.declared.ids.ManagerKind.{ManagerKind as Kind};
 ghost use Rattle.gate_journal.specs.Follows.{Knows, items_after};
-ghost use Rattle.gate_journal.specs.Lines.{action_lines};
+ghost use Rattle.gate_journal.specs.Facts.{action_lines};
 
 use crate::begun::{push_begun, push_reports};
 use crate::keys::{follow, push_older};
-use crate::lines::push_discard;
+use crate::lines::{push_discard, push_result};
 use crate::live::Live;
 use crate::place::Place;
 use crate::processed_action::ProcessedAction;
 use crate::queue::{push_lost, put_new, take_lost};
 use gate_items::{
-    Items, ManagerKind, Outcome, Report, discarded_actions_change_nothing,
+    Action, Items, ManagerKind, Outcome, Report, discarded_actions_change_nothing,
     each_action_goes_through_its_queue, each_action_is_for_one_key,
 };
 use gate_record::Memory;
@@ -87,6 +87,7 @@ impl PipelineJournal {
         let alloc = *out.allocator();
         let items = processed.items;
         let reports = reports_from(items, self.reports);
+        push_own(out, alloc, place, processed.action)?;
         self.push_cancelled(out, place, processed, reports)?;
         push_begun(out, place, processed.stamp, items, self.next)?;
         push_reports(out, alloc, place, reports)?;
@@ -98,7 +99,7 @@ impl PipelineJournal {
     ghost use Rattle.std.specs.Prelude.{drop};
     ghost use Rattle.gate_items.specs.Sets.{cancelled, sets_of};
     ghost use Rattle.gate_journal.specs.Follows.{AreLive};
-    ghost use Rattle.gate_journal.specs.Lines.{cancel_lines};
+    ghost use Rattle.gate_journal.specs.Inner.Lines.{cancel_lines};
 
     // Adds the lines of the build sets that the action cancels, and follows the action.
     fn push_cancelled(
@@ -134,6 +135,22 @@ impl PipelineJournal {
 }
 
 ghost use Rattle.std.specs.Prelude.{◌-◌, drop, length};
+ghost use Rattle.gate_journal.specs.Inner.Lines.{result_lines};
+
+// Adds the line of an action that is a result.
+fn push_own(
+    out: &mut String,
+    alloc: Global,
+    place: &Place<'_>,
+    action: &Action,
+) -> Result<(), Memory>
+    ensures { OnOk result (string_bytes out.new ≡ string_bytes out.old ++ result_lines place.now.config.now place.now.tenant.0 place.now.pipeline.0 action.now) }
+{
+    match action {
+        Action::Result(ended) => push_result(out, alloc, place, ended),
+        Action::Trigger(..) | Action::Manage(_) => Ok(()),
+    }
+}
 
 // Returns the reports after the first `count` ones.
 fn reports_from(items: &Items, count: usize) -> &[Report]

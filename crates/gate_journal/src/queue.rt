@@ -1,7 +1,7 @@
 //! Keeps the build sets of a dependent pipeline from front to back, to know which ones an action cancels.
 ghost use Rattle.std.specs.Prelude.{◌≡◌, ◌-◌, ◌++◌, drop, string_bytes, take, IfOk, OnOk};
 ghost use Rattle.std.specs.List.{range_with_len};
-ghost use Rattle.gate_journal.specs.Lines.{cancel_lines};
+ghost use Rattle.gate_journal.specs.Inner.Lines.{cancel_lines};
 
 use crate::begun::push_cancelled;
 use crate::cause::CancelCause;

@@ -20,8 +20,9 @@ use Rattle.gate_core.proofs.Spots.{AfterSet, after_set, another, it, not_itself}
 use Rattle.gate_items.specs.declared.action.Action.{Action}
 use Rattle.gate_items.specs.declared.action.Outcome.{Outcome}
 use Rattle.gate_items.specs.Machine.{State}
+use Rattle.gate_journal.specs.Facts.{action_lines}
 use Rattle.gate_journal.specs.Follows.{Knows, items_after}
-use Rattle.gate_journal.specs.Lines.{action_lines, start_line}
+use Rattle.gate_journal.specs.Lines.{start_lines}
 use Rattle.gate_journal.specs.declared.pipeline_journal.PipelineJournal.{PipelineJournal}
 use Rattle.gate_main_command.specs.Telling.{IsTrue, Told, action_of, acts, ends, actions_of, items_told, journal_text, lines_after, manager_of, next_lines}
 use Rattle.gate_main_command.specs.declared.journal.Journal.{Journal}
@@ -184,7 +185,7 @@ lines_more config past (one ∷ so_far) next =
     ∙ sym (append_assoc (next_lines config past one) (lines_after config (past ++ one ∷ []) so_far) (next_lines config (past ++ one ∷ so_far) next))
 
 text_more : (config : Config) (so_far : List Told) (next : Told) → journal_text config (so_far ++ next ∷ []) ≡ journal_text config so_far ++ next_lines config so_far next
-text_more config so_far next = ap (λ lines. start_line ++ lines) (lines_more config [] so_far next) ∙ sym (append_assoc start_line (lines_after config [] so_far) (next_lines config so_far next))
+text_more config so_far next = ap (λ lines. start_lines ++ lines) (lines_more config [] so_far next) ∙ sym (append_assoc start_lines (lines_after config [] so_far) (next_lines config so_far next))
 
 pub written_more : (config : Config) (so_far : List Told) (next : Told) (before middle after : Option (List ℕ)) (lines : List ℕ) → lines ≡ next_lines config so_far next
     → Appends before middle (journal_text config so_far) → Appends middle after lines → Appends before after (journal_text config (so_far ++ next ∷ []))

@@ -10,8 +10,9 @@ use Rattle.gate_config.specs.Lookups.{pipelines_of}
 use Rattle.gate_items.specs.declared.action.Action.{Action}
 use Rattle.gate_items.specs.declared.action.Outcome.{Outcome}
 use Rattle.gate_items.specs.Machine.{State, apply}
+use Rattle.gate_journal.specs.Facts.{action_lines}
 use Rattle.gate_journal.specs.Follows.{items_after}
-use Rattle.gate_journal.specs.Lines.{action_lines, end_line, start_line}
+use Rattle.gate_journal.specs.Lines.{end_line, start_lines}
 
 -- what a journal is told of pipeline p of tenant t
 pub data Told : Type 0 where
@@ -52,4 +53,4 @@ lines_after config past (next ∷ told) = next_lines config past next ++ lines_a
 
 -- what a journal writes in all
 abbrev pub journal_text : Config → List Told → List ℕ
-journal_text config told = start_line ++ lines_after config [] told
+journal_text config told = start_lines ++ lines_after config [] told

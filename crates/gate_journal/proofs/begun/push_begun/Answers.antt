@@ -2,7 +2,7 @@ use Rattle.std.proofs.Common.{◌∙◌, ◌<◌, ◌+◌, ◌++◌, ap, append_
 use Rattle.std.specs.List.{find}
 use Rattle.std.specs.Option.{option_to_list}
 use Rattle.gate_items.specs.Machine.{has_set}
-use Rattle.gate_journal.specs.Lines.{begin_lines}
+use Rattle.gate_journal.specs.Inner.Lines.{begin_lines}
 use Rattle.gate_journal.proofs.Numbered.{lines_from, one_number}
 use Rattle.gate_journal.proofs.begun.push_begun.Goals as goal
 

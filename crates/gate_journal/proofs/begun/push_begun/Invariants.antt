@@ -1,7 +1,7 @@
 use Rattle.std.proofs.Common.{◌≡◌, ◌-◌, ◌++◌, string_bytes}
 use Rattle.std.specs.List.{filter_map, find, range_with_len}
 use Rattle.gate_items.specs.Machine.{has_set}
-use Rattle.gate_journal.specs.Lines.{begin_lines}
+use Rattle.gate_journal.specs.Inner.Lines.{begin_lines}
 use Rattle.gate_journal.proofs.begun.push_begun.Given as goal
 
 -- what is written and the lines of the numbers that are left make the whole

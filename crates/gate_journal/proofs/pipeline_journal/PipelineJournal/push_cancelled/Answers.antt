@@ -6,7 +6,7 @@ use Rattle.gate_items.specs.declared.action.Action.{Action}
 use Rattle.gate_items.specs.declared.action.Outcome.TheVariants.{Applied}
 use Rattle.gate_record.specs.declared.ids.ManagerKind.{ManagerKind}
 use Rattle.gate_journal.specs.Follows.{AreLive, Knows, items_after}
-use Rattle.gate_journal.specs.Lines.{cancel_lines}
+use Rattle.gate_journal.specs.Inner.Lines.{cancel_lines}
 use Rattle.gate_journal.specs.declared.live.Live.{Live}
 use Rattle.gate_journal.specs.declared.live.Live.TheVariants.{Queue}
 use Rattle.gate_journal.proofs.Following.{QueueFollows, queue_follows}

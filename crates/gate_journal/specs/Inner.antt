@@ -1,0 +1,2 @@
+-- Definitions that only private contracts and proofs cite. No public contract rests on them.
+pub mod Lines
