@@ -9,7 +9,8 @@ runner runs COMMAND for each job of each build set, all of them side by side. CO
   GATE_CHANGE                                      the number of the change, or else
   GATE_REF, GATE_NEWREV, GATE_PROJECT              which ref was updated, and to which revision
 
-A job whose status is 0 has succeeded, and any other has failed. When a job ends, the processes that it leaves are killed. The jobs of a
+A job whose status is 0 has succeeded, and any other has failed. A job that has its result in the journal isn't run, so a runner that is
+started again goes on where the one before was. When a job ends, the processes that it leaves are killed. The jobs of a
 build set that is cancelled are killed, and so are all jobs where a run begins or a pipeline ends. The runner ends when each pipeline of the
 run has ended. It is a fault if the runner has something to post and the port gives no answer for 90 seconds.
 """
@@ -130,6 +131,14 @@ class BuildSet:
         for job in [job for job, process in self.running.items() if has_ended(process)]:
             self.results[job] = "failure" if end(self.running.pop(job)) else "success"
 
+    def leave(self, job: str) -> None:
+        """Leaves a job that has its result, whoever posted it: this runner, one before it, or somebody else."""
+        if job in self.waiting:
+            self.waiting.remove(job)
+        if process := self.running.pop(job, None):
+            end(process)
+        self.results.pop(job, None)
+
     def kill(self) -> None:
         for process in self.running.values():
             end(process)
@@ -206,6 +215,9 @@ class Runner:
         match told:
             case {"begin": number, "t": tenant, "p": pipeline}:
                 self.sets[tenant, pipeline, number] = BuildSet(told)
+            case {"result": number, "job": job, "t": tenant, "p": pipeline}:
+                if build_set := self.sets.get((tenant, pipeline, number)):
+                    build_set.leave(job)
             case {"cancel": number, "t": tenant, "p": pipeline} | {"report": number, "t": tenant, "p": pipeline}:
                 self.drop([(tenant, pipeline, number)])
             case {"end": _, "t": tenant, "p": pipeline}:

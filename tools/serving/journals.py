@@ -18,11 +18,14 @@ class Telling:
     """What the journal of a run of the example has to say, line by line."""
 
     def __init__(self):
-        self.lines = [{"start": 1}]
+        self.lines = [{"start": 1}, {"gate": 2}]
 
     def begins(self, number, change, patchset, record=None):
         first = {"begin": number, "change": of_gerrit(change), "jobs": ["unit", "docs"], "patchset": patchset}
         self.lines.append(of_gate(**first, **({"record": of_gerrit(record)} if record is not None else {})))
+
+    def results(self, number, job, success):
+        self.lines.append(of_gate(result=number, job=job, success=success))
 
     def cancels(self, number, why):
         self.lines.append(of_gate(cancel=number, why=why))
@@ -49,6 +52,7 @@ def first_changes_begin(telling):
 
 def results_come(session, telling):
     session.asks("result 0 0 1 failure unit", "ok")
+    telling.results(1, "unit", False)
     telling.cancels(2, "ahead")
     telling.begins(3, 103, 1)
     session.asks("result 0 0 2 success unit", "ok")
@@ -57,9 +61,9 @@ def results_come(session, telling):
     telling.discards("result", "repeated", set=1, job="unit")
     session.asks("result 0 0 1 success lint", "ok")
     telling.discards("result", "no-job", set=1, job="lint")
-    session.asks("result 0 0 1 success docs", "ok")
-    session.asks("result 0 0 0 success unit", "ok")
-    session.asks("result 0 0 0 success docs", "ok")
+    for number, job in (1, "docs"), (0, "unit"), (0, "docs"):
+        session.asks(f"result 0 0 {number} success {job}", "ok")
+        telling.results(number, job, True)
     telling.reports(0, 101, 2, True)
     telling.reports(1, 102, 1, False)
     telling.is_told()
@@ -148,28 +152,28 @@ def by_pipeline(journal):
 def each_pipeline_of_each_tenant_has_lines_and_an_end_of_its_own():
     streams = [f"{name}=file:{SEVERAL / name}.stream" for name in ("gerrit", "review")]
     ends(start("none", *streams, config=str(SEVERAL / "config.json"), journal="journal"), REPORT_OF_SEVERAL)
-    begin, *found = journal_of(Path("journal").read_text())
-    same(begin, {"start": 1})
-    _, *wanted = journal_of((SEVERAL / "journal").read_text())
-    wanted = [{**line, "end": "finished"} if "end" in line else line for line in wanted if "report" not in line]
+    begin, version, *found = journal_of(Path("journal").read_text())
+    same((begin, version), ({"start": 1}, {"gate": 2}))
+    _, _, *wanted = journal_of((SEVERAL / "journal").read_text())
+    wanted = [{**line, "end": "finished"} if "end" in line else line for line in wanted if not {"report", "result"} & line.keys()]
     same(by_pipeline(found), by_pipeline(wanted))
 
 
 @contextmanager
 def left_by_its_reader(place):
-    """A run whose journal is a FIFO: somebody reads two lines of it and leaves. Gives the run and its stream, which is open."""
+    """A run whose journal is a FIFO: somebody reads three lines of it and leaves. Gives the run and its stream, which is open."""
     listener, source = server("tcp")
     Path("empty").touch()
     os.mkfifo("journal")
     process = start(place, f"gerrit={source}", "review=file:empty", journal="journal")
     with open("journal") as reader:
-        lines = reader.readline()
+        lines = reader.readline() + reader.readline()
         stream = listener.accept()[0]
         stream.settimeout(SECONDS)
         stream.sendall(GERRIT.splitlines(keepends=True)[0])
         lines += reader.readline()
     first = {"begin": 0, "change": of_gerrit(874312), "jobs": ["unit", "lint"], "patchset": 7, "record": of_gerrit(0)}
-    same(journal_of(lines), [{"start": 1}, {**of_gate(**first), "pipeline": "check"}])
+    same(journal_of(lines), [{"start": 1}, {"gate": 2}, {**of_gate(**first), "pipeline": "check"}])
     with stream:
         yield process, stream
 
@@ -251,7 +255,7 @@ def a_journal_without_room_ends_in_half_a_line_and_the_next_start_stands_behind_
     same((members(map(json.loads, lines), "begin"), rest[:10]), ([(0,), (1,)], '{"begin":2'))
     start("none", "gerrit=file:empty", config=config, journal="journal").communicate(timeout=SECONDS)
     found = Path("journal").read_text().split("\n")
-    same(found, [*lines, rest + '{"start":1}', compact(of_gate(end="finished")), ""])
+    same(found, [*lines, rest + '{"start":1}', '{"gate":2}', compact(of_gate(end="finished")), ""])
 
 
 @case

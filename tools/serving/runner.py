@@ -51,7 +51,7 @@ def the_runner_of_the_example_has_each_item_reported():
     jobs, journal = told[:begin].splitlines(), journal_of(told[begin:end])
     same(told[end:], report_of_example(3))
 
-    same((members(journal, "start"), journal[0]), ([(1,)], {"start": 1}))
+    same((members(journal, "start"), journal[:2]), ([(1,)], [{"start": 1}, {"gate": 2}]))
     same((members(journal, "end"), journal[-1]), ([("finished",)], of_gate(end="finished")))
     begun = [(0, 101, 2, of_gerrit(0)), (1, 102, 1, of_gerrit(1)), (2, 103, 1, of_gerrit(2)), (3, 103, 1, None)]
     same(members(journal, "begin", "change", "patchset", "record"), [(n, of_gerrit(c), p, r) for n, c, p, r in begun])
@@ -59,6 +59,8 @@ def the_runner_of_the_example_has_each_item_reported():
     same(members(journal, "cancel", "why"), [(2, "ahead")])
     reported = [(0, 101, 2, True), (1, 102, 1, False), (3, 103, 1, True)]
     same(members(journal, "report", "change", "patchset", "success"), [(n, of_gerrit(c), p, s) for n, c, p, s in reported])
+    results = [(number, job, (number, job) != (1, "unit")) for number in (0, 1, 3) for job in ("docs", "unit")]
+    same(sorted(members(journal, "result", "job", "success")), results)
     # A result of build set 2 may come too late. No other result does.
     late = members(journal, "discard", "set", "why", "job")
     same(late, [("result", 2, "not-current", job) for *_, job in late])
@@ -160,6 +162,28 @@ def a_runner_posts_no_result_of_an_earlier_run_and_tries_again_where_there_is_no
         with open("journal", "a") as journal:
             journal.write(compact(of_gate(end="finished")) + "\n")
         ends(runner, "")
+
+
+@case
+def a_runner_that_is_started_again_runs_no_job_that_has_its_result():
+    begins = [of_gate(begin=number, change=of_gerrit(101 + number), jobs=["unit", "docs"], patchset=1) for number in range(3)]
+    told = [of_gate(result=number, job=job, success=False) for number, job in ((0, "unit"), (2, "docs"))]
+    Path("journal").write_text("".join(compact(line) + "\n" for line in ({"start": 1}, {"gate": 2}, *begins, *told)))
+    Path("begun").touch()
+    with socket.socket(socket.AF_UNIX) as listener:
+        listener.bind("status.sock")
+        listener.listen()
+        listener.settimeout(SECONDS)
+        runner = start_runner("journal", "sh", "-c", 'echo "$GATE_SET $GATE_JOB" >>begun; [ "$GATE_SET" = 0 ] || sleep 100')
+        same(asked(listener), ["status", "quit"])
+        same(asked(listener), ["status", "result 0 0 0 success docs", "quit"])
+        until(lambda: Path("begun").read_text().count("\n") >= 4, "four jobs")
+        # Somebody else posts how a job that still runs has ended: the runner kills it, and posts nothing of it.
+        with open("journal", "a") as journal:
+            journal.write("".join(compact(of_gate(result=1, job=job, success=True)) + "\n" for job in ("unit", "docs")))
+            journal.write(compact(of_gate(cancel=2, why="removed")) + "\n" + compact(of_gate(end="finished")) + "\n")
+        ends(runner, "")
+    same(sorted(Path("begun").read_text().splitlines()), ["0 docs", "1 docs", "1 unit", "2 unit"])
 
 
 @case
