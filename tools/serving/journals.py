@@ -117,7 +117,7 @@ def a_journal_tells_of_each_action_what_it_begins_cancels_reports_or_discards():
         same(open_sets(telling.lines), {8: of_gerrit(103)})
         session.shows("gate", "done 6 items 1 reports 2 running")
         session.stops()
-    telling.lines.append(of_gate(end="finished"))
+    telling.lines.append(of_gate(end="finished", items=1))
     ends(process, report_of_example(6))
     telling.is_told()
 
@@ -155,7 +155,10 @@ def each_pipeline_of_each_tenant_has_lines_and_an_end_of_its_own():
     begin, version, *found = journal_of(Path("journal").read_text())
     same((begin, version), ({"start": 1}, {"gate": 2}))
     _, _, *wanted = journal_of((SEVERAL / "journal").read_text())
-    wanted = [{**line, "end": "finished"} if "end" in line else line for line in wanted if not {"report", "result"} & line.keys()]
+    wanted = [line for line in wanted if not {"end", "report", "result"} & line.keys()]
+    # No result comes, so all items are left.
+    for place, names, items in ((0, 0), ("main", "check"), 1), ((0, 1), ("main", "post"), 1), ((1, 0), ("other", "gate"), 2), ((1, 1), ("other", "release"), 1):
+        wanted.append({"end": "finished", "items": items, "p": place[1], "pipeline": names[1], "t": place[0], "tenant": names[0]})
     same(by_pipeline(found), by_pipeline(wanted))
 
 
@@ -255,7 +258,7 @@ def a_journal_without_room_ends_in_half_a_line_and_the_next_start_stands_behind_
     same((members(map(json.loads, lines), "begin"), rest[:10]), ([(0,), (1,)], '{"begin":2'))
     start("none", "gerrit=file:empty", config=config, journal="journal").communicate(timeout=SECONDS)
     found = Path("journal").read_text().split("\n")
-    same(found, [*lines, rest + '{"start":1}', '{"gate":2}', compact(of_gate(end="finished")), ""])
+    same(found, [*lines, rest + '{"start":1}', '{"gate":2}', compact(of_gate(end="finished", items=0)), ""])
 
 
 @case

@@ -52,7 +52,7 @@ def the_runner_of_the_example_has_each_item_reported():
     same(told[end:], report_of_example(3))
 
     same((members(journal, "start"), journal[:2]), ([(1,)], [{"start": 1}, {"gate": 2}]))
-    same((members(journal, "end"), journal[-1]), ([("finished",)], of_gate(end="finished")))
+    same((members(journal, "end"), journal[-1]), ([("finished",)], of_gate(end="finished", items=0)))
     begun = [(0, 101, 2, of_gerrit(0)), (1, 102, 1, of_gerrit(1)), (2, 103, 1, of_gerrit(2)), (3, 103, 1, None)]
     same(members(journal, "begin", "change", "patchset", "record"), [(n, of_gerrit(c), p, r) for n, c, p, r in begun])
     same(members(journal, "begin", "jobs"), [(number, ["unit", "docs"]) for number in range(4)])

@@ -82,6 +82,6 @@ abbrev pub end_member : Bool → List ℕ
 end_member true = codes "{\"end\":\"finished\","
 end_member false = codes "{\"end\":\"running\","
 
--- the last line of a pipeline
-abbrev pub end_line : Config → ℕ → ℕ → Bool → List ℕ
-end_line config t p finished = end_member finished ++ (pipeline_members config t p ++ line_end config t)
+-- the last line of a pipeline, which has so many items then
+abbrev pub end_line : Config → ℕ → ℕ → Bool → ℕ → List ℕ
+end_line config t p finished items = end_member finished ++ ((codes "\"items\":" ++ (decimal items ++ codes ",")) ++ (pipeline_members config t p ++ line_end config t))

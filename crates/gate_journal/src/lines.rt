@@ -278,19 +278,28 @@ pub fn push_start(out: &mut String) -> Result<(), Memory>
     Ok(())
 }
 
-/// Adds the last line of a pipeline. The line says whether the pipeline's end mark was met.
+/// Adds the last line of a pipeline. The line says whether the pipeline's end mark was met, and how many items are left in the queue.
 pub fn push_end(
     out: &mut String,
     alloc: Global,
     place: &Place<'_>,
     finished: bool,
+    items: usize,
 ) -> Result<(), Memory>
-    ensures { OnOk result (string_bytes out.new ≡ string_bytes out.old ++ end_line place.now.config.now place.now.tenant.0 place.now.pipeline.0 finished) }
+    ensures { OnOk result (string_bytes out.new ≡ string_bytes out.old ++ end_line place.now.config.now place.now.tenant.0 place.now.pipeline.0 finished items) }
 {
     out.push_str(end_member(finished))?;
+    push_items(out, alloc, items)?;
     push_pipeline(out, place)?;
     push_line_end(out, alloc, place)?;
     Ok(())
+}
+
+fn push_items(out: &mut String, alloc: Global, items: usize) -> Result<(), Memory>
+    ensures { OnOk result (string_bytes out.new ≡ string_bytes out.old ++ (codes "\"items\":" ++ (decimal items ++ codes ","))) }
+{
+    let items = format!(in alloc; "{items}")?;
+    push_parts(out, "\"items\":", items.as_str(), ",")
 }
 
 fn end_member(finished: bool) -> &'static str

@@ -165,9 +165,9 @@ pub no_journal : (config : Config) (so_far : List Told) (t p : ℕ) (row : List 
 no_journal config so_far t p row knows there past = let count : length row ≡ length (pipelines_of config t) = knows.0 in omega (arith, count, there, past)
 
 -- nothing that isn't an action changes what they know
-pub know_still : (config : Config) (so_far : List Told) (t p : ℕ) (finished : Bool) (journals : List (Vec PipelineJournal)) → KnowAll config so_far journals → KnowAll config (so_far ++ ends t p finished ∷ []) journals
-know_still config so_far t p finished journals all =
-    (all.0, λ u row at. ((all.1 u row at).0, λ q one e. knows_still config so_far (so_far ++ ends t p finished ∷ []) u q one (no_action u q so_far (ends t p finished) refl) ((all.1 u row at).1 q one e)))
+pub know_still : (config : Config) (so_far : List Told) (t p : ℕ) (finished : Bool) (items : ℕ) (journals : List (Vec PipelineJournal)) → KnowAll config so_far journals → KnowAll config (so_far ++ ends t p finished items ∷ []) journals
+know_still config so_far t p finished items journals all =
+    (all.0, λ u row at. ((all.1 u row at).0, λ q one e. knows_still config so_far (so_far ++ ends t p finished items ∷ []) u q one (no_action u q so_far (ends t p finished items) refl) ((all.1 u row at).1 q one e)))
 
 -- ---- the lines
 

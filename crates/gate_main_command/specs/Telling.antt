@@ -18,12 +18,12 @@ use Rattle.gate_journal.specs.Lines.{end_line, start_lines}
 pub data Told : Type 0 where
   -- the pipeline has processed this action; the stamp is that of a trigger event
   acts : (t p : ℕ) → Option Stamp → Action → Told
-  -- the pipeline's worker returns, or the script is over; the pipeline is finished or isn't
-  ends : (t p : ℕ) → Bool → Told
+  -- the pipeline's worker returns, or the script is over; the pipeline is finished or isn't, and has so many items
+  ends : (t p : ℕ) → Bool → ℕ → Told
 
 abbrev pub action_of : ℕ → ℕ → Told → Option Action
 action_of t p (acts u q stamp action) = if (t == u) && (p == q) then Some action else None
-action_of t p (ends u q finished) = None
+action_of t p (ends u q finished items) = None
 
 -- the actions of pipeline p of tenant t, in order
 abbrev pub actions_of : ℕ → ℕ → List Told → List Action
@@ -44,7 +44,7 @@ pub record IsTrue (config : Config) (told : List Told) (t p : ℕ) (action : Act
 -- the lines of what is told next
 abbrev pub next_lines : Config → List Told → Told → List ℕ
 next_lines config told (acts t p stamp action) = action_lines config t p (items_told config told t p) stamp action (apply (items_told config told t p) action).1 (apply (items_told config told t p) action).0
-next_lines config told (ends t p finished) = end_line config t p finished
+next_lines config told (ends t p finished items) = end_line config t p finished items
 
 -- the lines of what was told after something else, one after another
 abbrev pub lines_after : Config → List Told → List Told → List ℕ

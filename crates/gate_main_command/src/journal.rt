@@ -86,15 +86,15 @@ impl<W: Write + Drop> Journal<W> {
         self.write(made);
     }
 
-    /// Writes the last line of a pipeline.
-    pub(crate) fn end(&mut self, place: &Place<'_>, finished: bool)
-        ensures { (before : Option (List ℕ)) (so_far : List Told) → Keeps W.contents place.now.config.now before so_far self.old → Keeps W.contents place.now.config.now before (so_far ++ ends place.now.tenant.0 place.now.pipeline.0 finished ∷ []) self.new }
+    /// Writes the last line of a pipeline, which has so many items.
+    pub(crate) fn end(&mut self, place: &Place<'_>, finished: bool, items: usize)
+        ensures { (before : Option (List ℕ)) (so_far : List Told) → Keeps W.contents place.now.config.now before so_far self.old → Keeps W.contents place.now.config.now before (so_far ++ ends place.now.tenant.0 place.now.pipeline.0 finished items ∷ []) self.new }
     {
         if self.fault.is_some() {
             return;
         }
         self.lines.clear();
-        let made = push_end(&mut self.lines, self.alloc, place, finished);
+        let made = push_end(&mut self.lines, self.alloc, place, finished, items);
         self.write(made);
     }
 

@@ -37,9 +37,10 @@ impl Journaling {
     }
 
     // Writes the last line of a pipeline.
-    fn end(&mut self, tenant: TenantId, pipeline: PipelineId, finished: bool) {
+    fn end(&mut self, tenant: TenantId, pipeline: PipelineId, state: &Pipeline) {
         let place = place_of(self.gens.get(), tenant, pipeline);
-        self.journal.end(&place, finished);
+        self.journal
+            .end(&place, state.finished(), state.state().len());
         self.stop_at_fault();
     }
 
@@ -111,6 +112,6 @@ impl<'a> Gate for JournalGate<'a> {
         let Some(journal) = self.journal else {
             return;
         };
-        journal.lock(rt).end(tenant, pipeline, state.finished());
+        journal.lock(rt).end(tenant, pipeline, state);
     }
 }

@@ -4,6 +4,7 @@ use crate::journal::Journal;
 use crate::pipeline_journals::place_of;
 use gate_config::Generations;
 use gate_core::{Answer, Onlooker, PipelineReport, RunReport, World};
+use gate_items::Items;
 use gate_journal::ProcessedAction;
 use gate_record::{Memory, PipelineId, TenantId};
 use std::alloc::Global;
@@ -54,7 +55,7 @@ impl Onlooker for ScriptJournal {
 
     fn ended(&mut self, world: &World<'_>, report: &RunReport) {
         if let Some(journal) = &mut self.journal {
-            end(journal, world.generations(), report);
+            end(journal, world, report);
         }
     }
 }
@@ -83,10 +84,10 @@ fn tell(
 }
 
 // Tells a journal of the ends of all pipelines.
-fn end(journal: &mut Journal<Vec<u8>>, generations: &Generations, report: &RunReport) {
+fn end(journal: &mut Journal<Vec<u8>>, world: &World<'_>, report: &RunReport) {
     let mut tenant = TenantId(0);
     for pipelines in report.pipelines.as_slice() {
-        end_tenant(journal, generations, tenant, pipelines.as_slice());
+        end_tenant(journal, world, tenant, pipelines.as_slice());
         tenant = TenantId(tenant.0.saturating_add(1));
     }
 }
@@ -94,13 +95,15 @@ fn end(journal: &mut Journal<Vec<u8>>, generations: &Generations, report: &RunRe
 // Tells a journal of the ends of a tenant's pipelines.
 fn end_tenant(
     journal: &mut Journal<Vec<u8>>,
-    generations: &Generations,
+    world: &World<'_>,
     tenant: TenantId,
     reports: &[PipelineReport],
 ) {
     let mut pipeline = PipelineId(0);
     for report in reports {
-        journal.end(&place_of(generations, tenant, pipeline), report.finished);
+        let place = place_of(world.generations(), tenant, pipeline);
+        let items = world.items(tenant, pipeline).map_or(0, Items::len);
+        journal.end(&place, report.finished, items);
         pipeline = PipelineId(pipeline.0.saturating_add(1));
     }
 }

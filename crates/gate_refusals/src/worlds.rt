@@ -320,7 +320,7 @@ fn tell_journal(log: &mut Log, config: &Config, processed: &[Processed]) -> Ende
     say!(log.told, "{lines}");
     made!(log; "gate_journal push_end" => {
         line.clear();
-        push_end(&mut line, log.alloc, &place, true)
+        push_end(&mut line, log.alloc, &place, true, 1)
     })?;
     say!(log.told, "{line}");
     Ok(())
