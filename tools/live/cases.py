@@ -27,6 +27,12 @@ def with_yaml(function):
     return function
 
 
+def with_jq(function):
+    """A case that runs jq."""
+    function.kind = "jq"
+    return function
+
+
 def cases_of(modules, names, *kinds):
     """The cases of these kinds in these modules, in their order: those with these names, or all where no name is given."""
     functions = [it for module in modules for it in vars(module).values() if getattr(it, "kind", None) in kinds]

@@ -41,6 +41,7 @@ def an_installation_into_an_empty_folder_is_run_from_there():
     same(run(gate, "--version")[1].splitlines()[0] in told, True)
     same(run(gate, "foo"), (2, "", "fault: usage\n"))
     has(Path(place, "share/man/man1/gate.1").read_text(), ".TH GATE 1")
+    has(Path(place, "share/gate/queue.jq").read_text(), "reduce inputs as $line")
     os.symlink(gate, "link")
     same(run("./link", "check", SMALL / "config.json")[0], 0)
     completes(place, gate)
