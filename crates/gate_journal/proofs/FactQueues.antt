@@ -1,6 +1,6 @@
 -- A reader of a journal rebuilds the queue: the facts of an action make of the queue before it the queue after it.
 use Rattle.std.proofs.Common.{◌≡◌, ◌∙◌, refl, sym, ap, subst, inl, inr, ◌+◌, ◌-◌, ◌<◌, ◌≤◌, ℕ, ℤ, suc, zero, List, [], ◌∷◌, ◌++◌, Bool, true, false, cond, Option, Some, None, length, drop, map, nat_eq, nat_lt, append-nil, append_assoc, arith}
-use Rattle.std.specs.Prelude.{◌||◌, ◌^◌, ◌⊎◌, get_or, int_lt, not}
+use Rattle.std.specs.Prelude.{◌&&◌, ◌||◌, ◌^◌, ◌⊎◌, get_or, int_lt, not}
 use Rattle.std.specs.Cmp.{tied_itself}
 use Rattle.std.specs.List.{cons_option, filter, filter_map, find, fold, list_any, range_with_len}
 use Rattle.std.specs.Ordering.{int_eq, is_eq}
@@ -27,16 +27,16 @@ use Rattle.gate_items.specs.KeyOrder.{key_cmp_total}
 use Rattle.gate_items.specs.Inner.KeyOrder.{same_by_cmp}
 use Rattle.gate_items.specs.Machine.{Plan, Refuses, Makes, State, after_plan, apply, before, behind, behind_it, dequeued, ended, has_set, head_of, is_complete, is_first_failure, is_job, is_of, leaving, new_item, open_job, placing, plan, renewed, report_of, reset, rest_of, resulted, sets_behind, staying, triggered, with_outcome, with_set}
 use Rattle.gate_items.specs.Sets.{begun, cancelled, has_report, is_lost, reported, reported_sets, sets_of}
-use Rattle.gate_items.proofs.Balances.{Well, count, count_reports, count_sets, drop_front, none_reported, times_leaving, well_on}
+use Rattle.gate_items.proofs.Balances.{Well, count, count_reports, count_sets, drop_front, none_reported, reported_none, times_leaving, well_on}
 use Rattle.gate_items.proofs.Begins.{well_start}
 use Rattle.gate_items.proofs.Chunks.{chunk_renewed}
 use Rattle.gate_items.proofs.Each.{Each, each_append, each_map}
 use Rattle.gate_items.proofs.Entries.{tied, tied_both}
 use Rattle.gate_items.proofs.Fitting.{Fits, FitsPlan, fits_plan}
 use Rattle.gate_items.proofs.KeyParts.{keyed}
-use Rattle.gate_items.proofs.QueueParts.{Waits, all_chosen, both_false, found_passes, has_it, none_chosen, not_lost_current, not_lost_reported, reports_it, sets-append, sets_chosen, split_at}
+use Rattle.gate_items.proofs.QueueParts.{Waits, all_chosen, both_false, found_passes, none_chosen, sets-append, sets_chosen, split_at}
 use Rattle.gate_items.proofs.Sound.{Fresh, FreshPlan, Sound, fresh_plan, fewer_sound, made_by}
-use Rattle.gate_items.proofs.Times.{bit, none_times, once, once_other, times, times-append, times_split}
+use Rattle.gate_items.proofs.Times.{bit, none_times, once, once_other, times, times-append, times_none, times_split}
 use Rattle.gate_journal.specs.declared.cause.CancelCause.TheVariants.{Ahead}
 use Rattle.gate_journal.specs.Facts.{Fact, begin_facts, begun_item, build_set, cancel_facts, cancels, facts_after, facts_of, reports, result_facts}
 use Rattle.gate_journal.specs.Queues.{FactsTellTheQueue, actions_of, in_place, queue_after, reported_by, with_begun, with_result, without}
@@ -381,17 +381,23 @@ numbered_are items k (suc m) (x ∷ fresh) e found =
     ap (λ (o : Option QueueItem). cons_option o (filter_map (λ set. find (has_set set) items) (range_with_len (k + 1) m))) first
     ∙ ap (λ xs. x ∷ xs) (numbered_are items (k + 1) m fresh rest found.1)
 
-waits_by : (next : ℕ) (item : QueueItem) (b : Bool) → is_complete item ≡ b → next ≤ item.set → (is_complete item ≡ true → item.set < next) → is_complete item ≡ false
-waits_by next item true e high low = absurd (omega (arith, high, low e))
-waits_by next item false e high low = e
+-- the build sets of a range are none below its beginning
+high_sets : (k m : ℕ) (fresh : List QueueItem) → sets_of fresh ≡ range_with_len k m → Each (λ (x : QueueItem). k ≤ x.set) fresh
+high_sets k m [] e = tt
+high_sets k zero (x ∷ fresh) e = absurd (cc)
+high_sets k (suc m) (x ∷ fresh) e =
+    let own : x.set ≡ k = ap (λ ns. get_or ns 0 0) e in
+    let more = high_sets (k + 1) m fresh (ap (drop 1) e) in
+    (omega (arith, own), each_map (λ (y : QueueItem). k + 1 ≤ y.set) (λ (y : QueueItem). k ≤ y.set) (λ y h. omega (arith, h)) fresh more)
 
-fresh_wait : (next k m : ℕ) (fresh : List QueueItem) → next ≤ k → sets_of fresh ≡ range_with_len k m → Each (Fits next) fresh → Each Waits fresh
-fresh_wait next k m [] h e fit = tt
-fresh_wait next k zero (item ∷ fresh) h e fit = absurd (cc)
-fresh_wait next k (suc m) (item ∷ fresh) h e fit =
-    let own : item.set ≡ k = ap (λ ns. get_or ns 0 0) e in
-    let rest : sets_of fresh ≡ range_with_len (k + 1) m = ap (drop 1) e in
-    (waits_by next item (is_complete item) refl (omega (arith, h, own)) fit.0.1, fresh_wait next (k + 1) m fresh (omega (arith, h)) rest fit.1)
+-- what has a new build set waits
+new_wait : (next : ℕ) (fresh : List QueueItem) → Each (λ (x : QueueItem). next ≤ x.set) fresh → Each (Fits next) fresh → Each Waits fresh
+new_wait next [] high fit = tt
+new_wait next (x ∷ fresh) high fit = (by (is_complete x) refl, new_wait next fresh high.1 fit.1)
+  where
+    by : (b : Bool) → is_complete x ≡ b → is_complete x ≡ false
+    by true complete = absurd (omega (arith, high.0, fit.0.1 complete))
+    by false waits = waits
 
 all_fit : (next : ℕ) (xs items : List QueueItem) → AllIn xs items → Each (Fits next) items → Each (Fits next) xs
 all_fit next [] items all fit = tt
@@ -714,6 +720,20 @@ reports_reported : (all : List Report) → filter_map reported_by (map reports a
 reports_reported [] = refl
 reports_reported (report ∷ all) = ap (λ rest. report ∷ rest) (reports_reported all)
 
+-- what is chosen stands between what isn't
+chosen_between : (f : ℕ → Bool) (xs ys zs : List ℕ) → ((n : ℕ) → 1 ≤ count n xs → f n ≡ false) → ((n : ℕ) → 1 ≤ count n ys → f n ≡ true) → ((n : ℕ) → 1 ≤ count n zs → f n ≡ false) →
+    filter f (xs ++ (ys ++ zs)) ≡ ys
+chosen_between f xs ys zs before it behind =
+    filter-append f xs (ys ++ zs) ∙ (λ i. none_chosen f xs before i ++ filter-append f ys zs i) ∙ (λ i. all_chosen f ys it i ++ none_chosen f zs behind i) ∙ append-nil ys
+
+-- the number of an item was given out
+handed : (s : State) → Well s → (n : ℕ) → 1 ≤ times n s.items → n < s.next
+handed s well n some = by (nat_lt n s.next) (ltb-true n s.next) (ltb-false n s.next)
+  where
+    by : (b : Bool) → (b ≡ true → n < s.next) → (b ≡ false → s.next ≤ n) → n < s.next
+    by true low high = low refl
+    by false low high = absurd (omega (arith, some, well.sound.high n (high refl)))
+
 module _ (s : State) (well : Well s) (a : Action) (stamp : Option Stamp) where
   module _ (items : List QueueItem) (sets : ℕ) (turn : Turn s a items sets) (grows : Fresh s.next s.items items sets) (fit : Each (Fits s.next) items) where
     abbrev left : State
@@ -726,7 +746,7 @@ module _ (s : State) (well : Well s) (a : Action) (stamp : Option Stamp) where
     sound_left = fewer_sound s items sets sound_items
 
     waits : Each Waits turn.fresh
-    waits = fresh_wait s.next s.next sets turn.fresh (omega arith) turn.new (all_fit s.next turn.fresh items turn.there fit)
+    waits = new_wait s.next turn.fresh (high_sets s.next sets turn.fresh turn.new) (all_fit s.next turn.fresh items turn.there fit)
 
     found_all : (xs : List QueueItem) → AllIn xs items → Each Waits xs → Each (λ (x : QueueItem). find (has_set x.set) left.items ≡ Some x) xs
     found_all [] there wait = tt
@@ -748,37 +768,28 @@ module _ (s : State) (well : Well s) (a : Action) (stamp : Option Stamp) where
     old_count : (n : ℕ) → times n s.items ≡ times n turn.ahead + (times n turn.lost + times n turn.others)
     old_count n = ap (times n) turn.old ∙ times-append n turn.ahead (turn.lost ++ turn.others) ∙ ap (λ k. times n turn.ahead + k) (times-append n turn.lost turn.others)
 
-    handed_by : (n : ℕ) (b : Bool) → (b ≡ true → n < s.next) → (b ≡ false → s.next ≤ n) → 1 ≤ times n s.items → n < s.next
-    handed_by n true low high h = low refl
-    handed_by n false low high h = absurd (omega (arith, h, well.sound.high n (high refl)))
-
-    handed : (n : ℕ) → 1 ≤ times n s.items → n < s.next
-    handed n h = handed_by n (nat_lt n s.next) (ltb-true n s.next) (ltb-false n s.next) h
-
-    kept_by : (n : ℕ) (b : Bool) → (b ≡ true → 0 < times n left.items) → (b ≡ false → times n left.items ≤ 0) → 1 ≤ times n items → is_lost s left n ≡ false
-    kept_by n true some none h = not_lost_current (is_current left n) (has_report (reported s left) n) (has_it left n (omega (arith, some refl)))
-    kept_by n false some none h = not_lost_reported (is_current left n) (has_report (reported s left) n) (reports_it (reported s left) n (omega (arith, none refl, h, all_count n)))
-
+    -- a build set that an item has again, or that is reported, isn't lost
     stays : (n : ℕ) → 1 ≤ times n turn.ahead + times n turn.others → is_lost s left n ≡ false
-    stays n h = kept_by n (nat_lt 0 (times n left.items)) (ltb-true 0 (times n left.items)) (ltb-false 0 (times n left.items)) (omega (arith, h, turn.keeps n (handed n (omega (arith, h, old_count n)))))
+    stays n h = by (is_current left n) (has_report (reported s left) n) (times_none n left.items) (reported_none n (reported s left))
+      where
+        by : (c r : Bool) → (c ≡ false → times n left.items ≡ 0) → (r ≡ false → count n (reported_sets (reported s left)) ≡ 0) → (not c && not r) ≡ false
+        by true r none silent = refl
+        by false true none silent = refl
+        by false false none silent = absurd (omega (arith, h, none refl, silent refl, all_count n, turn.keeps n (handed s well n (omega (arith, h, old_count n)))))
 
     gone : (n : ℕ) → 1 ≤ times n turn.lost → is_lost s left n ≡ true
     gone n h =
-        let made_none : times n items ≡ 0 = omega (arith, h, old_count n, well.sound.most n, turn.keeps n (handed n (omega (arith, h, old_count n)))) in
+        let nowhere : times n items ≡ 0 = omega (arith, h, old_count n, well.sound.most n, turn.keeps n (handed s well n (omega (arith, h, old_count n)))) in
         both_false (is_current left n) (has_report (reported s left) n)
-        (none_times n left.items (omega (arith, made_none, all_count n))) (none_reported n (reported s left) (omega (arith, made_none, all_count n)))
+        (none_times n left.items (omega (arith, nowhere, all_count n))) (none_reported n (reported s left) (omega (arith, nowhere, all_count n)))
 
     cancelled_is : sets_of (cancelled s left) ≡ sets_of turn.lost
     cancelled_is =
-        let f : ℕ → Bool = is_lost s left in
-        sets_chosen f s.items
-        ∙ ap (filter f) (ap sets_of turn.old ∙ sets-append turn.ahead (turn.lost ++ turn.others) ∙ ap (λ ns. sets_of turn.ahead ++ ns) (sets-append turn.lost turn.others))
-        ∙ filter-append f (sets_of turn.ahead) (sets_of turn.lost ++ sets_of turn.others)
-        ∙ ap (λ ns. ns ++ filter f (sets_of turn.lost ++ sets_of turn.others)) (none_chosen f (sets_of turn.ahead) (λ n h. stays n (omega (arith, h, count_sets n turn.ahead))))
-        ∙ filter-append f (sets_of turn.lost) (sets_of turn.others)
-        ∙ ap (λ ns. ns ++ filter f (sets_of turn.others)) (all_chosen f (sets_of turn.lost) (λ n h. gone n (omega (arith, h, count_sets n turn.lost))))
-        ∙ ap (λ ns. sets_of turn.lost ++ ns) (none_chosen f (sets_of turn.others) (λ n h. stays n (omega (arith, h, count_sets n turn.others))))
-        ∙ append-nil (sets_of turn.lost)
+        let parts = ap sets_of turn.old ∙ sets-append turn.ahead (turn.lost ++ turn.others) ∙ ap (λ ns. sets_of turn.ahead ++ ns) (sets-append turn.lost turn.others) in
+        sets_chosen (is_lost s left) s.items
+        ∙ ap (filter (is_lost s left)) parts
+        ∙ chosen_between (is_lost s left) (sets_of turn.ahead) (sets_of turn.lost) (sets_of turn.others)
+        (λ n h. stays n (omega (arith, h, count_sets n turn.ahead))) (λ n h. gone n (omega (arith, h, count_sets n turn.lost))) (λ n h. stays n (omega (arith, h, count_sets n turn.others)))
 
     abbrev first : List Fact
     first = result_facts a

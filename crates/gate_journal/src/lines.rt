@@ -98,8 +98,25 @@ fn push_why(out: &mut String, alloc: Global, place: &Place<'_>, word: &str) -> R
     Ok(())
 }
 
-/// Adds the line of a job's result.
-pub(crate) fn push_result(
+ghost use Rattle.gate_journal.specs.Inner.Lines.{result_lines};
+
+/// Adds the line of an action that is a result.
+pub(crate) fn push_own(
+    out: &mut String,
+    alloc: Global,
+    place: &Place<'_>,
+    action: &Action,
+) -> Result<(), Memory>
+    ensures { OnOk result (string_bytes out.new ≡ string_bytes out.old ++ result_lines place.now.config.now place.now.tenant.0 place.now.pipeline.0 action.now) }
+{
+    match action {
+        Action::Result(ended) => push_result(out, alloc, place, ended),
+        Action::Trigger(..) | Action::Manage(_) => Ok(()),
+    }
+}
+
+// Adds the line of a job's result.
+fn push_result(
     out: &mut String,
     alloc: Global,
     place: &Place<'_>,

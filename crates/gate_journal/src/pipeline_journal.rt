@@ -10,13 +10,13 @@ ghost use Rattle.gate_journal.specs.Facts.{action_lines};
 
 use crate::begun::{push_begun, push_reports};
 use crate::keys::{follow, push_older};
-use crate::lines::{push_discard, push_result};
+use crate::lines::{push_discard, push_own};
 use crate::live::Live;
 use crate::place::Place;
 use crate::processed_action::ProcessedAction;
 use crate::queue::{push_lost, put_new, take_lost};
 use gate_items::{
-    Action, Items, ManagerKind, Outcome, Report, discarded_actions_change_nothing,
+    Items, ManagerKind, Outcome, Report, discarded_actions_change_nothing,
     each_action_goes_through_its_queue, each_action_is_for_one_key,
 };
 use gate_record::Memory;
@@ -135,23 +135,6 @@ impl PipelineJournal {
 }
 
 ghost use Rattle.std.specs.Prelude.{◌-◌, drop, length};
-ghost use Rattle.gate_journal.specs.Inner.Lines.{result_lines};
-
-// Adds the line of an action that is a result.
-fn push_own(
-    out: &mut String,
-    alloc: Global,
-    place: &Place<'_>,
-    action: &Action,
-) -> Result<(), Memory>
-    ensures { OnOk result (string_bytes out.new ≡ string_bytes out.old ++ result_lines place.now.config.now place.now.tenant.0 place.now.pipeline.0 action.now) }
-{
-    match action {
-        Action::Result(ended) => push_result(out, alloc, place, ended),
-        Action::Trigger(..) | Action::Manage(_) => Ok(()),
-    }
-}
-
 // Returns the reports after the first `count` ones.
 fn reports_from(items: &Items, count: usize) -> &[Report]
     ensures { result.now ≡ drop count items.now.reported }
