@@ -24,15 +24,11 @@ no JSON
 {"type":"patchset-created","change":{"project":"docs/manual","branch":"master","number":8},"patchSet":{"number":2}}
 "#;
 
-const SESSION: &str = "gate_status session";
-
 // Lines of a session, which may come twice.
 const LINES: &str = "status
 result 0 0 0 success unit
 reset 0 1 ref 0 2e9c refs/heads/main demo
 dequeue 9 0 change 0 7
-renew
-renew
 nothing
 result 0 0
 stop
@@ -75,41 +71,27 @@ fn stop(log: &mut Log, posts: &mut Posts) -> Ended {
     Err(log.end("twice", call))
 }
 
-/// A session, and once more where memory is refused to it or to one of its lines. Each has posts of its own, since a line of the first one
-/// may have asked for a generation already.
+/// A session, and once more where memory is refused to it or to one of its lines. What it wrote is told where it came to its end.
 pub(crate) fn talk(rt: &(impl AllocGlobal + Wait), log: &mut Log, gens: &Generations) -> Ended {
-    let board = Mutex::new(board_of(log, gens.first())?);
-    for _ in 0..2 {
-        if talk_once(rt, log, gens, &board)? {
-            return Ok(());
-        }
-        log.tell("refused", SESSION);
-    }
-    Err(log.end("twice", SESSION))
-}
-
-// A session. What it wrote is told, unless memory was refused to the session or to one of its lines: the answer says whether it was told.
-fn talk_once(
-    rt: &(impl AllocGlobal + Wait),
-    log: &mut Log,
-    gens: &Generations,
-    board: &Mutex<Board>,
-) -> Result<bool, Memory> {
+    let (call, config) = ("gate_status session", gens.first());
+    let board = Mutex::new(board_of(log, config)?);
     let (mut posts, _inbox) = opened(log, gens)?;
-    let mut input = Counted::new(LINES.as_bytes());
-    let mut output = Counted::new(Vec::with_capacity(log.alloc, 4096)?);
-    let ended = session(rt, &mut input, &mut output, gens.first(), board, &mut posts);
-    let Ok(text) = String::from_utf8(output.into_inner()) else {
-        return Err(log.end("unexpected", "bytes of a session"));
-    };
-    match ended {
-        Ok(end) if !text.as_str().contains("memory\n") => {
-            say!(log.told, "{text}{end:?}\n");
-            Ok(true)
+    for _ in 0..2 {
+        let mut input = Counted::new(LINES.as_bytes());
+        let mut output = Counted::new(Vec::with_capacity(log.alloc, 4096)?);
+        let ended = session(rt, &mut input, &mut output, config, &board, &mut posts);
+        let Ok(text) = String::from_utf8(output.into_inner()) else {
+            return Err(log.end("unexpected", "bytes of a session"));
+        };
+        match ended {
+            Ok(end) if !text.as_str().contains("memory\n") => {
+                return Ok(say!(log.told, "{text}{end:?}\n"));
+            }
+            Ok(_) | Err(SessionFault::Memory) => log.tell("refused", call),
+            Err(_) => return Err(log.end("unexpected", "fault of a session")),
         }
-        Ok(_) | Err(SessionFault::Memory) => Ok(false),
-        Err(_) => Err(log.end("unexpected", "fault of a session")),
     }
+    Err(log.end("twice", call))
 }
 
 fn board_of(log: &mut Log, config: &Config) -> Result<Board, Memory> {
