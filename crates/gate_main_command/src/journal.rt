@@ -51,7 +51,7 @@ impl From<Memory> for JournalFault {
 }
 
 impl<W: Write + Drop> Journal<W> {
-    /// Begins the journal of a run of this configuration, whose pipelines have no items yet: the line of the start is written.
+    /// Begins the journal of a run of this configuration, whose pipelines have no items yet: the lines of the start are written.
     pub(crate) fn new(
         alloc: Global,
         config: &Config,

@@ -26,7 +26,7 @@ pub fn journal_path<X: Env + AllocGlobal>(rt: &X) -> Result<Option<String>, Faul
     }
 }
 
-/// Opens the journal of a run of this configuration, and writes the line of the start. A missing file is made, and one that is there is
+/// Opens the journal of a run of this configuration, and writes the lines of the start. A missing file is made, and one that is there is
 /// appended to. Where the file is a FIFO, the call waits for its reader. `Journal` says that the file can't be opened or written.
 pub fn open_journal<X: Files<File = File> + AllocGlobal>(
     rt: &X,

@@ -26,7 +26,7 @@ impl ScriptJournal {
         }
     }
 
-    /// The lines of the script that was played, from the line of the start to the last lines of the pipelines.
+    /// The lines of the script that was played, from the lines of the start to the last lines of the pipelines.
     pub(crate) fn into_lines(self) -> Result<Vec<u8>, Memory> {
         match self.journal {
             Some(journal) if journal.fault().is_none() => Ok(journal.into_writer()),
